@@ -1,0 +1,18 @@
+-- `postcode::may_be_first` meets its contract. Assumes nothing.
+use mathlib.Core.Path.{_≡_, refl, sym, ap, _∙_}
+use mathlib.Core.List.{[], _∷_}
+use Rattle.postcode.specs.Outward.{allowed}
+use Rattle.text.proofs.Runs.{one-of, none-of}
+use Rattle.postcode.proofs.may_be_first.Statement.{statement}
+use Rattle.postcode.proofs.may_be_first.Tie as tie
+
+returns : tie.Need-returns
+unfolding allowed
+returns c = simp (one-of (81 ∷ 86 ∷ 88 ∷ []) _ (c .match .keys1))
+
+returns-2 : tie.Need-returns-2
+unfolding allowed
+returns-2 c = simp (none-of (81 ∷ 86 ∷ 88 ∷ []) _ (c .match .rest .1))
+
+pub may-be-first-spec : {M : Type 1} → statement M
+may-be-first-spec = tie.close (tie.spec returns returns-2)

@@ -1,0 +1,54 @@
+-- Document 01's "Numbered refusals", by cases of the reason. Every promise about a refusal is stated through these.
+-- Assumes nothing.
+use Prim.Native.Nat.{ℕ}
+use Rattle.refusal.specs.declared.Reason.{Reason}
+use Rattle.refusal.specs.declared.Reason.the-variants.{Length, Header, Trailer, Malformed, NotAbove, Follower, NoSuchNumber, Combination, MissingKey, Room, BadPack, BadCode}
+
+-- column "no."
+abbrev pub number : Reason → ℕ
+number Length = 1
+number Header = 2
+number (Trailer last) = 3
+number (Malformed at) = 4
+number (NotAbove at) = 5
+number (Follower at) = 6
+number NoSuchNumber = 7
+number (Combination rule view) = 8
+number (MissingKey field view) = 9
+number (Room needed) = 10
+number (BadPack step) = 11
+number BadCode = 12
+
+-- column "detail"; "no detail named means 0"
+abbrev pub detail : Reason → ℕ
+detail Length = 0
+detail Header = 1
+detail (Trailer last) = last
+detail (Malformed at) = at
+detail (NotAbove at) = at
+detail (Follower at) = at
+detail NoSuchNumber = 0
+detail (Combination rule view) = rule
+detail (MissingKey field view) = field
+detail (Room needed) = needed
+detail (BadPack step) = step
+detail BadCode = 0
+
+-- "Building: .. the label's 8 or 9 of the first live view in that code that has one, together with its view number"
+abbrev pub second : Reason → ℕ
+second Length = 0
+second Header = 0
+second (Trailer last) = 0
+second (Malformed at) = 0
+second (NotAbove at) = 0
+second (Follower at) = 0
+second NoSuchNumber = 0
+second (Combination rule view) = view
+second (MissingKey field view) = view
+second (Room needed) = 0
+second (BadPack step) = 0
+second BadCode = 0
+
+-- refusal 4 names the record; the byte of the first fault is known where it is made, and is not told
+abbrev pub malformedAt : ℕ → ℕ → Reason
+malformedAt at byte = Malformed at

@@ -1,0 +1,120 @@
+// Document 01's numbered refusals, and the one number in which an answer reaches a C program.
+ghost use mathlib.Core.Path.{_≡_};
+ghost use Rattle.refusal.specs.Refusal.{number, detail, second, malformedAt};
+ghost use Rattle.refusal.specs.Packed.{word, packed};
+
+// Why a call refuses, a case for each number of document 01's table, with its details. Records, views, rules, fields
+// and steps are counted from 1. `view` is the view at which building stopped, and 0 where a single label was asked.
+pub enum Reason {
+    Length,
+    Header,
+    Trailer { record: usize },
+    Malformed { record: usize },
+    NotAbove { record: usize },
+    Follower { record: usize },
+    NoSuchNumber,
+    Combination { rule: usize, view: usize },
+    MissingKey { field: usize, view: usize },
+    Room { needed: usize },
+    BadPack { step: usize },
+    BadCode,
+}
+
+// What a call answers. `file` is the file to blame: 0 none, 1 the table file, 2 the point file.
+pub enum Answer {
+    Value(usize),
+    Refused { file: usize, reason: Reason },
+}
+
+// The refusal of a malformed record. The byte of its first fault is asked for and not told: refusal 4 has one detail.
+pub fn malformed(at: usize, byte: usize) -> Reason
+    ensures { λ r. ⌜ r ≡ malformedAt at byte ⌝ }
+{
+    Reason::Malformed { record: at }
+}
+
+// Document 01's number of a refusal.
+pub fn number_of(reason: Reason) -> usize
+    ensures { λ r. ⌜ r ≡ number reason ⌝ }
+{
+    match reason {
+        Reason::Length => 1,
+        Reason::Header => 2,
+        Reason::Trailer { record: _ } => 3,
+        Reason::Malformed { record: _ } => 4,
+        Reason::NotAbove { record: _ } => 5,
+        Reason::Follower { record: _ } => 6,
+        Reason::NoSuchNumber => 7,
+        Reason::Combination { rule: _, view: _ } => 8,
+        Reason::MissingKey { field: _, view: _ } => 9,
+        Reason::Room { needed: _ } => 10,
+        Reason::BadPack { step: _ } => 11,
+        Reason::BadCode => 12,
+    }
+}
+
+// Document 01's detail of a refusal.
+pub fn detail_of(reason: Reason) -> usize
+    ensures { λ r. ⌜ r ≡ detail reason ⌝ }
+{
+    match reason {
+        Reason::Length => 0,
+        Reason::Header => 1,
+        Reason::Trailer { record } => record,
+        Reason::Malformed { record } => record,
+        Reason::NotAbove { record } => record,
+        Reason::Follower { record } => record,
+        Reason::NoSuchNumber => 0,
+        Reason::Combination { rule, view: _ } => rule,
+        Reason::MissingKey { field, view: _ } => field,
+        Reason::Room { needed } => needed,
+        Reason::BadPack { step } => step,
+        Reason::BadCode => 0,
+    }
+}
+
+// The second detail: the view number where building gives 8 or 9.
+pub fn second_of(reason: Reason) -> usize
+    ensures { λ r. ⌜ r ≡ second reason ⌝ }
+{
+    match reason {
+        Reason::Length => 0,
+        Reason::Header => 0,
+        Reason::Trailer { record: _ } => 0,
+        Reason::Malformed { record: _ } => 0,
+        Reason::NotAbove { record: _ } => 0,
+        Reason::Follower { record: _ } => 0,
+        Reason::NoSuchNumber => 0,
+        Reason::Combination { rule: _, view } => view,
+        Reason::MissingKey { field: _, view } => view,
+        Reason::Room { needed: _ } => 0,
+        Reason::BadPack { step: _ } => 0,
+        Reason::BadCode => 0,
+    }
+}
+
+// The four parts of a refusal in their bits of one word.
+fn word_of(number: usize, file: usize, second: usize, detail: usize) -> usize
+    ensures { λ r. ⌜ r ≡ word number file second detail ⌝ }
+{
+    let high = number % 256 * 72057594037927936 + file % 16 * 4503599627370496;
+    let low = second % 1048576 * 4294967296 + detail % 4294967296;
+    high + low
+}
+
+// An answer as the one number that C gets.
+pub fn packed_answer(answer: Answer) -> usize
+    ensures { λ r. ⌜ r ≡ packed answer ⌝ }
+{
+    match answer {
+        Answer::Value(value) => value % 72057594037927936,
+        Answer::Refused { file, reason } => {
+            word_of(
+                number_of(reason),
+                file,
+                second_of(reason),
+                detail_of(reason),
+            )
+        }
+    }
+}

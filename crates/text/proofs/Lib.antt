@@ -1,0 +1,6 @@
+pub mod Tests
+pub mod Faults
+pub mod Values
+pub mod Texts
+pub mod Likes
+pub mod Runs

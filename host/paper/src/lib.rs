@@ -1,0 +1,77 @@
+//! Document 01 read plainly: labels and packs from a table file (Changes1) and
+//! a point file (Changes2). This is the second program, written from the
+//! documents alone, against which the proved library is tested. Plain and
+//! obvious goes before clever; nothing here panics, whatever bytes and numbers
+//! come in, and no call takes more than O(f log f) for files of f records.
+//!
+//! Read it beside document 01 in this order:
+//!
+//! | module | document 01 |
+//! |---|---|
+//! | `refusal` | Numbered refusals |
+//! | `layout` | Record layouts: all widths |
+//! | `fields` | Well formed, Postcode: single fields; numeric-like |
+//! | `records` | Well formed: whole records, header, trailer |
+//! | `files` | Order of refusals, Sequence, Followers; rows and views |
+//! | `address` | What views and points have in common; rule 8 |
+//! | `label` | The label |
+//! | `pair` | Labels asked of two files |
+//! | `pack`, `build` | The pack; Pack check |
+//! | `report` | One run, complete |
+//! | [`make`] | Test data: files, damaged files, packs, codes |
+//!
+//! # Decisions
+//!
+//! Where document 01 is silent or can be read in two ways:
+//!
+//! | question | choice | reason |
+//! |---|---|---|
+//! | Which file do 7 to 12 blame? | none (0) | the fault lies in what was asked, or between the files |
+//! | Is a date or a time a real one? | not asked | "digits throughout" is all that is said |
+//! | May an address key be zero? May L have an organisation key above zero? | yes | only table keys are said not to be zero |
+//! | A type 2 record with L, or a type 3 with S? | well formed; refused with 6 | no owner that has the same 41 bytes wants it |
+//! | A trailer as the next record of a view that needs a follower? | the follower is missing: 6 with the view's record | its first 14 bytes are 255 or spaces, never digits |
+//! | A stray record that is also malformed or out of sequence? | 4 or 5 | the order is 4, 5, 6 for each record |
+//! | Text of spaces and then something? | fault at byte 1 | it isn't blank and begins with a space |
+//! | A double dependent locality with a fault of its own and without a dependent one? | byte 1 | the lower byte is the first fault |
+//! | A table key with a byte that isn't a digit? | that byte; byte 1 only if all digits are 0 | only a key of digits can be zero |
+//! | Several forbidden letters in an outward code? | the first of them | first fault |
+//! | Letters of ANA codes such as W1P? | the last is the second letter | "counting only the letters" |
+//! | A record or a field of another length handed to a test? | fault at byte 1; digits and texts have any length, and an empty text is blank | a test has to answer for every input |
+//! | A trailer count that isn't digits? | 3 | it isn't the number of records |
+//! | Does a table row's letter matter, as D? | no | a key refers to its row; document 02 changes this |
+//! | Labels of views that aren't live? | printed | document 01's run prints a D view's answer |
+//! | Concatenation Y with a building name, or without sub building? | no effect | the premises table names it only for s n |
+//! | A department without organisation, in a large user's record? | printed on its own line | absent lines are left out one by one |
+//! | A PO box in a small user's view? | printed | it is printed where it is present |
+//! | Elements with a sub building alone, or without post town? | printed without refusal: the sub building as a line; a front with no line to stand before is left out | rule 8 and the checks refuse them before |
+//! | Are two outward codes the same? | if their 4 bytes are | the code is given padded |
+//! | Packs with unused, equal or unsorted rows, or a type 6 row used twice? | open | no step asks |
+//! | Is a double dependent locality alone, or a blank in front, also step 2 in a row no point uses? | yes | step 2 is about all rows |
+//! | Sums in step 1? | without wrapping at 32 bits | they are numbers |
+//! | When is a file longer than 300 records? | when it has more than 300 x 169 or 168 bytes | also if it isn't whole records |
+//! | Table file refused, point file too long, or both long? | the table file's one line | "the table file first" |
+//!
+//! The makers and tests date the views of document 01's run themselves, since
+//! it says only that view 2 is later.
+
+mod address;
+pub mod build;
+pub mod fields;
+pub mod files;
+pub mod label;
+mod layout;
+pub mod make;
+pub mod pack;
+pub mod pair;
+mod records;
+pub mod refusal;
+pub mod report;
+
+pub use build::build;
+pub use files::{check_points, check_table, letter, live, point_fault, table_fault, views};
+pub use label::{label_bytes, lines, Elements};
+pub use pack::{open, pack_label};
+pub use pair::{code_label, label, label_of};
+pub use refusal::{packed, Refusal};
+pub use report::report;

@@ -1,0 +1,52 @@
+use super::Rng;
+
+const FIRST: &[u8] = b"ABCDEFGHIJKLMNOPRSTUWYZ";
+const SECOND: &[u8] = b"ABCDEFGHJKLMNOPQRSTUVWXY";
+const THIRD: &[u8] = b"ABCDEFGHJKMNPRSTUVWXY";
+const INWARD: &[u8] = b"ABDEFGHJLNPQRSTUWXYZ";
+const DIGITS: &[u8] = b"0123456789";
+
+const PATTERNS: [&[u8]; 6] = [b"AN", b"ANN", b"AAN", b"AANN", b"ANA", b"AANA"];
+
+/// A well formed outward code, padded to 4 bytes.
+pub fn outward(rng: &mut Rng) -> Vec<u8> {
+    let pattern = *rng.pick(&PATTERNS);
+    let mut letters = [FIRST, SECOND, THIRD].into_iter();
+    let mut code = Vec::new();
+    for class in pattern {
+        let allowed = match class {
+            b'A' => letters.next().unwrap_or(THIRD),
+            _ => DIGITS,
+        };
+        code.push(*rng.pick(allowed));
+    }
+    code.resize(4, b' ');
+    code
+}
+
+/// A well formed inward code.
+pub fn inward(rng: &mut Rng) -> Vec<u8> {
+    vec![*rng.pick(DIGITS), *rng.pick(INWARD), *rng.pick(INWARD)]
+}
+
+/// A code that isn't a well formed outward code: another length, a letter where
+/// it may not stand, or none of the patterns.
+pub fn bad_outward(rng: &mut Rng) -> Vec<u8> {
+    let mut code = outward(rng);
+    match rng.below(9) {
+        0 => code.truncate(rng.below(4)),
+        1 => code.push(b' '),
+        2 => code[0] = *rng.pick(b"QVX"),
+        3 => code = vec![b'A', *rng.pick(b"IZ"), *rng.pick(DIGITS), b' '],
+        4 => code = vec![b'W', *rng.pick(DIGITS), *rng.pick(b"IZ"), b' '],
+        5 => code = vec![b'E', b'C', *rng.pick(DIGITS), *rng.pick(b"ILOQZ")],
+        6 => code.make_ascii_lowercase(),
+        7 => code[0] = *rng.pick(b" 07-\x00\xff"),
+        _ => {
+            code = rng
+                .pick(&[b"    ", b"A   ", b"AB  ", b"ABC1", b"A123", b"A 1 "])
+                .to_vec()
+        }
+    }
+    code
+}

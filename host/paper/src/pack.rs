@@ -1,0 +1,262 @@
+//! Document 01, "The pack" and "Pack check": opening a pack, and labels asked
+//! of it. Numbers are most significant byte first.
+
+use crate::address::{
+    forbidden, text_rules, TextRule, Texts, LOCALITY, NO_TEXTS, ORGANISATION, REFERENCES, ROW_TYPE,
+};
+use crate::fields::{inward_fault, outward_fault, text_fault, trimmed};
+use crate::label::{label_bytes, lend, Elements};
+use crate::layout::pack as place;
+use crate::layout::Field;
+use crate::records::{mark_fault, postcode_type_fault};
+use crate::refusal::Refusal;
+
+/// The highest number that a key of 8 digits shows.
+const HIGHEST_KEY: u64 = 99_999_999;
+/// The highest building number.
+const HIGHEST_NUMBER: u64 = 9_999;
+
+/// The number of points of a pack, or refusal 11 with the step that failed.
+pub fn open(pack: &[u8]) -> Result<usize, Refusal> {
+    Ok(Pack::accept(pack)?.point_count())
+}
+
+/// Writes the label of the k-th point into `out` and answers its length. The
+/// refusals are 11, 7, 10, in this order.
+pub fn pack_label(pack: &[u8], k: u64, out: &mut [u8]) -> Result<usize, Refusal> {
+    let point = Pack::accept(pack)?.point(k)?;
+    lend(&label_bytes(&point.elements()), out)
+}
+
+/// The number that these bytes show.
+fn number(bytes: &[u8]) -> u64 {
+    bytes
+        .iter()
+        .fold(0, |number, byte| number << 8 | u64::from(*byte))
+}
+
+/// A pack that has passed step 1; `accept` gives one that has passed all steps.
+#[derive(Clone, Copy)]
+struct Pack<'a> {
+    rows: &'a [u8],
+    row_count: u64,
+    points: &'a [u8],
+    outward: &'a [u8],
+}
+
+impl<'a> Pack<'a> {
+    fn accept(pack: &'a [u8]) -> Result<Pack<'a>, Refusal> {
+        let pack = Pack::split(pack).ok_or(Refusal::new(11, 1))?;
+        let row_types = pack.row_types().ok_or(Refusal::new(11, 2))?;
+        if !pack.all_points().all(|point| point.is_sound(&row_types)) {
+            return Err(Refusal::new(11, 3));
+        }
+        Ok(pack)
+    }
+
+    /// Step 1: at least 21 bytes, edition 1, length true, outward well formed,
+    /// points start + 57 x point count + 21 equal to the length.
+    fn split(pack: &'a [u8]) -> Option<Pack<'a>> {
+        let body_length = pack.len().checked_sub(place::TRAILER)?;
+        let (body, trailer) = pack.split_at(body_length);
+        let points_start = number(&trailer[place::POINTS_START]);
+        let point_count = number(&trailer[place::POINT_COUNT]);
+        let outward = &trailer[place::OUTWARD];
+        let sound = trailer[place::EDITION] == place::EDITION_BUILT
+            && number(&trailer[place::LENGTH]) == pack.len() as u64
+            && outward_fault(outward) == 0
+            && points_start + place::POINT as u64 * point_count == body_length as u64;
+        if !sound {
+            return None;
+        }
+        let (rows, points) = body.split_at(points_start as usize);
+        Some(Pack {
+            rows,
+            row_count: number(&trailer[place::ROW_COUNT]),
+            points,
+            outward,
+        })
+    }
+
+    /// Step 2: the bytes before points start are exactly row-count rows, types
+    /// 1 to 6 never falling. Answers for each of these bytes the type of the
+    /// row that starts there, 0 where none does.
+    fn row_types(self) -> Option<Vec<u8>> {
+        let mut types = vec![0; self.rows.len()];
+        let mut at = 0;
+        let mut count = 0;
+        let mut type_before = 1;
+        while at < self.rows.len() {
+            let row_type = self.rows[at];
+            if row_type < type_before {
+                return None;
+            }
+            types[at] = row_type;
+            type_before = row_type;
+            count += 1;
+            at += sound_row(&self.rows[at..])?;
+        }
+        (count == self.row_count).then_some(types)
+    }
+
+    fn point_count(self) -> usize {
+        self.points.len() / place::POINT
+    }
+
+    fn all_points(self) -> impl Iterator<Item = Point<'a>> {
+        let bytes = self.points.chunks_exact(place::POINT);
+        bytes.map(move |bytes| Point { pack: self, bytes })
+    }
+
+    /// The k-th point, counted from 1; 7 where there is none.
+    fn point(self, k: u64) -> Result<Point<'a>, Refusal> {
+        let before = k.checked_sub(1).and_then(|k| usize::try_from(k).ok());
+        before
+            .and_then(|before| self.all_points().nth(before))
+            .ok_or(Refusal::new(7, 0))
+    }
+}
+
+/// The length of the row that these bytes begin with, if it is sound: a type 1
+/// to 6 whose texts are sound and end inside the bytes, a double dependent
+/// locality only with a dependent one.
+fn sound_row(bytes: &[u8]) -> Option<usize> {
+    let row_type = *bytes.first()?;
+    let rules = text_rules(row_type);
+    let mut texts = NO_TEXTS;
+    let mut end = 1;
+    for (index, rule) in rules.iter().enumerate() {
+        let text = text_at(bytes, end)?;
+        if !is_sound_text(text, rule) {
+            return None;
+        }
+        texts[index] = text;
+        end += 1 + text.len();
+    }
+    let alone = row_type == 1 && texts[1].is_empty() && !texts[2].is_empty();
+    let sound = !rules.is_empty() && !alone;
+    sound.then_some(end)
+}
+
+/// The text whose length byte stands at that place, if it ends inside the
+/// bytes.
+fn text_at(bytes: &[u8], at: usize) -> Option<&[u8]> {
+    let length = usize::from(*bytes.get(at)?);
+    bytes.get(at + 1..at + 1 + length)
+}
+
+/// A text of a row: well formed, no longer than its field, with no space at
+/// either end, empty only where blank is allowed.
+fn is_sound_text(text: &[u8], rule: &TextRule) -> bool {
+    text_fault(text) == 0
+        && text.len() <= rule.longest
+        && !text.starts_with(b" ")
+        && !text.ends_with(b" ")
+        && (rule.may_be_empty || !text.is_empty())
+}
+
+/// A point of a pack that has passed step 1.
+struct Point<'a> {
+    pack: Pack<'a>,
+    bytes: &'a [u8],
+}
+
+impl<'a> Point<'a> {
+    fn field(&self, field: Field) -> &'a [u8] {
+        &self.bytes[field]
+    }
+
+    fn building_number(&self) -> u64 {
+        number(self.field(place::BUILDING_NUMBER))
+    }
+
+    /// The eight row offsets; none where absent.
+    fn offsets(&self) -> [Option<usize>; REFERENCES] {
+        let mut offsets = [None; REFERENCES];
+        let fields = self.field(place::OFFSETS).chunks_exact(place::OFFSET);
+        for (offset, field) in offsets.iter_mut().zip(fields) {
+            let value = number(field);
+            if value != u64::from(place::ABSENT) {
+                *offset = Some(value as usize);
+            }
+        }
+        offsets
+    }
+
+    /// Step 3, for this point.
+    fn is_sound(&self, row_types: &[u8]) -> bool {
+        self.has_sound_fields()
+            && self.has_sound_offsets(row_types)
+            && forbidden(
+                &self.offsets().map(|offset| offset.is_some()),
+                self.building_number(),
+            )
+            .is_none()
+            && self.has_sound_organisation()
+    }
+
+    /// Postcode well formed in the trailer's code; type, concatenation, PO box
+    /// well formed; keys up to 99,999,999; number up to 9,999.
+    fn has_sound_fields(&self) -> bool {
+        self.field(place::POINT_OUTWARD) == self.pack.outward
+            && inward_fault(self.field(place::POINT_INWARD)) == 0
+            && postcode_type_fault(self.field(place::POSTCODE_TYPE)) == 0
+            && mark_fault(self.field(place::CONCATENATION)) == 0
+            && text_fault(self.field(place::PO_BOX)) == 0
+            && number(self.field(place::ADDRESS_KEY)) <= HIGHEST_KEY
+            && number(self.field(place::ORGANISATION_KEY)) <= HIGHEST_KEY
+            && self.building_number() <= HIGHEST_NUMBER
+    }
+
+    /// Every offset is absent or the start of a row of its type, locality
+    /// present.
+    fn has_sound_offsets(&self, row_types: &[u8]) -> bool {
+        let offsets = self.offsets();
+        let are_rows = offsets.iter().zip(ROW_TYPE).all(|(offset, row_type)| {
+            offset.is_none_or(|offset| row_types.get(offset) == Some(&row_type))
+        });
+        are_rows && offsets[LOCALITY].is_some()
+    }
+
+    /// L has an organisation row; S has one with a name exactly when its
+    /// organisation key is above zero, and otherwise none. Asked only once the
+    /// offsets are sound.
+    fn has_sound_organisation(&self) -> bool {
+        let organisation = self.offsets()[ORGANISATION];
+        if self.field(place::POSTCODE_TYPE) == b"L" {
+            organisation.is_some()
+        } else if number(self.field(place::ORGANISATION_KEY)) > 0 {
+            organisation.is_some_and(|offset| !self.texts(offset)[0].is_empty())
+        } else {
+            organisation.is_none()
+        }
+    }
+
+    /// The texts of the row that starts at an offset.
+    fn texts(&self, offset: usize) -> Texts<'a> {
+        let mut texts = NO_TEXTS;
+        let row = self.pack.rows.get(offset..).unwrap_or_default();
+        let row_type = row.first().copied().unwrap_or_default();
+        let mut at = 1;
+        for (index, _) in text_rules(row_type).iter().enumerate() {
+            texts[index] = text_at(row, at).unwrap_or_default();
+            at += 1 + texts[index].len();
+        }
+        texts
+    }
+
+    /// What the label of a point is printed from.
+    fn elements(&self) -> Elements<'a> {
+        let rows = self
+            .offsets()
+            .map(|offset| offset.map_or(NO_TEXTS, |offset| self.texts(offset)));
+        Elements {
+            po_box: trimmed(self.field(place::PO_BOX)),
+            building_number: self.building_number(),
+            concatenated: self.field(place::CONCATENATION) == b"Y",
+            outward: trimmed(self.field(place::POINT_OUTWARD)),
+            inward: self.field(place::POINT_INWARD),
+            ..Elements::of_rows(&rows)
+        }
+    }
+}

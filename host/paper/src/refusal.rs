@@ -1,0 +1,46 @@
+//! Document 01, "Numbered refusals": an answer is a value, or a refusal that
+//! holds a reason with its own detail inside.
+
+/// Why a call is refused. A detail that document 01 does not name is 0.
+#[derive(Clone, Copy, PartialEq, Eq, Debug)]
+pub struct Refusal {
+    /// Document 01's number, 1 to 12.
+    pub number: u8,
+    /// The file to blame: 1 the table file, 2 the point file, 0 neither.
+    pub file: u8,
+    /// The view number where building gives 8 or 9, otherwise 0.
+    pub second: u64,
+    /// The detail of document 01's table.
+    pub detail: u64,
+}
+
+impl Refusal {
+    /// A refusal that blames no file.
+    pub fn new(number: u8, detail: u64) -> Refusal {
+        Refusal::of_file(0, number, detail)
+    }
+
+    /// A refusal of the table file (1) or the point file (2).
+    pub fn of_file(file: u8, number: u8, detail: u64) -> Refusal {
+        Refusal {
+            number,
+            file,
+            second: 0,
+            detail,
+        }
+    }
+
+    /// The refusal as one number: its own number from bit 56, the file from
+    /// bit 52, the second detail from bit 32, the detail from bit 0.
+    pub fn packed(&self) -> u64 {
+        u64::from(self.number) << 56 | u64::from(self.file) << 52 | self.second << 32 | self.detail
+    }
+}
+
+/// An answer as one number: the value where there is one, else the refusal.
+pub fn packed(answer: Result<u64, Refusal>) -> u64 {
+    match answer {
+        Ok(value) => value,
+        Err(refusal) => refusal.packed(),
+    }
+}

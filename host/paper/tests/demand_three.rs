@@ -1,0 +1,282 @@
+//! Demand 3 on thousands of random pairs: building is refused exactly when it
+//! has to be, and otherwise gives a pack that opens and answers, for every k
+//! and every buffer, what the files answer.
+//!
+//! What is expected is worked out here from the plain rows and views that the
+//! makers made the files from, and not by reading the files.
+
+use paper::make::{outward, pair, Pair, Rng, TableRow, View};
+use paper::{build, code_label, live, open, pack_label, Refusal};
+use std::collections::{BTreeMap, BTreeSet};
+
+const PAIRS: u64 = 4_000;
+const ROW_TYPES: [u8; 7] = [1, 2, 3, 2, 3, 4, 5];
+
+/// How often each thing was seen, so that nothing is tested in vain.
+#[derive(Default, Debug)]
+struct Seen {
+    packs: usize,
+    empty_packs: usize,
+    points: usize,
+    organisation_rows: usize,
+    forbidden: [usize; 4],
+    missing: [usize; 8],
+    labels: usize,
+    refused_labels: usize,
+}
+
+/// The live views of a code with their numbers.
+fn packed<'a>(pair: &'a Pair, code: &[u8]) -> Vec<(u64, &'a View)> {
+    let code = String::from_utf8_lossy(code);
+    (1..)
+        .zip(&pair.views)
+        .filter(|(_, view)| view.is_live() && view.outward == code.trim_end())
+        .collect()
+}
+
+/// The 8 or 9 of a view: its number and detail.
+fn verdict(view: &View, rows: &BTreeMap<(u8, u32), &TableRow>) -> Option<(u8, u64)> {
+    if view.sub_building > 0 && view.building == 0 && view.building_number == 0 {
+        return Some((8, 1));
+    }
+    if view.dependent_thoroughfare > 0 && view.thoroughfare == 0 {
+        return Some((8, 2));
+    }
+    if view.descriptor > 0 && view.thoroughfare == 0 {
+        return Some((8, 3));
+    }
+    if view.dependent_descriptor > 0 && view.dependent_thoroughfare == 0 {
+        return Some((8, 3));
+    }
+    if view.locality == 0 {
+        return Some((9, 1));
+    }
+    for (detail, (row_type, key)) in (1..).zip(ROW_TYPES.into_iter().zip(view.keys())) {
+        if key > 0 && !rows.contains_key(&(row_type, key)) {
+            return Some((9, detail));
+        }
+    }
+    None
+}
+
+fn row_bytes(row_type: u8, texts: &[String]) -> Vec<u8> {
+    let mut bytes = vec![row_type];
+    for text in texts {
+        bytes.push(text.len() as u8);
+        bytes.extend(text.bytes());
+    }
+    bytes
+}
+
+/// The types and keys that these views use, each once, by type then key.
+fn used_rows(views: &[(u64, &View)]) -> BTreeSet<(u8, u32)> {
+    let names = |view: &View| ROW_TYPES.into_iter().zip(view.keys());
+    let all = views.iter().flat_map(|(_, view)| names(view));
+    all.filter(|(_, key)| *key > 0).collect()
+}
+
+/// The pack that document 01 asks for: the used table rows once each by type
+/// then key, one row of type 6 for each packed view with a follower, the points
+/// and the trailer.
+fn expected_pack(
+    views: &[(u64, &View)],
+    rows: &BTreeMap<(u8, u32), &TableRow>,
+    code: &[u8],
+) -> Vec<u8> {
+    let mut pack = Vec::new();
+    let mut offsets = BTreeMap::new();
+    for name in used_rows(views) {
+        offsets.insert(name, pack.len() as u32);
+        pack.extend(row_bytes(name.0, &rows[&name].texts));
+    }
+    let mut points = Vec::new();
+    let mut row_count = offsets.len() as u32;
+    for (_, view) in views {
+        let mut organisation = u32::MAX;
+        if let Some(follower) = &view.follower {
+            organisation = pack.len() as u32;
+            row_count += 1;
+            let texts = [follower.organisation.clone(), follower.department.clone()];
+            pack.extend(row_bytes(6, &texts));
+        }
+        points.extend(point_bytes(view, code, &offsets, organisation));
+    }
+    let points_start = pack.len() as u32;
+    let length = points_start + points.len() as u32 + 21;
+    pack.extend(points);
+    for number in [row_count, points_start, views.len() as u32] {
+        pack.extend(number.to_be_bytes());
+    }
+    pack.extend(code);
+    pack.extend(length.to_be_bytes());
+    pack.push(1);
+    pack
+}
+
+fn point_bytes(
+    view: &View,
+    code: &[u8],
+    offsets: &BTreeMap<(u8, u32), u32>,
+    organisation: u32,
+) -> Vec<u8> {
+    let mut point = code.to_vec();
+    point.extend(view.inward.bytes());
+    point.push(view.postcode_type);
+    point.extend(view.address_key.to_be_bytes());
+    point.extend(view.organisation_key.to_be_bytes());
+    point.extend((view.building_number as u16).to_be_bytes());
+    point.push(view.concatenation);
+    point.extend(format!("{:6}", view.po_box).bytes());
+    for name in ROW_TYPES.into_iter().zip(view.keys()) {
+        let offset = offsets.get(&name).copied().unwrap_or(u32::MAX);
+        point.extend(offset.to_be_bytes());
+    }
+    point.extend(organisation.to_be_bytes());
+    point
+}
+
+/// A call's answer together with the whole buffer that was lent to it.
+fn lent<T>(rng: &Rng, length: usize, call: impl Fn(&mut [u8]) -> T) -> (T, Vec<u8>) {
+    let mut rng = rng.clone();
+    let mut buffer: Vec<u8> = (0..length).map(|_| rng.byte()).collect();
+    let answer = call(&mut buffer);
+    (answer, buffer)
+}
+
+/// Files and pack give the same answer and the same buffer, for buffers of
+/// every length around the one needed.
+fn same_label(rng: &Rng, pair: &Pair, code: &[u8], pack: &[u8], k: u64, seen: &mut Seen) {
+    let from_files = |out: &mut [u8]| code_label(&pair.table, &pair.points, code, k, out);
+    let from_pack = |out: &mut [u8]| pack_label(pack, k, out);
+    let needed = from_files(&mut [0; 499]).unwrap_or(0);
+    for length in [0, needed.saturating_sub(1), needed, needed + 1, 499] {
+        let answer = lent(rng, length, from_files);
+        assert_eq!(lent(rng, length, from_pack), answer);
+        match answer.0 {
+            Ok(written) => {
+                assert_eq!(written, needed);
+                seen.labels += 1;
+            }
+            Err(why) => {
+                let room = Refusal {
+                    number: 10,
+                    file: 0,
+                    second: 0,
+                    detail: needed as u64,
+                };
+                let none = Refusal {
+                    number: 7,
+                    file: 0,
+                    second: 0,
+                    detail: 0,
+                };
+                assert_eq!(why, if needed > 0 { room } else { none });
+                assert_eq!(answer.1, lent(rng, length, |_| ()).1);
+                seen.refused_labels += 1;
+            }
+        }
+    }
+}
+
+/// A pack that has to build.
+fn check_pack(rng: &Rng, pair: &Pair, code: &[u8], expected: &[u8], seen: &mut Seen) {
+    let into = |out: &mut [u8]| build(&pair.table, &pair.points, code, out);
+    let needed = expected.len();
+    for length in [0, needed - 1] {
+        let room = Refusal {
+            number: 10,
+            file: 0,
+            second: 0,
+            detail: needed as u64,
+        };
+        let (answer, buffer) = lent(rng, length, into);
+        assert_eq!(answer, Err(room));
+        assert_eq!(buffer, lent(rng, length, |_| ()).1);
+    }
+    for length in [needed, needed + 1, needed + 100] {
+        let (answer, buffer) = lent(rng, length, into);
+        assert_eq!(answer, Ok(needed));
+        assert_eq!(&buffer[..needed], expected);
+        assert_eq!(buffer[needed..], lent(rng, length, |_| ()).1[needed..]);
+    }
+    let count = open(expected).expect("a pack that was built opens") as u64;
+    assert_eq!(live(&pair.points, code), Ok(count as usize));
+    for k in (0..=count + 1).chain([u64::MAX, 1 << 32, (1 << 32) + 1]) {
+        same_label(rng, pair, code, expected, k, seen);
+    }
+    seen.packs += 1;
+    seen.empty_packs += usize::from(count == 0);
+    seen.points += count as usize;
+}
+
+fn check_code(rng: &Rng, pair: &Pair, code: &[u8], seen: &mut Seen) {
+    let rows: BTreeMap<(u8, u32), &TableRow> = pair
+        .rows
+        .iter()
+        .map(|row| ((row.row_type, row.key), row))
+        .collect();
+    let views = packed(pair, code);
+    let refused = views
+        .iter()
+        .find_map(|(number, view)| verdict(view, &rows).map(|verdict| (*number, verdict)));
+    match refused {
+        Some((second, (number, detail))) => {
+            let (answer, buffer) =
+                lent(rng, 100, |out| build(&pair.table, &pair.points, code, out));
+            assert_eq!(
+                answer,
+                Err(Refusal {
+                    number,
+                    file: 0,
+                    second,
+                    detail
+                })
+            );
+            assert_eq!(buffer, lent(rng, 100, |_| ()).1);
+            match number {
+                8 => seen.forbidden[detail as usize] += 1,
+                _ => seen.missing[detail as usize] += 1,
+            }
+        }
+        None => {
+            let expected = expected_pack(&views, &rows, code);
+            seen.organisation_rows += views.iter().filter(|(_, v)| v.follower.is_some()).count();
+            check_pack(rng, pair, code, &expected, seen);
+        }
+    }
+}
+
+#[test]
+fn packs_answer_what_their_files_answer() {
+    let mut seen = Seen::default();
+    for seed in 0..PAIRS {
+        let rng = &mut Rng::new(seed);
+        let most_records = *rng.pick(&[2, 5, 12, 30, 60]);
+        let pair = pair(rng, most_records);
+        let mut codes: BTreeSet<Vec<u8>> = pair
+            .views
+            .iter()
+            .map(|view| format!("{:4}", view.outward).into_bytes())
+            .collect();
+        codes.insert(outward(rng));
+        for code in codes {
+            check_code(rng, &pair, &code, &mut seen);
+        }
+    }
+    println!("{seen:?}");
+    assert!(seen.packs > 4_000 && seen.empty_packs > 100 && seen.points > 4_000);
+    assert!(seen.organisation_rows > 1_000);
+    assert!(seen.forbidden[1..].iter().all(|count| *count > 0));
+    assert!(seen.missing[1..].iter().all(|count| *count > 0));
+    assert!(seen.labels > 10_000 && seen.refused_labels > 10_000);
+}
+
+#[test]
+fn a_code_without_live_views_gives_21_bytes() {
+    let pair = paper::make::worked_pair();
+    let mut pack = [7; 30];
+    assert_eq!(build(&pair.table, &pair.points, b"DN55", &mut pack), Ok(21));
+    assert_eq!(&pack[..21], b"\0\0\0\0\0\0\0\0\0\0\0\0DN55\0\0\0\x15\x01");
+    assert_eq!(pack[21..], [7; 9]);
+    assert_eq!(open(&pack[..21]), Ok(0));
+}

@@ -1,0 +1,148 @@
+//! Document 01's run, made from its words, and its pack.
+
+use paper::make::{padded, worked_pair, Pair};
+use paper::{build, label, label_of, open, pack_label, report};
+
+const PRINTED: &str = "\
+pair 7 4 2
+view 1 I
+ATTIC FLAT
+110-114 QUARRY LANE
+HARTWELL BAY
+AB1 9ZZ
+view 2 D
+refused 9 6
+";
+
+/// A record as its fields in order, padded to its width.
+fn record(fields: &[&str], width: usize) -> Vec<u8> {
+    padded(&fields.concat(), width)
+}
+
+/// The identifier's byte, its width, and the text behind it.
+fn frame(byte: u8, identifier: usize, text: &str, width: usize) -> Vec<u8> {
+    let mut record = vec![byte; identifier];
+    record.extend(padded(text, width - identifier));
+    record
+}
+
+/// The table file, byte by byte from document 01's layout.
+fn table() -> Vec<u8> {
+    let undated = "00000000000000";
+    let filler = " ".repeat(45);
+    [
+        frame(0, 9, "CHANGES1Y11M09", 169),
+        record(
+            &["1", "00000001", undated, " ", &filler, "HARTWELL BAY"],
+            169,
+        ),
+        record(&["2", "00000007", undated, " ", "QUARRY"], 169),
+        record(&["3", "00000003", undated, " ", "LANE"], 169),
+        record(&["4", "00000009", undated, " ", "110-114"], 169),
+        record(&["5", "00000004", undated, " ", "ATTIC FLAT"], 169),
+        frame(255, 9, "00000007", 169),
+    ]
+    .concat()
+}
+
+fn view(date: &str, letter: &str, building: &str) -> Vec<u8> {
+    record(
+        &[
+            date, "101501", "AB1 ", "9ZZ", "1A", "S", "00000001", "00000000", letter, "1",
+            "00000001", "00000007", "00000003", "00000000", "00000000", "0000", building,
+            "00000004", "0001", " ", "      ", " ", "01", "       ",
+        ],
+        168,
+    )
+}
+
+/// The point file, byte by byte from document 01's layout.
+fn points() -> Vec<u8> {
+    [
+        frame(0, 14, "CHANGES2Y11M09", 168),
+        view("20110901", "I", "00000009"),
+        view("20110902", "D", "00000010"),
+        frame(255, 14, "00000004", 168),
+    ]
+    .concat()
+}
+
+fn pack() -> Vec<u8> {
+    let mut pack = vec![0; 129];
+    assert_eq!(build(&table(), &points(), b"AB1 ", &mut pack), Ok(129));
+    pack
+}
+
+fn number(bytes: &[u8]) -> u32 {
+    u32::from_be_bytes(bytes.try_into().expect("four bytes"))
+}
+
+#[test]
+fn the_makers_write_the_same_files() {
+    let Pair {
+        table: made_table,
+        points: made_points,
+        ..
+    } = worked_pair();
+    assert_eq!(made_table, table());
+    assert_eq!(made_points, points());
+}
+
+#[test]
+fn the_program_prints_document_01s_lines() {
+    let text = report(Some(&table()), Some(&points()));
+    assert_eq!(String::from_utf8_lossy(&text), PRINTED);
+}
+
+#[test]
+fn the_first_label_stands_in_a_fresh_buffer() {
+    let mut buffer = [0; 499];
+    let expected = b"ATTIC FLAT\n110-114 QUARRY LANE\nHARTWELL BAY\nAB1 9ZZ\n";
+    let written = label(&table(), &points(), 1, &mut buffer);
+    assert_eq!(written, Ok(expected.len()));
+    assert_eq!(&buffer[..expected.len()], expected);
+    assert!(buffer[expected.len()..].iter().all(|byte| *byte == 0));
+}
+
+#[test]
+fn the_pack_has_the_bytes_that_document_01_says() {
+    let rows: &[u8] = b"\x01\x0cHARTWELL BAY\x00\x00\
+        \x02\x06QUARRY\
+        \x03\x04LANE\
+        \x04\x07110-114\
+        \x05\x0aATTIC FLAT";
+    let point: &[u8] = b"AB1 9ZZS\0\0\0\x01\0\0\0\0\0\0       \
+        \0\0\0\0\0\0\0\x10\0\0\0\x18\xff\xff\xff\xff\xff\xff\xff\xff\
+        \0\0\0\x1e\0\0\0\x27\xff\xff\xff\xff";
+    let trailer: &[u8] = b"\0\0\0\x05\0\0\0\x33\0\0\0\x01AB1 \0\0\0\x81\x01";
+    assert_eq!(rows.len(), 51);
+    assert_eq!(point.len(), 57);
+    assert_eq!(trailer.len(), 21);
+    assert_eq!(pack(), [rows, point, trailer].concat());
+}
+
+#[test]
+fn the_pack_has_the_counts_and_offsets_that_document_01_says() {
+    let pack = pack();
+    let trailer = &pack[129 - 21..];
+    assert_eq!(number(&trailer[0..4]), 5);
+    assert_eq!(number(&trailer[4..8]), 51);
+    assert_eq!(number(&trailer[8..12]), 1);
+    let offsets: Vec<u32> = pack[51 + 25..51 + 57].chunks(4).map(number).collect();
+    let present: Vec<u32> = offsets
+        .into_iter()
+        .filter(|offset| *offset != u32::MAX)
+        .collect();
+    assert_eq!(present, [0, 16, 24, 30, 39]);
+}
+
+#[test]
+fn the_pack_opens_and_prints_the_first_view() {
+    let mut buffer = [0; 499];
+    assert_eq!(open(&pack()), Ok(1));
+    let written = pack_label(&pack(), 1, &mut buffer).expect("a label");
+    assert_eq!(
+        Ok(buffer[..written].to_vec()),
+        label_of(&table(), &points(), 1)
+    );
+}

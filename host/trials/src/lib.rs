@@ -1,0 +1,3 @@
+//! Safe wrappers over the proved static libraries, for the trials against `ttw-paper`.
+
+pub mod leaves;
