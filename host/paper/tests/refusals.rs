@@ -247,8 +247,10 @@ fn a_trailer_is_no_follower_and_a_header_no_owner() {
         let records = owner.records();
         let alone = &records[..1];
         assert_eq!(check_points(&point_file_of(alone)), Err(refusal(6, 2, 2)));
-        let stray = &records[1..];
-        assert_eq!(check_points(&point_file_of(stray)), Err(refusal(6, 2, 2)));
+        let mut stray = point_file_of(&records[1..]);
+        assert_eq!(check_points(&stray), Err(refusal(6, 2, 2)));
+        stray[22..168].copy_from_slice(&records[0][22..]);
+        assert_eq!(check_points(&stray), Err(refusal(6, 2, 2)));
     }
 }
 

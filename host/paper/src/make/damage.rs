@@ -334,9 +334,11 @@ fn damage_header(rng: &mut Rng, header: &mut [u8], identifier: usize) {
     }
 }
 
-/// An identifier that is neither all 255 nor all spaces, or a wrong count.
+/// An identifier that is neither all 255 nor all spaces, or a wrong count; one
+/// of these would be right if a byte above the digits counted as a digit.
 fn damage_trailer(rng: &mut Rng, trailer: &mut [u8], identifier: usize, records: usize) {
-    let count = match rng.below(6) {
+    let last = char::from(b'0' + records.clamp(10, 70) as u8);
+    let count = match rng.below(7) {
         0 => {
             trailer[rng.below(identifier)] = b' ';
             return;
@@ -348,6 +350,7 @@ fn damage_trailer(rng: &mut Rng, trailer: &mut [u8], identifier: usize, records:
         2 => format!("{:08}", records + 1),
         3 => format!("{:08}", records - 2),
         4 => format!("{records:8}"),
+        5 => format!("0000000{last}"),
         _ => format!("{records:07} "),
     };
     trailer[identifier..identifier + 8].copy_from_slice(count.as_bytes());
