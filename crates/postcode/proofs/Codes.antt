@@ -13,7 +13,7 @@ use Rattle.text.specs.Test.{elem}
 use Rattle.text.specs.Text.{letter}
 use Rattle.text.specs.Digits.{digit}
 use Rattle.text.proofs.Tests.{and-left, and-right}
-use Rattle.postcode.specs.Inward.{inwardLetter, inwardFault, suffixFault}
+use Rattle.postcode.specs.Inward.{faultBy, inwardLetter, inwardFault, suffixFault}
 use Rattle.postcode.specs.Outward.{class, sequenceFrom, patterns, allowed, lettersFault, outwardFault}
 
 -- lists of a known length, by their elements
@@ -178,3 +178,43 @@ suffix-bytes [] e = absurd (omega arith)
 suffix-bytes (a ∷ []) e = absurd (omega arith)
 suffix-bytes (a ∷ b ∷ []) e = refl
 suffix-bytes (a ∷ b ∷ c ∷ s) e = absurd (omega arith)
+
+either-bound : (t : Bool) (n more : ℕ) → n ≤ 1 + more → cond t n 1 ≤ 1 + more
+either-bound true n more h = h
+either-bound false n more h = omega arith
+
+-- a fault stands in the code, or at its first byte
+letters-bound : (s : List ℕ) (before at : ℕ) → lettersFault before at s ≤ at + length s
+letters-bound [] before at = omega arith
+letters-bound (x ∷ xs) before at =
+    by-tests (letter x) (allowed before x) (letters-bound xs (suc before) (suc at)) (letters-bound xs before (suc at))
+  where
+    by-tests : (t u : Bool) → lettersFault (suc before) (suc at) xs ≤ suc at + length xs
+        → lettersFault before (suc at) xs ≤ suc at + length xs
+        → cond t (cond u (lettersFault (suc before) (suc at) xs) at) (lettersFault before (suc at) xs)
+        ≤ at + suc (length xs)
+    by-tests true true g h = omega arith
+    by-tests true false g h = omega arith
+    by-tests false u g h = omega arith
+
+pub outward-bound : (s : List ℕ) → outwardFault s ≤ 1 + length s
+unfolding outwardFault
+outward-bound s = either-bound (eqb (length s) 4 && elem (sequenceFrom 0 s) patterns) _ (length s) (letters-bound s 0 1)
+
+tests-bound : (oks : List (ℕ → Bool)) (at : ℕ) (s : List ℕ) → faultBy oks at s ≤ at + length s
+tests-bound [] at s = omega arith
+tests-bound (ok ∷ oks) at [] = omega arith
+tests-bound (ok ∷ oks) at (x ∷ xs) = by-test (ok x) (tests-bound oks (suc at) xs)
+  where
+    by-test : (t : Bool) → faultBy oks (suc at) xs ≤ suc at + length xs
+        → cond t (faultBy oks (suc at) xs) at ≤ at + suc (length xs)
+    by-test true h = omega arith
+    by-test false h = omega arith
+
+pub inward-bound : (s : List ℕ) → inwardFault s ≤ 1 + length s
+unfolding inwardFault
+inward-bound s = either-bound (eqb (length s) 3) _ (length s) (tests-bound (digit ∷ inwardLetter ∷ inwardLetter ∷ []) 1 s)
+
+pub suffix-bound : (s : List ℕ) → suffixFault s ≤ 1 + length s
+unfolding suffixFault
+suffix-bound s = either-bound (eqb (length s) 2) _ (length s) (tests-bound (digit ∷ letter ∷ []) 1 s)

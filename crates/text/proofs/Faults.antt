@@ -62,3 +62,13 @@ module _ (ok : ℕ → Bool) where
     pub fault-same : (s : List ℕ) (at : ℕ) → faultFrom ok at s ≡ faultFrom ko at s
     fault-same [] at = refl
     fault-same (x ∷ xs) at = rw (same x, fault-same xs (suc at))
+
+  -- a fault stands in the field
+  pub fault-bound : (s : List ℕ) (at : ℕ) → faultFrom ok at s ≤ at + length s
+  fault-bound [] at = omega arith
+  fault-bound (x ∷ xs) at = by-test (ok x) (fault-bound xs (suc at))
+    where
+      by-test : (t : Bool) → faultFrom ok (suc at) xs ≤ suc at + length xs
+          → cond t (faultFrom ok (suc at) xs) at ≤ at + suc (length xs)
+      by-test true h = omega arith
+      by-test false h = omega arith

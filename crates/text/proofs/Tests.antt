@@ -74,3 +74,7 @@ one-byte b x = one-range b b x ∙ by-test (eqb x b) refl
         let h : x ≡ b = eqb-true x b e in
         simp (le-leb b x (omega arith), le-leb x b (omega arith))
     by-test false e = above (leb b x) (eqb-false x b e) refl
+
+pub or-false : (a : Bool) → a || false ≡ a
+or-false true = refl
+or-false false = refl

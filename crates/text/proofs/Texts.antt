@@ -5,12 +5,13 @@ use mathlib.Core.Path.{_≡_, refl, sym, ap, _∙_}
 use mathlib.Core.Bool.{Bool, true, false, cond, true≢false}
 use mathlib.Core.List.{List, [], _∷_, _++_}
 use native.Mathlib.Omega.{arith}
-use native.Mathlib.Nat.{min-eq-left, min-eq-right}
+use native.Mathlib.Nat.{min-eq-left, min-eq-right, min-le-left}
 use borrow.Author.Tests.{ne-eqb, leb-true, leb-false}
-use lib.Dec.{leb, eqb}
-use lib.ListN.{length, take, drop, getD, length-drop}
-use lib.Seq.{take-suc, take-all, getD-drop}
+use lib.Dec.{leb, eqb, lit<}
+use lib.ListN.{length, take, drop, getD, length-take, length-drop}
+use lib.Seq.{take-suc, take-all, getD-take, getD-drop}
 use Rattle.text.specs.Test.{firstFault}
+use Rattle.text.proofs.Faults.{fault-bound}
 use Rattle.text.specs.Text.{textByte, blank, startsBlank, textFault, filledFault, keep, trim, part, textIn}
 
 -- the first byte, as the code reads it
@@ -59,6 +60,24 @@ trim-other (x ∷ xs) y h = ap (keep (eqb x 32) x) (trim-other xs y h) ∙ kept 
     kept true [] = refl
     kept true (z ∷ zs) = refl
 
+-- a part reaches as far as there are bytes
+pub part-within : (rec : List ℕ) (start end : ℕ) → part rec start (min end (length rec)) ≡ part rec start end
+part-within rec start end = by-test (leb end (length rec)) refl
+  where
+    whole : (n : ℕ) → length rec ≤ n → take (n - start) (drop start rec) ≡ drop start rec
+    whole n h = take-all (n - start) (drop start rec) (simp length-drop (omega arith))
+
+    by-test : (t : Bool) → leb end (length rec) ≡ t
+        → take (min end (length rec) - start) (drop start rec) ≡ take (end - start) (drop start rec)
+    by-test true e = rw (min-eq-left (leb-true end (length rec) e))
+    by-test false e =
+        let h : length rec < end = leb-false end (length rec) e in
+        let least : min end (length rec) ≡ length rec = min-eq-right (omega arith) in
+        rw least (whole (length rec) (omega arith) ∙ sym (whole end (omega arith)))
+
+pub part-none : (rec : List ℕ) (start end : ℕ) → end ≤ start → part rec start end ≡ []
+part-none rec start end h = rw (let z : end - start ≡ 0 = omega arith in z)
+
 -- a part that ends at `end`, by its last byte
 part-last : (rec : List ℕ) (start end : ℕ) → start < end → end ≤ length rec
     → part rec start end ≡ part rec start (end - 1) ++ (getD rec (end - 1) 0 ∷ [])
@@ -82,20 +101,37 @@ text-stop rec start end p h e =
 
 pub text-none : (rec : List ℕ) (start end : ℕ) → end ≤ start → textIn rec start end ≡ []
 unfolding textIn
-text-none rec start end h = rw (let z : end - start ≡ 0 = omega arith in z)
+text-none rec start end h = ap trim (part-none rec start end h)
 
 -- past the record's end there is nothing more
 pub text-within : (rec : List ℕ) (start end : ℕ) → textIn rec start (min end (length rec)) ≡ textIn rec start end
 unfolding textIn
-text-within rec start end = by-test (leb end (length rec)) refl
-  where
-    whole : (n : ℕ) → length rec ≤ n → take (n - start) (drop start rec) ≡ drop start rec
-    whole n h = take-all (n - start) (drop start rec) (simp length-drop (omega arith))
+text-within rec start end = ap trim (part-within rec start end)
 
-    by-test : (t : Bool) → leb end (length rec) ≡ t
-        → trim (take (min end (length rec) - start) (drop start rec)) ≡ trim (take (end - start) (drop start rec))
-    by-test true e = rw (min-eq-left (leb-true end (length rec) e))
-    by-test false e =
-        let h : length rec < end = leb-false end (length rec) e in
-        let least : min end (length rec) ≡ length rec = min-eq-right (omega arith) in
-        rw least (ap trim (whole (length rec) (omega arith) ∙ sym (whole end (omega arith))))
+-- a fault stands in the field, or at its first byte
+pub text-bound : (s : List ℕ) → textFault s ≤ 1 + length s
+unfolding textFault
+text-bound s = by-tests (startsBlank s) (blank s)
+  where
+    by-tests : (t u : Bool) → cond t (cond u 0 1) (firstFault textByte s) ≤ 1 + length s
+    by-tests true true = omega arith
+    by-tests true false = omega arith
+    by-tests false u = fault-bound textByte s 1
+
+pub filled-bound : (s : List ℕ) → filledFault s ≤ 1 + length s
+unfolding filledFault
+filled-bound s = by-test (blank s) (text-bound s)
+  where
+    by-test : (t : Bool) → textFault s ≤ 1 + length s → cond t 1 (textFault s) ≤ 1 + length s
+    by-test true h = omega arith
+    by-test false h = h
+
+pub part-bound : (rec : List ℕ) (start end : ℕ) → length (part rec start end) ≤ end - start
+part-bound rec start end = rw length-take (min-le-left (end - start) (length (drop start rec)))
+
+-- a part of one byte
+pub part-byte : (rec : List ℕ) (at : ℕ) → getD (part rec at (at + 1)) 0 0 ≡ getD rec at 0
+part-byte rec at =
+    let size : at + 1 - at ≡ 1 = omega arith in
+    let place : at + 0 ≡ at = omega arith in
+    rw (size, getD-take 1 (drop at rec) 0 0 (lit< tt), getD-drop at rec 0 0, place)

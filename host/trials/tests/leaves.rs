@@ -8,20 +8,48 @@ use trials::leaves;
 const TELLING: &[u8] = b"ABCDEFGHIJKLMNOPQRSTUVWXYZ059 /:@[az\0\xff";
 
 fn assert_field(s: &[u8]) {
-    assert_eq!(leaves::digits_fault(s), fields::digits_fault(s), "digits {s:?}");
+    assert_eq!(
+        leaves::digits_fault(s),
+        fields::digits_fault(s),
+        "digits {s:?}"
+    );
     assert_eq!(leaves::text_fault(s), fields::text_fault(s), "text {s:?}");
-    assert_eq!(leaves::filled_fault(s), fields::filled_fault(s), "filled {s:?}");
-    assert_eq!(leaves::numeric_like(s), fields::numeric_like(s), "numeric-like {s:?}");
-    assert_eq!(leaves::text_length(s, 0, s.len()), fields::trimmed(s).len(), "trimmed {s:?}");
+    assert_eq!(
+        leaves::filled_fault(s),
+        fields::filled_fault(s),
+        "filled {s:?}"
+    );
+    assert_eq!(
+        leaves::numeric_like(s),
+        fields::numeric_like(s),
+        "numeric-like {s:?}"
+    );
+    assert_eq!(
+        leaves::text_length(s, 0, s.len()),
+        fields::trimmed(s).len(),
+        "trimmed {s:?}"
+    );
     if s.len() <= 9 && fields::digits_fault(s) == 0 {
         assert_eq!(leaves::value(s) as u64, fields::value(s), "value {s:?}");
     }
 }
 
 fn assert_code(s: &[u8]) {
-    assert_eq!(leaves::outward_fault(s), fields::outward_fault(s), "outward {s:?}");
-    assert_eq!(leaves::inward_fault(s), fields::inward_fault(s), "inward {s:?}");
-    assert_eq!(leaves::suffix_fault(s), fields::suffix_fault(s), "suffix {s:?}");
+    assert_eq!(
+        leaves::outward_fault(s),
+        fields::outward_fault(s),
+        "outward {s:?}"
+    );
+    assert_eq!(
+        leaves::inward_fault(s),
+        fields::inward_fault(s),
+        "inward {s:?}"
+    );
+    assert_eq!(
+        leaves::suffix_fault(s),
+        fields::suffix_fault(s),
+        "suffix {s:?}"
+    );
 }
 
 #[test]
@@ -75,7 +103,9 @@ fn codes_of_other_lengths() {
     let mut rng = Rng::new(5);
     for len in 0..40 {
         for _ in 0..200 {
-            let code: Vec<u8> = (0..len).map(|_| TELLING[rng.below(TELLING.len())]).collect();
+            let code: Vec<u8> = (0..len)
+                .map(|_| TELLING[rng.below(TELLING.len())])
+                .collect();
             assert_code(&code);
         }
     }
@@ -111,7 +141,11 @@ fn the_value_of_every_four_digits_and_of_wide_fields() {
     for n in 0..10_000usize {
         assert_eq!(leaves::value(format!("{n:04}").as_bytes()), n);
         assert_eq!(leaves::value(format!("{n:09}").as_bytes()), n);
-        assert_eq!(leaves::value(format!("{n:09}7").as_bytes()), n, "a tenth digit is not read");
+        assert_eq!(
+            leaves::value(format!("{n:09}7").as_bytes()),
+            n,
+            "a tenth digit is not read"
+        );
     }
     assert_eq!(leaves::value(b"999999999"), 999_999_999);
     assert_eq!(leaves::value(&[255; 40]), 0);
@@ -124,9 +158,17 @@ fn the_text_between_any_two_places() {
         let len = rng.below(64);
         let rec: Vec<u8> = (0..len).map(|_| b"AB  "[rng.below(4)]).collect();
         let start = rng.below(80);
-        let end = if rng.below(8) == 0 { usize::MAX } else { rng.below(80) };
+        let end = if rng.below(8) == 0 {
+            usize::MAX
+        } else {
+            rng.below(80)
+        };
         let last = end.min(rec.len());
         let field = if start < last { &rec[start..last] } else { &[] };
-        assert_eq!(leaves::text_length(&rec, start, end), fields::trimmed(field).len(), "{rec:?} {start} {end}");
+        assert_eq!(
+            leaves::text_length(&rec, start, end),
+            fields::trimmed(field).len(),
+            "{rec:?} {start} {end}"
+        );
     }
 }

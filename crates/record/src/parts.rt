@@ -1,0 +1,75 @@
+// Records as parts of a file, and parts and bytes of a record. A part reaches as far as there are bytes, so that any
+// bytes may be asked for any part.
+use crate::layout::Point;
+use crate::layout::Table;
+ghost use mathlib.Core.Path.{_≡_};
+ghost use Prim.Native.Nat.{min};
+ghost use lib.ListN.{getD};
+ghost use Rattle.text.specs.Text.{part};
+ghost use Rattle.record.specs.Parts.{recordAt};
+ghost use Rattle.record.specs.Ends.{order};
+
+fn lesser(a: usize, b: usize) -> usize
+    ensures { λ r. ⌜ r ≡ min a b ⌝ }
+{
+    if a < b { a } else { b }
+}
+
+// The bytes from `start` up to `end`, as a part of the record.
+pub fn part_of(rec: &[u8], start: usize, end: usize) -> &[u8]
+    ensures { λ r. ⌜ now r ≡ part (now (rec .entry)) start end ⌝ }
+{
+    let e = lesser(end, rec.len());
+    if start < e { &rec[start..e] } else { &rec[..0] }
+}
+
+// Record `i` of a table file, counted from 0, as a part of the file; no bytes where there is none.
+pub fn table_record(file: &[u8], i: usize) -> &[u8]
+    ensures { λ r. ⌜ now r ≡ recordAt 169 (now (file .entry)) i ⌝ }
+{
+    if i < file.len() / Table::WIDTH {
+        let a = i * Table::WIDTH;
+        &file[a..a + Table::WIDTH]
+    } else {
+        &file[..0]
+    }
+}
+
+// Record `i` of a point file, counted from 0, as a part of the file; no bytes where there is none.
+pub fn point_record(file: &[u8], i: usize) -> &[u8]
+    ensures { λ r. ⌜ now r ≡ recordAt 168 (now (file .entry)) i ⌝ }
+{
+    if i < file.len() / Point::WIDTH {
+        let a = i * Point::WIDTH;
+        &file[a..a + Point::WIDTH]
+    } else {
+        &file[..0]
+    }
+}
+
+// The byte at `at`, and 0 where there is none.
+pub fn byte_of(rec: &[u8], at: usize) -> u8
+    ensures { λ r. ⌜ r ≡ getD (now (rec .entry)) at 0 ⌝ }
+{
+    if at < rec.len() { rec[at] } else { 0 }
+}
+
+// How two slices compare as bytes: 0 the same, 1 the first below the second, 2 above it.
+pub fn order_of(a: &[u8], b: &[u8]) -> usize
+    ensures { λ r. ⌜ r ≡ order (now (a .entry)) (now (b .entry)) ⌝ }
+{
+    let mut i = 0;
+    while i < a.len() {
+        if b.len() <= i {
+            return 2;
+        }
+        if a[i] < b[i] {
+            return 1;
+        }
+        if b[i] < a[i] {
+            return 2;
+        }
+        i += 1;
+    }
+    if i < b.len() { 1 } else { 0 }
+}

@@ -1,0 +1,33 @@
+-- Which row a key finds. Records of a table file are counted from 0; the header is record 0.
+-- Assumes nothing.
+use Prim.Native.Nat.{ℕ, zero, suc, _-_, _/_, _≤_, _<_}
+use mathlib.Core.Path.{_≡_}
+use mathlib.Core.Bool.{cond}
+use mathlib.Core.List.{List}
+use lib.Dec.{eqb}
+use lib.ListN.{length}
+use Rattle.text.specs.Text.{part}
+use Rattle.record.specs.Parts.{recordAt}
+use Rattle.record.specs.Ends.{order, same}
+
+-- type and key of record i: "the first 9 in the table file"
+abbrev pub keyAt : List ℕ → ℕ → List ℕ
+keyAt file i = part (recordAt 169 file i) 0 9
+
+-- the trailer's place, behind which there is no record
+abbrev pub lastOf : List ℕ → ℕ
+lastOf file = length file / 169 - 1
+
+-- the last of k records from i on that stands for a type and key; 0 where there is none
+abbrev pub lastFrom : List ℕ → List ℕ → ℕ → ℕ → ℕ
+lastFrom file want zero i = 0
+lastFrom file want (suc k) i =
+    cond (eqb (lastFrom file want k (suc i)) 0) (cond (same (keyAt file i) want) i 0) (lastFrom file want k (suc i))
+
+-- the record that a type and key find: the last that stands for them; 0 where there is none
+unfoldable pub rowOf : List ℕ → List ℕ → ℕ
+rowOf file want = lastFrom file want (lastOf file - 1) 1
+
+-- between header and trailer the keys never fall
+pub record KeysRise (file : List ℕ) : Type 0 where
+  pub never-falls : (i : ℕ) → 1 ≤ i → suc i < lastOf file → order (keyAt file i) (keyAt file (suc i)) ≡ 2 → ⊥

@@ -1,0 +1,68 @@
+// A row of a table file by its type and key: a search by halves. Any bytes may be asked; where the keys never fall, the
+// answer is the last record that stands for the type and key.
+use record::Table;
+ghost use mathlib.Core.Path.{_≡_};
+ghost use mathlib.Core.List.{_∷_};
+ghost use Rattle.record.specs.Ends.{order};
+ghost use Rattle.rows.specs.Rows.{keyAt, lastOf};
+ghost use Rattle.rows.specs.Search.{upperBound, found};
+
+// The trailer's place.
+fn last_of(table: &[u8]) -> usize
+    ensures { λ r. ⌜ r ≡ lastOf (now (table .entry)) ⌝ }
+{
+    let records = table.len() / Table::WIDTH;
+    if records == 0 { 0 } else { records - 1 }
+}
+
+// How the type and key of record `i` compare with the wanted ones: 0 the same, 1 below, 2 above.
+fn key_order(table: &[u8], i: usize, kind: u8, key: &[u8]) -> usize
+    ensures { λ r. ⌜ r ≡ order (keyAt (now (table .entry)) i) (kind ∷ now (key .entry)) ⌝ }
+{
+    let rec = record::table_record(table, i);
+    // no bytes are below any
+    if rec.len() == 0 {
+        return 1;
+    }
+    let own = rec[Table::TYPE];
+    if own < kind {
+        return 1;
+    }
+    if kind < own {
+        return 2;
+    }
+    record::order_of(record::part_of(rec, Table::KEY, Table::DATE), key)
+}
+
+// Behind the last record whose type and key are not above the wanted ones.
+fn upper_bound(table: &[u8], kind: u8, key: &[u8]) -> usize
+    ensures { λ r. ⌜ r ≡ upperBound (now (table .entry)) (kind ∷ now (key .entry)) ⌝ }
+{
+    let mut low = 1;
+    let mut high = last_of(table);
+    while low < high {
+        let middle = low + (high - low) / 2;
+        if key_order(table, middle, kind, key) == 2 {
+            high = middle;
+        } else {
+            low = middle + 1;
+        }
+    }
+    low
+}
+
+// The row that a type and key find, counted from the header, which is 0; 0 where there is none.
+pub fn find_row(table: &[u8], kind: u8, key: &[u8]) -> usize
+    ensures { λ r. ⌜ r ≡ found (now (table .entry)) (kind ∷ now (key .entry)) ⌝ }
+{
+    let end = upper_bound(table, kind, key);
+    if end <= 1 {
+        return 0;
+    }
+    let row = end - 1;
+    if key_order(table, row, kind, key) == 0 {
+        row
+    } else {
+        0
+    }
+}

@@ -1,0 +1,51 @@
+-- The rows of a table file, and which row a key finds.
+-- Assumes nothing.
+use Prim.Native.Nat.{ℕ, zero, suc, _+_, _-_, _/_, _%_, _^_}
+use mathlib.Core.Bool.{cond}
+use mathlib.Core.List.{List, [], _∷_}
+use mathlib.Core.Option.{Option, none, some}
+use lib.Dec.{eqb}
+use lib.ListN.{getD}
+use Rattle.text.specs.Digits.{value}
+use Rattle.text.specs.Text.{part, textIn}
+use Rattle.record.specs.Parts.{recordAt}
+use Rattle.rows.specs.Rows.{lastOf, rowOf}
+use Rattle.address.specs.Address.{Row, Lookup}
+
+-- a number as so many digits
+abbrev pub digitsOf : ℕ → ℕ → List ℕ
+digitsOf zero n = []
+digitsOf (suc w) n = (48 + n / 10 ^ w % 10) ∷ digitsOf w n
+
+-- the texts of a table record, by its type: "post town 30, dependent locality 35, double dependent locality 35"; "name 60";
+-- "text 20"; "text 50"; "text 30"
+abbrev pub textsOf : List ℕ → List (List ℕ)
+textsOf rec =
+    cond (eqb (getD rec 0 0) 49) (textIn rec 69 99 ∷ textIn rec 99 134 ∷ textIn rec 134 169 ∷ [])
+    (cond (eqb (getD rec 0 0) 50) (textIn rec 24 84 ∷ [])
+    (cond (eqb (getD rec 0 0) 51) (textIn rec 24 44 ∷ [])
+    (cond (eqb (getD rec 0 0) 52) (textIn rec 24 74 ∷ [])
+    (textIn rec 24 54 ∷ []))))
+
+abbrev pub rowAt : List ℕ → ℕ → Row
+rowAt table i =
+    record {
+      kind = getD (recordAt 169 table i) 0 0 - 48;
+      key = value (part (recordAt 169 table i) 1 9);
+      texts = textsOf (recordAt 169 table i);
+    }
+
+abbrev pub rowsFrom : List ℕ → ℕ → ℕ → List Row
+rowsFrom table zero i = []
+rowsFrom table (suc k) i = rowAt table i ∷ rowsFrom table k (suc i)
+
+-- the rows between header and trailer
+unfoldable pub rowsIn : List ℕ → List Row
+rowsIn table = rowsFrom table (lastOf table - 1) 1
+
+-- which row a key finds: the texts of the last record that stands for its kind and key. This is the one place that says so.
+abbrev pub textsAt : List ℕ → ℕ → Option (List (List ℕ))
+textsAt table place = cond (eqb place 0) none (some (textsOf (recordAt 169 table place)))
+
+unfoldable pub tableLookup : List ℕ → Lookup
+tableLookup table kind key = textsAt table (rowOf table ((48 + kind) ∷ digitsOf 8 key))

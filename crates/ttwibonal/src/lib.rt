@@ -1,0 +1,47 @@
+// The calls that a C program makes. Each answers one number, which packs the answer of the crate below; see the header,
+// include/ttwibonal.h.
+ghost use mathlib.Core.Path.{_≡_};
+ghost use Rattle.refusal.specs.Packed.{packed};
+ghost use Rattle.files.specs.Check.{checked};
+ghost use Rattle.files.specs.Formats.{tableFormat, pointFormat};
+ghost use Rattle.listing.specs.Listing.{viewsAnswer, letterAnswer, liveAnswer};
+
+// How many records a table file has.
+#[no_mangle]
+pub extern "C" fn ttw_table(table: &[u8]) -> u64
+    ensures { λ r. ⌜ r ≡ packed (checked tableFormat (now (table .entry))) ⌝ }
+{
+    refusal::packed_answer(files::check_table(table)) as u64
+}
+
+// How many records a point file has.
+#[no_mangle]
+pub extern "C" fn ttw_points(points: &[u8]) -> u64
+    ensures { λ r. ⌜ r ≡ packed (checked pointFormat (now (points .entry))) ⌝ }
+{
+    refusal::packed_answer(files::check_points(points)) as u64
+}
+
+// How many views a point file has.
+#[no_mangle]
+pub extern "C" fn ttw_views(points: &[u8]) -> u64
+    ensures { λ r. ⌜ r ≡ packed (viewsAnswer (now (points .entry))) ⌝ }
+{
+    refusal::packed_answer(listing::views_in(points)) as u64
+}
+
+// The amendment letter of a view.
+#[no_mangle]
+pub extern "C" fn ttw_letter(points: &[u8], view: u64) -> u64
+    ensures { λ r. ⌜ r ≡ packed (letterAnswer (now (points .entry)) view) ⌝ }
+{
+    refusal::packed_answer(listing::letter_of(points, view as usize)) as u64
+}
+
+// How many live views a code has.
+#[no_mangle]
+pub extern "C" fn ttw_live(points: &[u8], code: &[u8]) -> u64
+    ensures { λ r. ⌜ r ≡ packed (liveAnswer (now (points .entry)) (now (code .entry))) ⌝ }
+{
+    refusal::packed_answer(listing::live_in(points, code)) as u64
+}

@@ -1,0 +1,75 @@
+//! Each call of the library asked beside the second program. An answer is
+//! handed back only where both give it and the lent bytes are as they were.
+
+use crate::calls;
+use paper::{packed, Refusal};
+use std::hint::black_box;
+
+/// How many bytes of a file are shown where the answers differ.
+const SHOWN: usize = 8_000;
+
+/// How many records a table file has, or its refusal.
+#[track_caller]
+pub fn table(table: &[u8]) -> u64 {
+    let answer = lent(table, calls::table);
+    let plain = paper::check_table(table).map(|records| records as u64);
+    same("table", table, answer, plain)
+}
+
+/// How many records a point file has, or its refusal.
+#[track_caller]
+pub fn points(points: &[u8]) -> u64 {
+    let answer = lent(points, calls::points);
+    let plain = paper::check_points(points).map(|records| records as u64);
+    same("points", points, answer, plain)
+}
+
+/// How many views a point file has, or its refusal.
+#[track_caller]
+pub fn views(points: &[u8]) -> u64 {
+    let answer = lent(points, calls::views);
+    let plain = paper::views(points).map(|views| views as u64);
+    same("views", points, answer, plain)
+}
+
+/// The amendment letter of a view, or the refusal.
+#[track_caller]
+pub fn letter(points: &[u8], view: u64) -> u64 {
+    let answer = lent(points, |points| calls::letter(points, view));
+    let plain = paper::letter(points, view).map(u64::from);
+    same(&format!("letter of {view}"), points, answer, plain)
+}
+
+/// How many live views an outward code has, or the refusal.
+#[track_caller]
+pub fn live(points: &[u8], code: &[u8]) -> u64 {
+    let answer = lent(code, |code| {
+        lent(points, |points| calls::live(points, code))
+    });
+    let plain = paper::live(points, code).map(|views| views as u64);
+    same(&format!("live in {code:?}"), points, answer, plain)
+}
+
+/// Makes a call that only reads these bytes, and fails where it wrote.
+#[track_caller]
+fn lent(bytes: &[u8], call: impl FnOnce(&[u8]) -> u64) -> u64 {
+    let before = bytes.to_vec();
+    let answer = call(bytes);
+    assert!(
+        *black_box(bytes) == before,
+        "the call wrote into lent bytes"
+    );
+    answer
+}
+
+/// Fails where the library's answer isn't the second program's.
+#[track_caller]
+fn same(call: &str, file: &[u8], answer: u64, plain: Result<u64, Refusal>) -> u64 {
+    assert!(
+        answer == packed(plain),
+        "{call}: the library answers {answer:#x}, the second program {plain:?}, for {} bytes: {}",
+        file.len(),
+        file[..file.len().min(SHOWN)].escape_ascii()
+    );
+    answer
+}

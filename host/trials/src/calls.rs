@@ -1,0 +1,42 @@
+//! The calls of the static library `ttwibonal`, as `include/ttwibonal.h`
+//! declares them. Each answers one number, which packs a value or a refusal.
+
+#[link(name = "ttwibonal", kind = "static")]
+extern "C" {
+    fn ttw_table(table: *const u8, table_len: usize) -> u64;
+    fn ttw_points(points: *const u8, points_len: usize) -> u64;
+    fn ttw_views(points: *const u8, points_len: usize) -> u64;
+    fn ttw_letter(points: *const u8, points_len: usize, view: u64) -> u64;
+    fn ttw_live(points: *const u8, points_len: usize, code: *const u8, code_len: usize) -> u64;
+}
+
+/// How many records a table file has.
+pub fn table(table: &[u8]) -> u64 {
+    // SAFETY: the pointer and the length are those of a slice that outlives the
+    // call, which only reads it and keeps nothing. So it is below.
+    unsafe { ttw_table(table.as_ptr(), table.len()) }
+}
+
+/// How many records a point file has.
+pub fn points(points: &[u8]) -> u64 {
+    // SAFETY: as above.
+    unsafe { ttw_points(points.as_ptr(), points.len()) }
+}
+
+/// How many views a point file has.
+pub fn views(points: &[u8]) -> u64 {
+    // SAFETY: as above.
+    unsafe { ttw_views(points.as_ptr(), points.len()) }
+}
+
+/// The amendment letter of a view, counted from 1.
+pub fn letter(points: &[u8], view: u64) -> u64 {
+    // SAFETY: as above; `view` may be any number.
+    unsafe { ttw_letter(points.as_ptr(), points.len(), view) }
+}
+
+/// How many live views an outward code has.
+pub fn live(points: &[u8], code: &[u8]) -> u64 {
+    // SAFETY: as above, for both slices.
+    unsafe { ttw_live(points.as_ptr(), points.len(), code.as_ptr(), code.len()) }
+}

@@ -1,0 +1,75 @@
+/* Asks every call of the library about the pair of files that it is given, and
+ * prints what it answers, taken apart by the header's macros. */
+#include "ttwibonal.h"
+
+#include <inttypes.h>
+#include <stdio.h>
+
+/* Bytes for a file; those of the worked pair are shorter. */
+#define ROOM 4096
+/* Bytes of a point record, and where its amendment letter stands. */
+#define POINT_RECORD 168
+#define LETTER 40
+
+/* Reads a whole file of less than ROOM bytes. Answers its length, 0 where it
+ * can't be read. */
+static size_t read_file(const char *path, uint8_t *bytes)
+{
+    FILE *file = fopen(path, "rb");
+    size_t length;
+
+    if (file == NULL)
+        return 0;
+    length = fread(bytes, 1, ROOM, file);
+    fclose(file);
+    return length < ROOM ? length : 0;
+}
+
+static void say(const char *what, uint64_t answer)
+{
+    if (TTW_REFUSAL(answer) != 0)
+        printf("%s: refused %" PRIu64 ", file %" PRIu64 ", second %" PRIu64 ", detail %" PRIu64 "\n", what,
+               TTW_REFUSAL(answer), TTW_FILE(answer), TTW_SECOND(answer), TTW_DETAIL(answer));
+    else
+        printf("%s: %" PRIu64 "\n", what, TTW_VALUE(answer));
+}
+
+static void say_letters(const uint8_t *points, size_t length)
+{
+    uint64_t views = TTW_VALUE(ttw_views(points, length));
+    uint64_t view;
+
+    for (view = 1; view <= views; view++)
+        printf("letter %" PRIu64 ": %c\n", view, (int)TTW_VALUE(ttw_letter(points, length, view)));
+    say("letter behind the last", ttw_letter(points, length, views + 1));
+}
+
+static void say_codes(const uint8_t *points, size_t length)
+{
+    const uint8_t codes[3][4] = {{'A', 'B', '1', ' '}, {'D', 'N', '5', '5'}, {'Q', 'A', '1', ' '}};
+
+    say("live in AB1", ttw_live(points, length, codes[0], sizeof codes[0]));
+    say("live in DN55", ttw_live(points, length, codes[1], sizeof codes[1]));
+    say("live in QA1", ttw_live(points, length, codes[2], sizeof codes[2]));
+    say("live in AB1 without padding", ttw_live(points, length, codes[0], 3));
+}
+
+int main(int argc, char **argv)
+{
+    static uint8_t table[ROOM];
+    static uint8_t points[ROOM];
+    size_t table_length = argc == 3 ? read_file(argv[1], table) : 0;
+    size_t points_length = argc == 3 ? read_file(argv[2], points) : 0;
+
+    say("table", ttw_table(table, table_length));
+    say("points", ttw_points(points, points_length));
+    say("views", ttw_views(points, points_length));
+    say_letters(points, points_length);
+    say_codes(points, points_length);
+    say("empty table", ttw_table(table, 0));
+    table[0] = 'X';
+    say("table with another header", ttw_table(table, table_length));
+    points[2 * POINT_RECORD + LETTER] = 'X';
+    say("points with another letter", ttw_points(points, points_length));
+    return 0;
+}

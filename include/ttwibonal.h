@@ -1,0 +1,68 @@
+/* Ttwibonal: reads Royal Mail's Changes files and answers about them.
+ *
+ * A slice is a pointer and a length; a length of 0 takes any pointer that is not null. Every call may be made with any
+ * bytes and any numbers, and has nothing to check beforehand. Nothing is kept between calls and nothing is shared, so
+ * calls may run on several threads at once. No call writes into the slices that it only reads.
+ *
+ * Each call answers one number. Take it apart with the macros below and never compare whole words: later calls fill bits
+ * that are 0 today.
+ *
+ *     uint64_t answer = ttw_table(table, table_len);
+ *     if (TTW_REFUSAL(answer) != 0)
+ *         printf("refused %u, detail %lu\n", (unsigned)TTW_REFUSAL(answer), (unsigned long)TTW_DETAIL(answer));
+ *     else
+ *         printf("%lu records\n", (unsigned long)TTW_VALUE(answer));
+ */
+#ifndef TTWIBONAL_H
+#define TTWIBONAL_H
+
+#include <stddef.h>
+#include <stdint.h>
+
+#ifdef __cplusplus
+extern "C" {
+#endif
+
+/* The refusal's number, 0 where there is a value. */
+#define TTW_REFUSAL(answer) ((answer) >> 56)
+/* The file to blame: 1 the table file, 2 the point file, 0 no file. */
+#define TTW_FILE(answer) (((answer) >> 52) & 15u)
+/* The refusal's second detail. */
+#define TTW_SECOND(answer) (((answer) >> 32) & 0xFFFFFu)
+/* The refusal's detail. */
+#define TTW_DETAIL(answer) ((answer) & 0xFFFFFFFFu)
+/* The value, where the refusal's number is 0. */
+#define TTW_VALUE(answer) ((answer) & 0xFFFFFFFFFFFFFFu)
+
+/* Refusals of a file, in the order in which they are tried (the detail is the record's number, counted from 1):
+ *   1 the length is not 2 to 20,000 whole records (detail 0)
+ *   2 the header is malformed (1)
+ *   3 the trailer's identifier or count is wrong (the last record)
+ *   then record by record
+ *   4 the record is malformed
+ *   5 it is not above the record before
+ *   6 a follower is missing (the type 1 is named), or stray (it is named itself)
+ */
+
+/* How many records a table file (Changes1) has. Refusals: 1 to 5, file 1. */
+uint64_t ttw_table(const uint8_t *table, size_t table_len);
+
+/* How many records a point file (Changes2, Single Changes) has. Refusals: 1 to 6, file 2. */
+uint64_t ttw_points(const uint8_t *points, size_t points_len);
+
+/* How many views a point file has. Refusals: 1 to 6, file 2. */
+uint64_t ttw_views(const uint8_t *points, size_t points_len);
+
+/* The amendment letter of a view, counted from 1: 'B', 'C', 'D' or 'I'. Refusals: 1 to 6, file 2; then 7, no such
+ * view. */
+uint64_t ttw_letter(const uint8_t *points, size_t points_len, uint64_t view);
+
+/* How many live views an outward code has. The code is 4 bytes, padded with spaces. Refusals: 1 to 6, file 2; then 12,
+ * the code is malformed. */
+uint64_t ttw_live(const uint8_t *points, size_t points_len, const uint8_t *code, size_t code_len);
+
+#ifdef __cplusplus
+}
+#endif
+
+#endif
