@@ -2,13 +2,13 @@
 .PHONY: help run test bench
 
 help:
-	@echo 'make run    print the worked cases of the specification, read by the proved code'
+	@echo 'make run    print the labels of the sample files'
 	@echo 'make test   prove every crate, try the must-fail edits, run the host tests'
 	@echo 'make bench  time each call beside a plain compiled version'
 
 run:
-	@rt check fields >/dev/null
-	@target/bin/fields
+	@rt check labels >/dev/null
+	@cd samples && ../target/bin/labels
 
 test:
 	@scripts/test

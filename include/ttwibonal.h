@@ -61,6 +61,25 @@ uint64_t ttw_letter(const uint8_t *points, size_t points_len, uint64_t view);
  * the code is malformed. */
 uint64_t ttw_live(const uint8_t *points, size_t points_len, const uint8_t *code, size_t code_len);
 
+/* Labels. `out` is the one slice that is written: a refused call leaves all of it as it was, an accepted one everything
+ * behind the bytes that it wrote. A label has at most 499 bytes: its lines, each ended by byte 10.
+ * Refusals, in this order: the table file's (file 1), the point file's (file 2), 12 where a code is given, then
+ *   7 no such view
+ *   8 a forbidden combination (1 sub building without name or number, 2 dependent thoroughfare without thoroughfare,
+ *     3 descriptor without its own name)
+ *   9 a key has no row, or the locality key is zero (the field, 1 to 7: locality, thoroughfare, descriptor, dependent
+ *     thoroughfare, its descriptor, building name, sub building)
+ *  10 `out` is shorter than the label (the bytes needed)
+ */
+
+/* The label of a view, counted from 1: how many bytes were written. */
+uint64_t ttw_label(const uint8_t *table, size_t table_len, const uint8_t *points, size_t points_len, uint64_t view,
+                   uint8_t *out, size_t out_len);
+
+/* The label of the k-th live view in an outward code, k counted from 1 in file order: how many bytes were written. */
+uint64_t ttw_code_label(const uint8_t *table, size_t table_len, const uint8_t *points, size_t points_len,
+                        const uint8_t *code, size_t code_len, uint64_t k, uint8_t *out, size_t out_len);
+
 #ifdef __cplusplus
 }
 #endif

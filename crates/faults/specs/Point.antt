@@ -27,11 +27,17 @@ pointHead =
     ∷ field 1 (oneOf (49 ∷ 50 ∷ 51 ∷ []))
     ∷ []
 
--- "building number 4, building name key 8, sub building name key 8, households 4, concatenation 1, PO box 6, small user
--- indicator 1, reason 2"; "Concatenation and indicator: Y or space"
-abbrev pub viewEnd : List Field
-viewEnd =
-    field 4 digitsFault
+-- "Type 1 goes on: locality key 8, thoroughfare 8, its descriptor 8, dependent thoroughfare 8, its descriptor 8, building
+-- number 4, building name key 8, sub building name key 8, households 4, concatenation 1, PO box 6, small user indicator
+-- 1, reason 2"; "Concatenation and indicator: Y or space"
+abbrev pub viewFields : List Field
+viewFields =
+    field 8 digitsFault
+    ∷ field 8 digitsFault
+    ∷ field 8 digitsFault
+    ∷ field 8 digitsFault
+    ∷ field 8 digitsFault
+    ∷ field 4 digitsFault
     ∷ field 8 digitsFault
     ∷ field 8 digitsFault
     ∷ field 4 digitsFault
@@ -40,16 +46,6 @@ viewEnd =
     ∷ field 1 (oneOf (89 ∷ 32 ∷ []))
     ∷ field 2 digitsFault
     ∷ []
-
--- "Type 1 goes on: locality key 8, thoroughfare 8, its descriptor 8, dependent thoroughfare 8, its descriptor 8", then that
-abbrev pub viewFields : List Field
-viewFields =
-    field 8 digitsFault
-    ∷ field 8 digitsFault
-    ∷ field 8 digitsFault
-    ∷ field 8 digitsFault
-    ∷ field 8 digitsFault
-    ∷ viewEnd
 
 -- "Types 2 (small user) and 3 (large user): organisation 60, department 60"; "a large user's name may be" blank
 abbrev pub pointRest : ℕ → List Field

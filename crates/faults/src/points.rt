@@ -18,7 +18,7 @@ ghost use Rattle.text.specs.Test.{elem};
 ghost use Prim.Native.Nat.{_+_, _≤_};
 ghost use Rattle.text.specs.Text.{textFault, part};
 ghost use Rattle.faults.specs.Fields.{place, first, faultIn, oneOf};
-ghost use Rattle.faults.specs.Point.{pointHead, viewFields, viewEnd, pointRest, pointFault};
+ghost use Rattle.faults.specs.Point.{pointHead, viewFields, pointRest, pointFault};
 
 fn is_postcode_type(b: u8) -> bool
     ensures { λ r. ⌜ r ≡ elem b (83 ∷ 76 ∷ []) ⌝ }
@@ -72,70 +72,32 @@ fn yes_at(rec: &[u8], at: usize) -> usize
     byte_fault(is_yes_or_space(byte_of(rec, at)), at)
 }
 
-// What all types begin with.
+// What all types begin with. Neighbouring numeric fields are read as one: their first fault is the same.
 fn point_head_fault(rec: &[u8]) -> usize
     ensures { λ r. ⌜ r ≡ faultIn 0 pointHead (now (rec .entry)) ⌝ }
 {
     let kind = first_of(type_at(rec), 0);
     let letter = first_of(letter_at(rec), kind);
-    let organisation = first_of(
-        digits_at(rec, Point::ORGANISATION_KEY, Point::LETTER),
-        letter,
-    );
-    let address = first_of(
-        digits_at(rec, Point::ADDRESS_KEY, Point::ORGANISATION_KEY),
-        organisation,
-    );
-    let user = first_of(postcode_type_at(rec), address);
+    let both_keys = first_of(digits_at(rec, Point::ADDRESS_KEY, Point::LETTER), letter);
+    let user = first_of(postcode_type_at(rec), both_keys);
     let suffix = first_of(suffix_at(rec, Point::SUFFIX, Point::POSTCODE_TYPE), user);
     let inward = first_of(inward_at(rec, Point::INWARD, Point::SUFFIX), suffix);
     let outward = first_of(outward_at(rec, Point::OUTWARD, Point::INWARD), inward);
-    let time = first_of(digits_at(rec, Point::TIME, Point::OUTWARD), outward);
-    first_of(digits_at(rec, Point::DATE, Point::TIME), time)
+    first_of(digits_at(rec, Point::DATE, Point::OUTWARD), outward)
 }
 
-// What type 1 goes on with, from the building number on.
-fn view_end_fault(rec: &[u8]) -> usize
-    ensures { λ r. ⌜ r ≡ faultIn 82 viewEnd (now (rec .entry)) ⌝ }
+// What type 1 goes on with: keys, number and households in one run, then the rest.
+fn view_fault(rec: &[u8]) -> usize
+    ensures { λ r. ⌜ r ≡ faultIn 42 viewFields (now (rec .entry)) ⌝ }
 {
     let reason = first_of(digits_at(rec, View::REASON, View::REASON_END), 0);
     let indicator = first_of(yes_at(rec, View::INDICATOR), reason);
     let po_box = first_of(text_at(rec, View::PO_BOX, View::INDICATOR), indicator);
     let concatenation = first_of(yes_at(rec, View::CONCATENATION), po_box);
-    let households = first_of(
-        digits_at(rec, View::HOUSEHOLDS, View::CONCATENATION),
+    first_of(
+        digits_at(rec, View::LOCALITY, View::CONCATENATION),
         concatenation,
-    );
-    let sub_building = first_of(
-        digits_at(rec, View::SUB_BUILDING, View::HOUSEHOLDS),
-        households,
-    );
-    let building = first_of(
-        digits_at(rec, View::BUILDING, View::SUB_BUILDING),
-        sub_building,
-    );
-    first_of(digits_at(rec, View::NUMBER, View::BUILDING), building)
-}
-
-// What type 1 goes on with.
-fn view_fault(rec: &[u8]) -> usize
-    ensures { λ r. ⌜ r ≡ faultIn 42 viewFields (now (rec .entry)) ⌝ }
-{
-    let end = view_end_fault(rec);
-    let descriptor = first_of(
-        digits_at(rec, View::DEPENDENT_DESCRIPTOR, View::NUMBER),
-        end,
-    );
-    let dependent = first_of(
-        digits_at(rec, View::DEPENDENT, View::DEPENDENT_DESCRIPTOR),
-        descriptor,
-    );
-    let street_descriptor = first_of(digits_at(rec, View::DESCRIPTOR, View::DEPENDENT), dependent);
-    let street = first_of(
-        digits_at(rec, View::THOROUGHFARE, View::DESCRIPTOR),
-        street_descriptor,
-    );
-    first_of(digits_at(rec, View::LOCALITY, View::THOROUGHFARE), street)
+    )
 }
 
 // What types 2 and 3 go on with: the name's fault is handed in, since a small user's may not be blank.

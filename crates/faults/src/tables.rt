@@ -42,14 +42,13 @@ fn letter_at(rec: &[u8]) -> usize
     byte_fault(is_table_letter(byte_of(rec, Table::LETTER)), Table::LETTER)
 }
 
-// What all types begin with.
+// What all types begin with. Date and time are read as one: their first fault is the same.
 fn table_head_fault(rec: &[u8]) -> usize
     ensures { λ r. ⌜ r ≡ faultIn 0 tableHead (now (rec .entry)) ⌝ }
 {
     let letter = first_of(letter_at(rec), 0);
-    let time = first_of(digits_at(rec, Table::TIME, Table::LETTER), letter);
-    let date = first_of(digits_at(rec, Table::DATE, Table::TIME), time);
-    let key = first_of(key_at(rec, Table::KEY, Table::DATE), date);
+    let when = first_of(digits_at(rec, Table::DATE, Table::LETTER), letter);
+    let key = first_of(key_at(rec, Table::KEY, Table::DATE), when);
     first_of(type_at(rec), key)
 }
 

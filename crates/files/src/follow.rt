@@ -4,7 +4,7 @@ ghost use mathlib.Core.Path.{_≡_};
 ghost use Rattle.files.specs.Formats.{needed, follows, placed};
 
 // The type of record that a record needs next, 0 where it needs none.
-fn needed_next(rec: &[u8]) -> u8
+pub fn needed_next(rec: &[u8]) -> u8
     ensures { λ r. ⌜ r ≡ needed (now (rec .entry)) ⌝ }
 {
     if record::byte_of(rec, Point::TYPE) != b'1' {

@@ -6,3 +6,4 @@ mod format;
 pub use check::Verdict;
 pub use check::check_points;
 pub use check::check_table;
+pub use follow::needed_next;

@@ -1,9 +1,11 @@
 -- Header and trailer, and bytes compared.
 -- Assumes nothing.
-use Prim.Native.Nat.{ℕ, _+_}
+use Prim.Native.Nat.{ℕ, _+_, _≤_}
+use mathlib.Core.Path.{_≡_}
 use mathlib.Core.Bool.{Bool, cond, not, _&&_}
 use mathlib.Core.List.{List, [], _∷_}
 use lib.Dec.{ltb, eqb}
+use lib.ListN.{length, drop}
 use Rattle.text.specs.Test.{only}
 use Rattle.text.specs.Digits.{digitsFault, value}
 use Rattle.text.specs.Text.{part}
@@ -14,6 +16,12 @@ order [] [] = 0
 order [] (y ∷ ys) = 1
 order (x ∷ xs) [] = 2
 order (x ∷ xs) (y ∷ ys) = cond (ltb x y) 1 (cond (ltb y x) 2 (order xs ys))
+
+-- a front that both have, so that what is behind it decides
+pub record SameFront (a b : List ℕ) (n : ℕ) : Type 0 where
+  pub in-a : n ≤ length a
+  pub in-b : n ≤ length b
+  pub decided : order a b ≡ order (drop n a) (drop n b)
 
 abbrev pub same : List ℕ → List ℕ → Bool
 same a b = eqb (order a b) 0

@@ -4,6 +4,7 @@ ghost use mathlib.Core.Path.{_≡_};
 ghost use Rattle.refusal.specs.Packed.{packed};
 ghost use Rattle.files.specs.Check.{checked};
 ghost use Rattle.files.specs.Formats.{tableFormat, pointFormat};
+ghost use Rattle.pair.specs.Pair.{viewAnswer, viewMemory, codeAnswer, codeMemory};
 ghost use Rattle.listing.specs.Listing.{viewsAnswer, letterAnswer, liveAnswer};
 
 // How many records a table file has.
@@ -44,4 +45,26 @@ pub extern "C" fn ttw_live(points: &[u8], code: &[u8]) -> u64
     ensures { λ r. ⌜ r ≡ packed (liveAnswer (now (points .entry)) (now (code .entry))) ⌝ }
 {
     refusal::packed_answer(listing::live_in(points, code)) as u64
+}
+
+// The label of a view, printed into `out`.
+#[no_mangle]
+pub extern "C" fn ttw_label<'a>(table: &'a [u8], points: &'a [u8], view: u64, out: &mut [u8]) -> u64
+    ensures { λ r. ⌜ (r ≡ packed (viewAnswer (now (table .entry)) (now (points .entry)) view (now (out .entry)))) × (now (out .exit) ≡ viewMemory (now (table .entry)) (now (points .entry)) view (now (out .entry))) ⌝ }
+{
+    refusal::packed_answer(pair::label_view(table, points, view as usize, out)) as u64
+}
+
+// The label of the k-th live view in a code, printed into `out`.
+#[no_mangle]
+pub extern "C" fn ttw_code_label<'a>(
+    table: &'a [u8],
+    points: &'a [u8],
+    code: &[u8],
+    k: u64,
+    out: &mut [u8],
+) -> u64
+    ensures { λ r. ⌜ (r ≡ packed (codeAnswer (now (table .entry)) (now (points .entry)) (now (code .entry)) k (now (out .entry)))) × (now (out .exit) ≡ codeMemory (now (table .entry)) (now (points .entry)) (now (code .entry)) k (now (out .entry))) ⌝ }
+{
+    refusal::packed_answer(pair::label_in_code(table, points, code, k as usize, out)) as u64
 }

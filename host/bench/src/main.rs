@@ -16,6 +16,9 @@ const RUNS: usize = 41;
 /// The outward code that most views of the files have.
 const CODE: &[u8] = b"AB1 ";
 
+/// The bytes of a fresh label buffer.
+const LABEL: usize = 499;
+
 /// What is asked of a file; it answers one number.
 type Question = Box<dyn Fn(&[u8]) -> u64>;
 
@@ -29,7 +32,7 @@ struct Call<'a> {
 }
 
 /// Every call, on the files of a pair.
-fn calls_on(pair: &Pair) -> [Call<'_>; 5] {
+fn calls_on(pair: &Pair) -> Vec<Call<'_>> {
     let last = pair.views.len() as u64;
     let points_call = |name, library, plain| Call {
         name,
@@ -64,6 +67,42 @@ fn calls_on(pair: &Pair) -> [Call<'_>; 5] {
             Box::new(|points| calls::live(points, CODE)),
             Box::new(|points| answer(paper::live(points, CODE))),
         ),
+    ]
+    .into_iter()
+    .chain(label_calls(pair))
+    .collect()
+}
+
+/// The label calls, for the last view and for the first live view of the code.
+fn label_calls(pair: &Pair) -> [Call<'_>; 2] {
+    let last = pair.views.len() as u64;
+    let table = || pair.table.clone();
+    let (ours, theirs, ours_in_code, theirs_in_code) = (table(), table(), table(), table());
+    [
+        Call {
+            name: "ttw_label",
+            file: &pair.points,
+            library: Box::new(move |points| calls::label(&ours, points, last, &mut [0; LABEL])),
+            plain: Box::new(move |points| {
+                answer(paper::label(&theirs, points, last, &mut [0; LABEL]))
+            }),
+        },
+        Call {
+            name: "ttw_code_label",
+            file: &pair.points,
+            library: Box::new(move |points| {
+                calls::code_label(&ours_in_code, points, CODE, 1, &mut [0; LABEL])
+            }),
+            plain: Box::new(move |points| {
+                answer(paper::code_label(
+                    &theirs_in_code,
+                    points,
+                    CODE,
+                    1,
+                    &mut [0; LABEL],
+                ))
+            }),
+        },
     ]
 }
 
@@ -106,7 +145,7 @@ fn print_times(call: &Call, records: usize) {
     }
     let (library, plain, bare) = (median(library), median(plain), median(bare));
     println!(
-        "{:<11} {records:>7} {library:>11.1} {plain:>9.1} {:>6.2} {bare:>8.1} {:>7.1}",
+        "{:<14} {records:>7} {library:>11.1} {plain:>9.1} {:>6.2} {bare:>8.1} {:>7.1}",
         call.name,
         library / plain,
         library / bare
@@ -115,7 +154,7 @@ fn print_times(call: &Call, records: usize) {
 
 fn main() {
     println!(
-        "{:<11} {:>7} {:>11} {:>9} {:>6} {:>8} {:>7}",
+        "{:<14} {:>7} {:>11} {:>9} {:>6} {:>8} {:>7}",
         "call", "records", "library µs", "plain µs", "ratio", "bare µs", "passes"
     );
     for records in SIZES {

@@ -18,7 +18,7 @@
 //! | `pair` | Labels asked of two files |
 //! | `pack`, `build` | The pack; Pack check |
 //! | `report` | One run, complete |
-//! | [`make`] | Test data: files, damaged files, packs, codes |
+//! | [`make`] | Test data: files, damaged files, packs, codes, the guide's examples |
 //!
 //! # Decisions
 //!

@@ -50,6 +50,51 @@ pub fn live(points: &[u8], code: &[u8]) -> u64 {
     same(&format!("live in {code:?}"), points, answer, plain)
 }
 
+/// The label of a view, or the refusal, with a buffer of so many bytes.
+#[track_caller]
+pub fn label(table: &[u8], points: &[u8], view: u64, room: usize) -> u64 {
+    printed(
+        &format!("label of {view} into {room} bytes"),
+        points,
+        room,
+        |out| calls::label(table, points, view, out),
+        |out| paper::label(table, points, view, out),
+    )
+}
+
+/// The label of the k-th live view in a code, or the refusal, with a buffer of so many bytes.
+#[track_caller]
+pub fn code_label(table: &[u8], points: &[u8], code: &[u8], k: u64, room: usize) -> u64 {
+    printed(
+        &format!("label of {k} in {code:?} into {room} bytes"),
+        points,
+        room,
+        |out| calls::code_label(table, points, code, k, out),
+        |out| paper::code_label(table, points, code, k, out),
+    )
+}
+
+/// Bytes behind a lent buffer that no call may touch.
+const CANARIES: usize = 24;
+
+/// Asks both programs to print into a buffer that is full of telling bytes, and compares answer and buffer.
+#[track_caller]
+fn printed(
+    call: &str,
+    file: &[u8],
+    room: usize,
+    library: impl FnOnce(&mut [u8]) -> u64,
+    plain: impl FnOnce(&mut [u8]) -> Result<usize, Refusal>,
+) -> u64 {
+    let fresh: Vec<u8> = (0..room + CANARIES).map(|i| (i * 7 + 1) as u8).collect();
+    let mut ours = fresh.clone();
+    let mut theirs = fresh.clone();
+    let answer = library(&mut ours[..room]);
+    let expected = plain(&mut theirs[..room]).map(|bytes| bytes as u64);
+    assert!(*black_box(&ours) == theirs, "{call}: the buffers differ");
+    same(call, file, answer, expected)
+}
+
 /// Makes a call that only reads these bytes, and fails where it wrote.
 #[track_caller]
 fn lent(bytes: &[u8], call: impl FnOnce(&[u8]) -> u64) -> u64 {

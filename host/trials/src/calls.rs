@@ -8,6 +8,26 @@ extern "C" {
     fn ttw_views(points: *const u8, points_len: usize) -> u64;
     fn ttw_letter(points: *const u8, points_len: usize, view: u64) -> u64;
     fn ttw_live(points: *const u8, points_len: usize, code: *const u8, code_len: usize) -> u64;
+    fn ttw_label(
+        table: *const u8,
+        table_len: usize,
+        points: *const u8,
+        points_len: usize,
+        view: u64,
+        out: *mut u8,
+        out_len: usize,
+    ) -> u64;
+    fn ttw_code_label(
+        table: *const u8,
+        table_len: usize,
+        points: *const u8,
+        points_len: usize,
+        code: *const u8,
+        code_len: usize,
+        k: u64,
+        out: *mut u8,
+        out_len: usize,
+    ) -> u64;
 }
 
 /// How many records a table file has.
@@ -39,4 +59,38 @@ pub fn letter(points: &[u8], view: u64) -> u64 {
 pub fn live(points: &[u8], code: &[u8]) -> u64 {
     // SAFETY: as above, for both slices.
     unsafe { ttw_live(points.as_ptr(), points.len(), code.as_ptr(), code.len()) }
+}
+
+/// The label of a view, printed into `out`.
+pub fn label(table: &[u8], points: &[u8], view: u64, out: &mut [u8]) -> u64 {
+    // SAFETY: as above; `out` is a slice of its own, lent for the call alone.
+    unsafe {
+        ttw_label(
+            table.as_ptr(),
+            table.len(),
+            points.as_ptr(),
+            points.len(),
+            view,
+            out.as_mut_ptr(),
+            out.len(),
+        )
+    }
+}
+
+/// The label of the k-th live view in a code, printed into `out`.
+pub fn code_label(table: &[u8], points: &[u8], code: &[u8], k: u64, out: &mut [u8]) -> u64 {
+    // SAFETY: as above.
+    unsafe {
+        ttw_code_label(
+            table.as_ptr(),
+            table.len(),
+            points.as_ptr(),
+            points.len(),
+            code.as_ptr(),
+            code.len(),
+            k,
+            out.as_mut_ptr(),
+            out.len(),
+        )
+    }
 }

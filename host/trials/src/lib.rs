@@ -3,3 +3,4 @@
 pub mod agree;
 pub mod calls;
 pub mod leaves;
+pub mod samples;

@@ -1,6 +1,6 @@
 //! Makers of test data: single records and whole files from plain structs,
-//! random accepted pairs, damaged files, packs and outward codes. All are
-//! repeatable: the same seed gives the same bytes.
+//! random accepted pairs, damaged files, packs, outward codes and the guide's
+//! examples. All are repeatable: the same seed gives the same bytes.
 //!
 //! Records are written here field by field, in the order and with the widths of
 //! document 01, and not by the places that the reading uses, so that a wrong
@@ -8,6 +8,7 @@
 
 mod codes;
 mod damage;
+pub mod guide;
 mod packs;
 mod pairs;
 mod records;

@@ -1,6 +1,8 @@
 -- `faults::points::point_head_fault` meets its contract. Assumes nothing.
 use borrow.Author.Needs.{needs}
 use mathlib.Core.Path.{_≡_, refl, sym, ap, _∙_}
+use lib.Dec.{lit≤}
+use Rattle.faults.proofs.Laws.{digits-join}
 use Rattle.faults.proofs.points.point_head_fault.Statement.{statement}
 use Rattle.faults.proofs.points.point_head_fault.Tie as tie
 
@@ -22,47 +24,35 @@ digits-at-requires c κs = search needs
 first-of-requires-3 : tie.Need-first-of-requires-3
 first-of-requires-3 c κs = search needs
 
-digits-at-requires-2 : tie.Need-digits-at-requires-2
-digits-at-requires-2 c κs = search needs
+postcode-type-at-requires : tie.Need-postcode-type-at-requires
+postcode-type-at-requires c κs = search needs
 
 first-of-requires-4 : tie.Need-first-of-requires-4
 first-of-requires-4 c κs = search needs
 
-postcode-type-at-requires : tie.Need-postcode-type-at-requires
-postcode-type-at-requires c κs = search needs
+suffix-at-requires : tie.Need-suffix-at-requires
+suffix-at-requires c κs = search needs
 
 first-of-requires-5 : tie.Need-first-of-requires-5
 first-of-requires-5 c κs = search needs
 
-suffix-at-requires : tie.Need-suffix-at-requires
-suffix-at-requires c κs = search needs
+inward-at-requires : tie.Need-inward-at-requires
+inward-at-requires c κs = search needs
 
 first-of-requires-6 : tie.Need-first-of-requires-6
 first-of-requires-6 c κs = search needs
 
-inward-at-requires : tie.Need-inward-at-requires
-inward-at-requires c κs = search needs
+outward-at-requires : tie.Need-outward-at-requires
+outward-at-requires c κs = search needs
 
 first-of-requires-7 : tie.Need-first-of-requires-7
 first-of-requires-7 c κs = search needs
 
-outward-at-requires : tie.Need-outward-at-requires
-outward-at-requires c κs = search needs
+digits-at-requires-2 : tie.Need-digits-at-requires-2
+digits-at-requires-2 c κs = search needs
 
 first-of-requires-8 : tie.Need-first-of-requires-8
 first-of-requires-8 c κs = search needs
-
-digits-at-requires-3 : tie.Need-digits-at-requires-3
-digits-at-requires-3 c κs = search needs
-
-first-of-requires-9 : tie.Need-first-of-requires-9
-first-of-requires-9 c κs = search needs
-
-digits-at-requires-4 : tie.Need-digits-at-requires-4
-digits-at-requires-4 c κs = search needs
-
-first-of-requires-10 : tie.Need-first-of-requires-10
-first-of-requires-10 c κs = search needs
 
 returns : tie.Need-returns
 returns c =
@@ -81,11 +71,9 @@ returns c =
     let c₁₃ = c₁₂ .before in
     let c₁₄ = c₁₃ .before in
     let c₁₅ = c₁₄ .before in
-    let c₁₆ = c₁₅ .before in
-    let c₁₇ = c₁₆ .before in
-    let c₁₈ = c₁₇ .before in
-    let c₁₉ = c₁₈ .before in
-    rw (c .first-of10 .ensures, c₁ .digits-at4 .ensures, c₂ .first-of9 .ensures, c₃ .digits-at3 .ensures, c₄ .first-of8 .ensures, c₅ .outward-at .ensures, c₆ .first-of7 .ensures, c₇ .inward-at .ensures, c₈ .first-of6 .ensures, c₉ .suffix-at .ensures, c₁₀ .first-of5 .ensures, c₁₁ .postcode-type-at .ensures, c₁₂ .first-of4 .ensures, c₁₃ .digits-at2 .ensures, c₁₄ .first-of3 .ensures, c₁₅ .digits-at .ensures, c₁₆ .first-of2 .ensures, c₁₇ .letter-at .ensures, c₁₈ .first-of .ensures, c₁₉ .type-at .ensures)
+    let c₁₆ = c₁₅ .before .before in
+    rw (c .first-of8 .ensures, c₁ .digits-at2 .ensures, c₂ .first-of7 .ensures, c₃ .outward-at .ensures, c₄ .first-of6 .ensures, c₅ .inward-at .ensures, c₆ .first-of5 .ensures, c₇ .suffix-at .ensures, c₈ .first-of4 .ensures, c₉ .postcode-type-at .ensures, c₁₀ .first-of3 .ensures, c₁₁ .digits-at .ensures, c₁₂ .first-of2 .ensures, c₁₃ .letter-at .ensures, c₁₄ .first-of .ensures, c₁₅ .type-at .ensures)
+    (rw (digits-join (c₁₆ .args .rec .now) 24 32 40 (lit≤ tt) (lit≤ tt), digits-join (c₁₆ .args .rec .now) 0 8 14 (lit≤ tt) (lit≤ tt)))
 
 pub point-head-fault-spec : {M : Type 1} → statement M
 point-head-fault-spec =
@@ -97,18 +85,14 @@ point-head-fault-spec =
     first-of-requires-2
     digits-at-requires
     first-of-requires-3
-    digits-at-requires-2
-    first-of-requires-4
     postcode-type-at-requires
-    first-of-requires-5
+    first-of-requires-4
     suffix-at-requires
-    first-of-requires-6
+    first-of-requires-5
     inward-at-requires
-    first-of-requires-7
+    first-of-requires-6
     outward-at-requires
+    first-of-requires-7
+    digits-at-requires-2
     first-of-requires-8
-    digits-at-requires-3
-    first-of-requires-9
-    digits-at-requires-4
-    first-of-requires-10
     returns)

@@ -1,11 +1,9 @@
 -- `faults::points::view_fault` meets its contract. Assumes nothing.
 use borrow.Author.Needs.{needs}
 use mathlib.Core.Path.{_≡_, refl, sym, ap, _∙_}
+use Rattle.faults.proofs.Laws.{view-digits}
 use Rattle.faults.proofs.points.view_fault.Statement.{statement}
 use Rattle.faults.proofs.points.view_fault.Tie as tie
-
-view-end-fault-requires : tie.Need-view-end-fault-requires
-view-end-fault-requires c κs = search needs
 
 digits-at-requires : tie.Need-digits-at-requires
 digits-at-requires c κs = search needs
@@ -13,26 +11,26 @@ digits-at-requires c κs = search needs
 first-of-requires : tie.Need-first-of-requires
 first-of-requires c κs = search needs
 
-digits-at-requires-2 : tie.Need-digits-at-requires-2
-digits-at-requires-2 c κs = search needs
+yes-at-requires : tie.Need-yes-at-requires
+yes-at-requires c κs = search needs
 
 first-of-requires-2 : tie.Need-first-of-requires-2
 first-of-requires-2 c κs = search needs
 
-digits-at-requires-3 : tie.Need-digits-at-requires-3
-digits-at-requires-3 c κs = search needs
+text-at-requires : tie.Need-text-at-requires
+text-at-requires c κs = search needs
 
 first-of-requires-3 : tie.Need-first-of-requires-3
 first-of-requires-3 c κs = search needs
 
-digits-at-requires-4 : tie.Need-digits-at-requires-4
-digits-at-requires-4 c κs = search needs
+yes-at-requires-2 : tie.Need-yes-at-requires-2
+yes-at-requires-2 c κs = search needs
 
 first-of-requires-4 : tie.Need-first-of-requires-4
 first-of-requires-4 c κs = search needs
 
-digits-at-requires-5 : tie.Need-digits-at-requires-5
-digits-at-requires-5 c κs = search needs
+digits-at-requires-2 : tie.Need-digits-at-requires-2
+digits-at-requires-2 c κs = search needs
 
 first-of-requires-5 : tie.Need-first-of-requires-5
 first-of-requires-5 c κs = search needs
@@ -48,22 +46,22 @@ returns c =
     let c₇ = c₆ .before in
     let c₈ = c₇ .before in
     let c₉ = c₈ .before in
-    let c₁₀ = c₉ .before in
-    rw (c .first-of5 .ensures, c₁ .digits-at5 .ensures, c₂ .first-of4 .ensures, c₃ .digits-at4 .ensures, c₄ .first-of3 .ensures, c₅ .digits-at3 .ensures, c₆ .first-of2 .ensures, c₇ .digits-at2 .ensures, c₈ .first-of .ensures, c₉ .digits-at .ensures, c₁₀ .view-end-fault .ensures)
+    let c₁₀ = c₉ .before .before in
+    rw (c .first-of5 .ensures, c₁ .digits-at2 .ensures, c₂ .first-of4 .ensures, c₃ .yes-at2 .ensures, c₄ .first-of3 .ensures, c₅ .text-at .ensures, c₆ .first-of2 .ensures, c₇ .yes-at .ensures, c₈ .first-of .ensures, c₉ .digits-at .ensures)
+    (sym (view-digits (c₁₀ .args .rec .now) _))
 
 pub view-fault-spec : {M : Type 1} → statement M
 view-fault-spec =
     tie.close
     (tie.spec
-    view-end-fault-requires
     digits-at-requires
     first-of-requires
-    digits-at-requires-2
+    yes-at-requires
     first-of-requires-2
-    digits-at-requires-3
+    text-at-requires
     first-of-requires-3
-    digits-at-requires-4
+    yes-at-requires-2
     first-of-requires-4
-    digits-at-requires-5
+    digits-at-requires-2
     first-of-requires-5
     returns)

@@ -1,4 +1,4 @@
--- `record::parts::order_of` meets its contract. Assumes nothing.
+-- `record::parts::order_of` meets its contract. The invariant: what is left decides. Assumes nothing.
 use borrow.Author.Needs.{needs}
 use Prim.Native.Nat.{_-_, _≤_}
 use mathlib.Core.Path.{_≡_, refl, sym, ap, _∙_}
@@ -15,13 +15,18 @@ Inv-loop a b i₀ i = (i ≤ length a) × (i ≤ length b) × (order a b ≡ ord
 abbrev μ-loop : tie.MeasureT-loop
 μ-loop a b i₀ i = length a - i
 
+same-front-requires : tie.Need-same-front-requires Inv-loop μ-loop
+same-front-requires c κs = search needs
+
 loop-holds : tie.Need-loop-holds Inv-loop μ-loop
-loop-holds c = (search needs, search needs, refl)
+loop-holds c =
+    let f = c .same-front .ensures in
+    (f .in-a, f .in-b, f .decided)
 
 returns : tie.Need-returns Inv-loop μ-loop
 returns c =
     let l = c .before .before in
-    let a = l .before .args in
+    let a = l .before .before .before .before .args in
     sym (l .loop .inv .2 ∙ order-short (a .a .now) (a .b .now) (l .loop .i) (omega arith) (omega arith))
 
 shared-slice-read-if2 : tie.Need-shared-slice-read-if2 Inv-loop μ-loop
@@ -33,7 +38,7 @@ shared-slice-read-if2-2 c = search needs
 returns-2 : tie.Need-returns-2 Inv-loop μ-loop
 returns-2 c =
     let l = c .before .before .before .before .before in
-    let a = l .before .args in
+    let a = l .before .before .before .before .args in
     sym
     (l .loop .inv .2
     ∙ order-below (a .a .now) (a .b .now) (l .loop .i) (omega arith) (omega arith) (c .if2 .taken))
@@ -48,7 +53,7 @@ returns-3 : tie.Need-returns-3 Inv-loop μ-loop
 returns-3 c =
     let t = c .before .before .before in
     let l = t .before .before .before .before .before in
-    let a = l .before .args in
+    let a = l .before .before .before .before .args in
     sym
     (l .loop .inv .2
     ∙ order-above (a .a .now) (a .b .now) (l .loop .i) (omega arith) (omega arith) (t .if2 .left) (c .if3 .taken))
@@ -63,7 +68,7 @@ loop-again : tie.Need-loop-again Inv-loop μ-loop
 loop-again c =
     let t = c .before .before .before in
     let l = t .before .before .before .before .before in
-    let a = l .before .args in (
+    let a = l .before .before .before .before .args in (
       omega arith,
       omega arith,
       l .loop .inv .2
@@ -73,13 +78,13 @@ loop-again c =
 returns-4 : tie.Need-returns-4 Inv-loop μ-loop
 returns-4 c =
     let l = c .before .before in
-    let a = l .before .args in
+    let a = l .before .before .before .before .args in
     sym (l .loop .inv .2 ∙ order-end-below (a .a .now) (a .b .now) (l .loop .i) (omega arith) (omega arith))
 
 returns-5 : tie.Need-returns-5 Inv-loop μ-loop
 returns-5 c =
     let l = c .before .before in
-    let a = l .before .args in
+    let a = l .before .before .before .before .args in
     sym (l .loop .inv .2 ∙ order-end-same (a .a .now) (a .b .now) (l .loop .i) (omega arith) (omega arith))
 
 pub order-of-spec : {M : Type 1} → statement M
@@ -88,6 +93,7 @@ order-of-spec =
     (tie.spec
     Inv-loop
     μ-loop
+    same-front-requires
     loop-holds
     returns
     shared-slice-read-if2

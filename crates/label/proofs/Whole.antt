@@ -1,0 +1,112 @@
+-- Laws of the whole label: its four groups of lines by their bytes, and the answer and the memory of printing it.
+-- Assumes nothing.
+use Prim.Native.Nat.{ℕ, _+_, _≤_, _<_}
+use mathlib.Core.Path.{_≡_, refl, sym, ap, _∙_}
+use mathlib.Core.Bool.{Bool, true, false}
+use mathlib.Core.List.{List, [], _∷_, _++_, append-assoc}
+use native.Mathlib.Omega.{arith}
+use borrow.Author.Tests.{le-leb, lt-leb}
+use lib.Dec.{leb}
+use lib.ListN.{length, drop, length-append}
+use Rattle.refusal.specs.declared.Reason.the-variants.{Room}
+use Rattle.refusal.specs.declared.Answer.the-variants.{Value, Refused}
+use Rattle.address.specs.Address.{Elements}
+use Rattle.label.specs.declared.Spans.{Spans}
+use Rattle.label.specs.declared.shape.Shape.{Shape}
+use Rattle.label.specs.declared.shape.Shape.the-variants.{Bare, NameLine, NameFront, SubLine, SubFront, BothLine, BothFront, SubLineNameFront, TwoLines}
+use Rattle.label.specs.declared.shape.Lines.{Lines}
+use Rattle.label.specs.declared.shape.Front.{Front}
+use Rattle.label.specs.Lines.{line, boxLine, spaced, fronted, places, premisesOf, linesOf}
+use Rattle.label.specs.Label.{ended, labelOf, roomAnswer, roomMemory}
+use Rattle.label.specs.Spans.{textIn2, elementsIn}
+use Rattle.label.specs.Put.{frontText, opened, headLines, rowLines}
+use Rattle.label.specs.Rows.{shapeIn, linesFor, frontFor}
+use Rattle.label.proofs.Places.{ended-append}
+use Rattle.label.proofs.Table.{row-lines, row-front}
+
+-- four groups of lines
+four-bytes : (a b c d : List (List ℕ)) → ended a ++ (ended b ++ (ended c ++ ended d)) ≡ ended (a ++ (b ++ (c ++ d)))
+four-bytes a b c d =
+    ap (λ (z : List ℕ). ended a ++ z)
+    (ap (λ (z : List ℕ). ended b ++ z) (sym (ended-append c d)) ∙ sym (ended-append b (c ++ d)))
+    ∙ sym (ended-append a (b ++ (c ++ d)))
+
+-- of elements, with the premises lines and the front of the table
+groups : (e : Elements)
+    → ended (headLines e)
+    ++ (ended (premisesOf e .lines)
+    ++ (ended (fronted (premisesOf e .front) (places e)) ++ ended (spaced (e .outward) (e .inward) ∷ [])))
+    ≡ labelOf e
+unfolding labelOf linesOf
+groups e =
+    let rest =
+    premisesOf e .lines ++ (fronted (premisesOf e .front) (places e) ++ (spaced (e .outward) (e .inward) ∷ [])) in
+    four-bytes (headLines e) (premisesOf e .lines) (fronted (premisesOf e .front) (places e))
+    (spaced (e .outward) (e .inward) ∷ [])
+    ∙ ap ended
+    (append-assoc (line (e .organisation)) (line (e .department) ++ boxLine (e .box)) rest
+    ∙ ap (λ (z : List (List ℕ)). line (e .organisation) ++ z)
+    (append-assoc (line (e .department)) (boxLine (e .box)) rest))
+
+-- every front is pending at first
+pending : (sh : Shape) (e : Spans) → frontFor sh e .pending ≡ true
+pending Bare e = refl
+pending NameLine e = refl
+pending NameFront e = refl
+pending SubLine e = refl
+pending SubFront e = refl
+pending BothLine e = refl
+pending BothFront e = refl
+pending SubLineNameFront e = refl
+pending TwoLines e = refl
+
+-- what the code writes is the label
+module _ (a b : List ℕ) (e : Spans) (sh : Shape) (l : Lines) (f : Front)
+    (is-shape : sh ≡ shapeIn a b e) (is-lines : l ≡ linesFor sh e) (is-front : f ≡ frontFor sh e) where
+  pub label-bytes : ended (headLines (elementsIn a b e))
+      ++ (ended (rowLines a b l)
+      ++ (ended (opened (f .pending) (frontText a b f) (places (elementsIn a b e)))
+      ++ ended (spaced (textIn2 a b (e .outward)) (textIn2 a b (e .inward)) ∷ [])))
+      ≡ labelOf (elementsIn a b e)
+  unfolding elementsIn
+  label-bytes =
+      rw (
+        is-lines,
+        is-front,
+        pending sh e,
+        row-lines a b e sh is-shape,
+        row-front a b e sh is-shape,
+      )
+      (groups (elementsIn a b e))
+
+  -- and its size
+  pub label-size : {h i j k : ℕ} → h ≡ length (ended (headLines (elementsIn a b e)))
+      → i ≡ length (ended (rowLines a b l))
+      → j ≡ length (ended (opened (f .pending) (frontText a b f) (places (elementsIn a b e))))
+      → k ≡ length (ended (spaced (textIn2 a b (e .outward)) (textIn2 a b (e .inward)) ∷ []))
+      → h + i + j + k ≡ length (labelOf (elementsIn a b e))
+  label-size p q r s =
+      four (ended (headLines (elementsIn a b e))) (ended (rowLines a b l))
+      (ended (opened (f .pending) (frontText a b f) (places (elementsIn a b e))))
+      (ended (spaced (textIn2 a b (e .outward)) (textIn2 a b (e .inward)) ∷ [])) p q r s
+      ∙ ap length label-bytes
+    where
+      four : (w x y z : List ℕ) {h i j k : ℕ} → h ≡ length w → i ≡ length x → j ≡ length y → k ≡ length z
+          → h + i + j + k ≡ length (w ++ (x ++ (y ++ z)))
+      four w x y z p q r s =
+          omega (arith, length-append w (x ++ (y ++ z)), length-append x (y ++ z), length-append y z)
+
+-- the answer and the memory where there is no room, and where there is
+pub room-refused : (t o : List ℕ) (n : ℕ) → n ≡ length t → length o < n
+    → (Refused 0 (Room n) ≡ roomAnswer t o) × (o ≡ roomMemory t o)
+unfolding roomAnswer roomMemory
+room-refused t o n p h =
+    let s : leb (length t) (length o) ≡ false = lt-leb (length t) (length o) (omega arith) in
+    (simp (s, p), simp s)
+
+pub room-written : (t o y : List ℕ) (r : ℕ) → length t ≤ length o → r ≡ length t → y ≡ t ++ drop (length t) o
+    → (Value r ≡ roomAnswer t o) × (y ≡ roomMemory t o)
+unfolding roomAnswer roomMemory
+room-written t o y r h p e =
+    let s : leb (length t) (length o) ≡ true = le-leb (length t) (length o) h in
+    (simp (s, p), simp s e)

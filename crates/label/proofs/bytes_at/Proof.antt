@@ -1,0 +1,58 @@
+-- `label::bytes_at` meets its contract. Assumes nothing.
+use borrow.Author.Needs.{needs}
+use mathlib.Core.Path.{_≡_, refl, sym, ap, _∙_}
+use native.Mathlib.Omega.{arith}
+use native.Mathlib.Nat.{min-le-right}
+use lib.ListN.{length}
+use Rattle.label.proofs.Texts.{cut-part, past-part}
+use Rattle.label.proofs.bytes_at.Statement.{statement}
+use Rattle.label.proofs.bytes_at.Tie as tie
+
+sub-lesser : tie.Need-sub-lesser
+sub-lesser c = search needs
+
+lesser-requires : tie.Need-lesser-requires
+lesser-requires c κs = search needs
+
+add-end : tie.Need-add-end
+add-end c = search needs
+
+sub-result : tie.Need-sub-result
+sub-result c = search needs
+
+part-result-start : tie.Need-part-result-start
+part-result-start c = search needs
+
+part-result-end : tie.Need-part-result-end
+part-result-end c = search needs
+
+slice-aggregate-result : tie.Need-slice-aggregate-result
+slice-aggregate-result c = search needs
+
+returns : tie.Need-returns
+returns c =
+    let c₁ = c .before in
+    let c₂ = c₁ .before in
+    let c₃ = c₂ .before .before in
+    rw (c₁ .lesser .ensures)
+    (cut-part (c₃ .args .x .now) (c₃ .args .at) (c₃ .args .len) (c₂ .if1 .taken))
+
+returns-2 : tie.Need-returns-2
+returns-2 c =
+    let c₁ = c .before in
+    let c₂ = c₁ .before .before in
+    past-part (c₂ .args .x .now) (c₂ .args .at) (c₂ .args .len) (c₁ .if1 .left)
+
+pub bytes-at-spec : {M : Type 1} → statement M
+bytes-at-spec =
+    tie.close
+    (tie.spec
+    sub-lesser
+    lesser-requires
+    add-end
+    sub-result
+    part-result-start
+    part-result-end
+    slice-aggregate-result
+    returns
+    returns-2)

@@ -1,0 +1,6 @@
+pub mod Lines
+pub mod Label
+pub mod Spans
+pub mod Put
+pub mod Rows
+pub mod Widths

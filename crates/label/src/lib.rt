@@ -1,0 +1,112 @@
+// The label of elements whose texts stand in two lent slices: its length, and its printing into a lent buffer.
+pub mod inner;
+mod lens;
+mod pieces;
+mod shape;
+
+use lens::head_len;
+use lens::pair_len;
+use lens::places_len;
+use lens::premises_len;
+use refusal::Answer;
+use refusal::Reason;
+pub use shape::Front;
+pub use shape::Lines;
+pub use shape::Shape;
+use shape::front_of;
+use shape::lines_of;
+use shape::shape_of;
+ghost use mathlib.Core.Path.{_≡_};
+ghost use Prim.Native.Nat.{_+_, min};
+ghost use lib.ListN.{length};
+ghost use Rattle.text.specs.Text.{part};
+ghost use Rattle.label.specs.Label.{labelOf, roomAnswer, roomMemory};
+ghost use Rattle.label.specs.Spans.{textIn2, elementsIn};
+
+// Where a text stands: so many bytes at a place of the first slice or of the second.
+pub struct Span {
+    pub first: bool,
+    pub at: usize,
+    pub len: u8,
+}
+
+// Where the elements of a label stand. A text of no bytes is absent, and so is the number 0.
+pub struct Spans {
+    pub organisation: Span,
+    pub department: Span,
+    pub po_box: Span,
+    pub sub_building: Span,
+    pub building: Span,
+    pub number: u16,
+    pub concatenation: bool,
+    pub dependent: Span,
+    pub dependent_descriptor: Span,
+    pub thoroughfare: Span,
+    pub descriptor: Span,
+    pub double_locality: Span,
+    pub dependent_locality: Span,
+    pub town: Span,
+    pub outward: Span,
+    pub inward: Span,
+}
+
+fn lesser(a: usize, b: usize) -> usize
+    ensures { λ r. ⌜ r ≡ min a b ⌝ }
+{
+    if a < b { a } else { b }
+}
+
+// So many bytes at a place, as far as there are bytes.
+fn bytes_at(x: &[u8], at: usize, len: u8) -> &[u8]
+    ensures { λ r. ⌜ now r ≡ part (now (x .entry)) at (at + len) ⌝ }
+{
+    if at < x.len() {
+        let n = lesser(len as usize, x.len() - at);
+        let end = at + n;
+        &x[at..end]
+    } else {
+        &x[..0]
+    }
+}
+
+// The text that stands at a span, as a part of its slice.
+pub fn text_of<'a>(a: &'a [u8], b: &'a [u8], s: Span) -> &'a [u8]
+    ensures { λ r. ⌜ now r ≡ textIn2 (now (a .entry)) (now (b .entry)) s ⌝ }
+{
+    let at = s.at;
+    let len = s.len;
+    if s.first {
+        bytes_at(a, at, len)
+    } else {
+        bytes_at(b, at, len)
+    }
+}
+
+// How many bytes the label has.
+pub fn label_len<'a>(a: &'a [u8], b: &'a [u8], e: Spans) -> usize
+    ensures { λ r. ⌜ r ≡ length (labelOf (elementsIn (now (a .entry)) (now (b .entry)) e)) ⌝ }
+{
+    let shape = shape_of(a, b, e);
+    let lines = lines_of(shape, e);
+    let front = front_of(shape, e);
+    let outward = e.outward;
+    let inward = e.inward;
+    let i = head_len(a, b, e);
+    let j = premises_len(a, b, lines);
+    let k = places_len(a, b, front, e);
+    i + j + k + pair_len(a, b, outward, inward)
+}
+
+// Prints the label, or refuses and writes nothing: its length is known before the first byte is written.
+pub fn print_label<'a>(a: &'a [u8], b: &'a [u8], e: Spans, out: &mut [u8]) -> Answer
+    ensures { λ r. ⌜ (r ≡ roomAnswer (labelOf (elementsIn (now (a .entry)) (now (b .entry)) e)) (now (out .entry))) × (now (out .exit) ≡ roomMemory (labelOf (elementsIn (now (a .entry)) (now (b .entry)) e)) (now (out .entry))) ⌝ }
+{
+    let needed = label_len(a, b, e);
+    if out.len() < needed {
+        return Answer::Refused {
+            file: 0,
+            reason: Reason::Room { needed },
+        };
+    }
+    Answer::Value(inner::write_label(a, b, e, out))
+}
