@@ -2,7 +2,8 @@
  *
  * A slice is a pointer and a length; a length of 0 takes any pointer that is not null. Every call may be made with any
  * bytes and any numbers, and has nothing to check beforehand. Nothing is kept between calls and nothing is shared, so
- * calls may run on several threads at once. No call writes into the slices that it only reads.
+ * calls may run on several threads at once. No call writes into the slices that it only reads. A call on files takes less
+ * than 512 bytes of stack, a label call less than 2,048.
  *
  * Each call answers one number. Take it apart with the macros below and never compare whole words: later calls fill bits
  * that are 0 today.
