@@ -23,7 +23,7 @@ use Rattle.files.proofs.Laws.{judged-fine, verdict-length, verdict-head
 bad-fine : (why : Reason) → Bad why ≡ Fine → ⊥
 bad-fine why e = let z : _≡_ {A = ℕ} 0 1 = cc in omega arith
 
-refused-value : (file n : ℕ) (why : Reason) → Refused file why ≡ Value n → ⊥
+pub refused-value : (file n : ℕ) (why : Reason) → Refused file why ≡ Value n → ⊥
 refused-value file n why e = let z : _≡_ {A = ℕ} 0 1 = cc in omega arith
 
 -- of a scan that found nothing, each verdict is fine

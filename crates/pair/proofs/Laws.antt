@@ -17,7 +17,7 @@ use Rattle.refusal.specs.declared.Answer.{Answer}
 use Rattle.refusal.specs.declared.Answer.the-variants.{Value, Refused}
 use Rattle.files.specs.Check.{checked}
 use Rattle.files.specs.Formats.{tableFormat, pointFormat}
-use Rattle.files.proofs.Accepted.{Accepted, accepted}
+use Rattle.files.proofs.Accepted.{Accepted, accepted, refused-value}
 use Rattle.views.specs.Views.{wanted, wantedCount, wantedAt}
 use Rattle.views.proofs.Laws.{wanted-at-wanted, wanted-at-zero, wanted-at-none}
 use Rattle.address.specs.Address.{Elements}
@@ -57,9 +57,6 @@ module _ (table points : List ℕ) (place : ℕ) (out : List ℕ) where
         }
 
 -- both files together
-refused-value : (file n : ℕ) (why : Reason) → Refused file why ≡ Value n → ⊥
-refused-value file n why e = let z : _≡_ {A = ℕ} 0 1 = cc in omega arith
-
 value-refused : (file n : ℕ) (why : Reason) → Value n ≡ Refused file why → ⊥
 value-refused file n why e = refused-value file n why (sym e)
 
