@@ -1,0 +1,62 @@
+-- Cutting the pack of a code from a source: which views are packed, what is refused, what is written. "Building: .. the
+-- label's 8 or 9 of the first live view in that code that has one, together with its view number, then 10."
+-- Assumes nothing.
+use Prim.Native.Nat.{ℕ}
+use mathlib.Core.Bool.{cond}
+use mathlib.Core.List.{List, [], _∷_}
+use Rattle.record.specs.Ends.{same}
+use Rattle.refusal.specs.declared.Reason.{Reason}
+use Rattle.refusal.specs.declared.Reason.the-variants.{Length, Header, Trailer, Malformed, NotAbove, Follower, NoSuchNumber, Combination, MissingKey, Room, BadPack, BadCode}
+use Rattle.refusal.specs.declared.Answer.{Answer}
+use Rattle.refusal.specs.declared.Answer.the-variants.{Refused}
+use Rattle.files.specs.declared.check.Verdict.{Verdict}
+use Rattle.files.specs.declared.check.Verdict.the-variants.{Fine, Bad}
+use Rattle.files.specs.Check.{orElse}
+use Rattle.address.specs.Address.{Lookup, Address}
+use Rattle.address.specs.Resolve.{Resolved, elements, refused, resolve}
+use Rattle.label.specs.Label.{roomAnswer, roomMemory}
+use Rattle.layout.specs.Layout.{packOf}
+
+-- "Points: the live views of that outward code in file order"
+abbrev pub inCode : List ℕ → List Address → List Address
+inCode code [] = []
+inCode code (a ∷ more) = cond (same (a .outward) code) (a ∷ inCode code more) (inCode code more)
+
+-- a label's refusal "together with its view number"
+abbrev pub withView : ℕ → Reason → Reason
+withView view Length = Length
+withView view Header = Header
+withView view (Trailer last) = Trailer last
+withView view (Malformed at) = Malformed at
+withView view (NotAbove at) = NotAbove at
+withView view (Follower at) = Follower at
+withView view NoSuchNumber = NoSuchNumber
+withView view (Combination rule other) = Combination rule view
+withView view (MissingKey field other) = MissingKey field view
+withView view (Room needed) = Room needed
+withView view (BadPack step) = BadPack step
+withView view BadCode = BadCode
+
+abbrev pub badOf : ℕ → Resolved → Verdict
+badOf view (elements e) = Fine
+badOf view (refused why) = Bad (withView view why)
+
+-- "of the first live view in that code that has one"
+abbrev pub firstBad : Lookup → List Address → Verdict
+firstBad look [] = Fine
+firstBad look (a ∷ more) = orElse (badOf (a .view) (resolve look a)) (firstBad look more)
+
+abbrev pub cutWith : Verdict → List ℕ → List ℕ → Answer
+cutWith Fine pack out = roomAnswer pack out
+cutWith (Bad why) pack out = Refused 0 why
+
+abbrev pub leftWith : Verdict → List ℕ → List ℕ → List ℕ
+leftWith Fine pack out = roomMemory pack out
+leftWith (Bad why) pack out = out
+
+-- the bytes of the pack of these views, or the refusal; "then 10"
+unfoldable pub cutAnswer : Lookup → List Address → List ℕ → List ℕ → Answer
+cutAnswer look views code out = cutWith (firstBad look views) (packOf look views code) out
+
+unfoldable pub cutMemory : Lookup → List Address → List ℕ → List ℕ → List ℕ
+cutMemory look views code out = leftWith (firstBad look views) (packOf look views code) out

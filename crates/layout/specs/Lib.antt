@@ -1,0 +1,6 @@
+pub mod Numbers
+pub mod Layout
+pub mod Opening
+pub mod Points
+pub mod Cutting
+pub mod Sound
