@@ -8,7 +8,7 @@ ghost use Prim.Native.Nat.{_≤_};
 ghost use Rattle.keys.specs.Keys.{says, forbiddenIn, rowFor, lacksRow, laterMissing, missingIn, refusalIn};
 
 // Whether a field says another number than zero.
-fn says_some(rec: &[u8], start: usize, end: usize) -> bool
+pub fn says_some(rec: &[u8], start: usize, end: usize) -> bool
     ensures { λ r. ⌜ r ≡ says (now (rec .entry)) start end ⌝ }
 {
     text::value_of(record::part_of(rec, start, end)) != 0

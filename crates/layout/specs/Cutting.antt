@@ -5,8 +5,7 @@ use Prim.Native.Nat.{ℕ}
 use mathlib.Core.Bool.{cond}
 use mathlib.Core.List.{List, [], _∷_}
 use Rattle.record.specs.Ends.{same}
-use Rattle.refusal.specs.declared.Reason.{Reason}
-use Rattle.refusal.specs.declared.Reason.the-variants.{Length, Header, Trailer, Malformed, NotAbove, Follower, NoSuchNumber, Combination, MissingKey, Room, BadPack, BadCode}
+use Rattle.refusal.specs.Refusal.{withView}
 use Rattle.refusal.specs.declared.Answer.{Answer}
 use Rattle.refusal.specs.declared.Answer.the-variants.{Refused}
 use Rattle.files.specs.declared.check.Verdict.{Verdict}
@@ -23,20 +22,6 @@ inCode code [] = []
 inCode code (a ∷ more) = cond (same (a .outward) code) (a ∷ inCode code more) (inCode code more)
 
 -- a label's refusal "together with its view number"
-abbrev pub withView : ℕ → Reason → Reason
-withView view Length = Length
-withView view Header = Header
-withView view (Trailer last) = Trailer last
-withView view (Malformed at) = Malformed at
-withView view (NotAbove at) = NotAbove at
-withView view (Follower at) = Follower at
-withView view NoSuchNumber = NoSuchNumber
-withView view (Combination rule other) = Combination rule view
-withView view (MissingKey field other) = MissingKey field view
-withView view (Room needed) = Room needed
-withView view (BadPack step) = BadPack step
-withView view BadCode = BadCode
-
 abbrev pub badOf : ℕ → Resolved → Verdict
 badOf view (elements e) = Fine
 badOf view (refused why) = Bad (withView view why)

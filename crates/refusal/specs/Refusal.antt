@@ -52,3 +52,18 @@ second BadCode = 0
 -- refusal 4 names the record; the byte of the first fault is known where it is made, and is not told
 abbrev pub malformedAt : ℕ → ℕ → Reason
 malformedAt at byte = Malformed at
+
+-- the same refusal "together with its view number"; only 8 and 9 have one
+abbrev pub withView : ℕ → Reason → Reason
+withView view Length = Length
+withView view Header = Header
+withView view (Trailer last) = Trailer last
+withView view (Malformed at) = Malformed at
+withView view (NotAbove at) = NotAbove at
+withView view (Follower at) = Follower at
+withView view NoSuchNumber = NoSuchNumber
+withView view (Combination rule other) = Combination rule view
+withView view (MissingKey field other) = MissingKey field view
+withView view (Room needed) = Room needed
+withView view (BadPack step) = BadPack step
+withView view BadCode = BadCode

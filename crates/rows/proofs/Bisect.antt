@@ -72,6 +72,22 @@ module _ (ok : ℕ → Bool) where
         half (high - low) (omega arith) ∙ simp e (bisect-fuel (high - low) (high - m) m high (omega arith) (le-refl _))
 
 -- the least place that passes, all from there on passing
+-- the answer is no further than the end of what is searched
+pub bisect-to : (ok : ℕ → Bool) (fuel low high : ℕ) → low ≤ high → bisect ok fuel low high ≤ high
+bisect-to ok zero low high o = o
+bisect-to ok (suc fuel) low high o =
+    by-tests (ltb low high) (ok (middle low high)) refl
+    (λ h. bisect-to ok fuel low (middle low high) (omega arith))
+    (λ h. bisect-to ok fuel (suc (middle low high)) high (omega arith))
+  where
+    by-tests : (t u : Bool) → ltb low high ≡ t
+        → (low < high → bisect ok fuel low (middle low high) ≤ middle low high)
+        → (low < high → bisect ok fuel (suc (middle low high)) high ≤ high)
+        → cond t (cond u (bisect ok fuel low (middle low high)) (bisect ok fuel (suc (middle low high)) high)) low ≤ high
+    by-tests true true e below above = let h = ltb-true low high e in omega (arith, below h)
+    by-tests true false e below above = above (ltb-true low high e)
+    by-tests false u e below above = o
+
 pub record Least (ok : ℕ → Bool) (low high r : ℕ) : Type 0 where
   pub from : low ≤ r
   pub to : r ≤ high

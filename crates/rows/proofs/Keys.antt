@@ -2,18 +2,20 @@
 -- Assumes nothing.
 use Prim.Native.Nat.{ℕ, _+_, _-_, _≤_, _<_}
 use mathlib.Core.Path.{_≡_, refl}
+use mathlib.Core.Bool.{Bool, true, false, cond, _&&_}
 use mathlib.Core.List.{List, [], _∷_}
 use native.Mathlib.Omega.{arith}
 use native.Mathlib.Nat.{le-refl, le-antisymm}
 use native.Mathlib.Numerals.{add-one}
-use borrow.Author.Tests.{lt-ltb, le-ltb, ne-eqb}
+use borrow.Author.Tests.{lt-ltb, le-ltb, ne-eqb, leb-true, leb-false}
+use lib.Dec.{leb, ltb}
 use lib.ListN.{length, getD}
 use Rattle.text.specs.Text.{part}
-use Rattle.record.specs.Ends.{order, above}
+use Rattle.record.specs.Ends.{order, above, same}
 use Rattle.rows.specs.Rows.{keyAt, lastOf}
 use Rattle.rows.specs.Search.{middle, bisect, upperBound, found}
 use Rattle.rows.proofs.Order.{first-below, first-above, first-same, above-yes, above-no}
-use Rattle.rows.proofs.Bisect.{bisect-fuel, bisect-end, bisect-low, bisect-high}
+use Rattle.rows.proofs.Bisect.{bisect-fuel, bisect-end, bisect-to, bisect-low, bisect-high}
 
 pub key-none : (rec key : List ℕ) (kind : ℕ) → length rec ≡ 0 → order (part rec 0 9) (kind ∷ key) ≡ 1
 key-none [] key kind e = refl
@@ -74,3 +76,25 @@ module _ (file want : List ℕ) where
     unfolding found
     found-other n =
         simp (lt-ltb 1 (upperBound file want) h, ne-eqb (order (keyAt file (upperBound file want - 1)) want) 0 n)
+
+-- a row that is found stands before the trailer
+pub found-before : (file want : List ℕ) → found file want ≤ lastOf file - 1
+unfolding found
+found-before file want = by-range (leb 1 (lastOf file)) refl
+  where
+    end : ℕ
+    end = upperBound file want
+
+    by-tests : end - 1 ≤ lastOf file - 1 → (t : Bool) → cond t (end - 1) 0 ≤ lastOf file - 1
+    by-tests h true = h
+    by-tests h false = omega arith
+
+    by-range : (t : Bool) → leb 1 (lastOf file) ≡ t
+        → cond (ltb 1 end && same (keyAt file (end - 1)) want) (end - 1) 0 ≤ lastOf file - 1
+    by-range true e =
+        let h = bisect-to (λ i. above (keyAt file i) want) (lastOf file) 1 (lastOf file) (leb-true 1 (lastOf file) e) in
+        by-tests (omega (arith, h)) (ltb 1 end && same (keyAt file (end - 1)) want)
+    by-range false e =
+        let h = bisect-end (λ i. above (keyAt file i) want) (lastOf file) 1 (lastOf file)
+        (omega (arith, leb-false 1 (lastOf file) e)) in
+        by-tests (omega (arith, h)) (ltb 1 end && same (keyAt file (end - 1)) want)

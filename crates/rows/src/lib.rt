@@ -7,8 +7,8 @@ ghost use Rattle.record.specs.Ends.{order};
 ghost use Rattle.rows.specs.Rows.{keyAt, lastOf};
 ghost use Rattle.rows.specs.Search.{upperBound, found};
 
-// The trailer's place.
-fn last_of(table: &[u8]) -> usize
+// The trailer's place; 0 where the file has no records.
+pub fn last_of(table: &[u8]) -> usize
     ensures { λ r. ⌜ r ≡ lastOf (now (table .entry)) ⌝ }
 {
     let records = table.len() / Table::WIDTH;

@@ -11,7 +11,7 @@ use lib.Dec.{ltb, eqb}
 use lib.ListN.{length, getD, List·getD-eq-default}
 use Rattle.text.proofs.Tests.{or-false}
 use Rattle.record.specs.Parts.{recordAt}
-use Rattle.views.specs.Views.{isView, inCode, wanted, lastOf, wantedFrom, wantedIn, wantedCount, wantedAt, nextFrom, nextWanted}
+use Rattle.views.specs.Views.{isView, inCode, wanted, lastOf, wantedFrom, wantedIn, wantedCount, wantedAt, nextFrom, nextWanted, placesFrom, viewNumber}
 
 -- whether a record is wanted, by the tests in the code's order
 pub wanted-other : (code rec : List ℕ) → isView rec ≡ false → wanted code rec ≡ false
@@ -186,24 +186,25 @@ module _ (code file : List ℕ) where
           let again = rw (next-next i) at (next-none (nextWanted code file i)) in
           next-none i h ∙ sym (again h)
 
-  -- how many there are, counted from one that is wanted to the next
-  pub count-start :
-      wantedCount code file
-      ≡ length (wantedFrom code file (lastOf file - nextWanted code file 1) (nextWanted code file 1))
-  unfolding wantedCount wantedIn
-  count-start = ap length (next-skip 1)
+  -- the places from one that is wanted to the next
+  pub places-start : wantedIn code file ≡ placesFrom code file (nextWanted code file 1)
+  unfolding wantedIn
+  places-start = next-skip 1
 
-  pub count-step : (i : ℕ) → nextWanted code file i ≡ i → i < lastOf file
-      → length (wantedFrom code file (lastOf file - i) i)
-      ≡ suc (length (wantedFrom code file (lastOf file - nextWanted code file (i + 1)) (nextWanted code file (i + 1))))
-  count-step i e h = ap length (some h ∙ ap (λ (ps : List ℕ). i ∷ ps) (next-skip (i + 1)))
+  pub places-step : (i : ℕ) → nextWanted code file i ≡ i → i < lastOf file
+      → placesFrom code file i ≡ i ∷ placesFrom code file (nextWanted code file (i + 1))
+  places-step i e h = some h ∙ ap (λ (ps : List ℕ). i ∷ ps) (next-skip (i + 1))
     where
       some : i < lastOf file
           → wantedFrom code file (lastOf file - i) i ≡ i ∷ wantedFrom code file (lastOf file - (i + 1)) (i + 1)
       some = rw e at (next-some i)
 
-  pub count-end : (i : ℕ) → lastOf file ≤ i → length (wantedFrom code file (lastOf file - i) i) ≡ 0
-  count-end i h = rw (let z : lastOf file - i ≡ 0 = omega arith in z)
+  pub places-end : (i : ℕ) → lastOf file ≤ i → placesFrom code file i ≡ []
+  places-end i h = rw (let z : lastOf file - i ≡ 0 = omega arith in z)
+
+  pub count-is : wantedCount code file ≡ length (placesFrom code file (nextWanted code file 1))
+  unfolding wantedCount
+  count-is = ap length places-start
 
   pub count-bound : wantedCount code file ≤ length file / 168
   unfolding wantedCount wantedIn
@@ -243,3 +244,22 @@ module _ (code file : List ℕ) where
   pub wanted-at-none : (k : ℕ) → wantedCount code file < k → wantedAt code file k ≡ 0
   unfolding wantedAt wantedCount
   wanted-at-none k h = List·getD-eq-default (0 ∷ wantedIn code file) 0 {n = k} (omega arith)
+
+-- the number of the view at a place, counted up to it
+module _ (file : List ℕ) where
+  pub number-is : (place : ℕ) → viewNumber file place ≡ length (wantedFrom [] file place 1)
+  unfolding viewNumber
+  number-is place = refl
+
+  pub number-step : (place i : ℕ) (t : Bool) → i < place → wanted [] (recordAt 168 file (i + 1)) ≡ t
+      → length (wantedFrom [] file (place - i) (i + 1))
+      ≡ cond t 1 0 + length (wantedFrom [] file (place - (i + 1)) (i + 1 + 1))
+  number-step place i t h e =
+      rw (let k : place - i ≡ suc (place - (i + 1)) = omega arith in k)
+      (by-test t e)
+    where
+      by-test : (t : Bool) → wanted [] (recordAt 168 file (i + 1)) ≡ t
+          → length (wantedFrom [] file (suc (place - (i + 1))) (i + 1))
+          ≡ cond t 1 0 + length (wantedFrom [] file (place - (i + 1)) (i + 1 + 1))
+      by-test true e = simp (e, add-one (i + 1)) (omega arith)
+      by-test false e = simp (e, add-one (i + 1)) (omega arith)

@@ -59,3 +59,11 @@ nextFrom code file (suc k) i = cond (wanted code (recordAt 168 file i)) i (nextF
 -- the step: the first that is wanted from i on; the trailer's place where there is none, or i where that is behind it
 unfoldable pub nextWanted : List ℕ → List ℕ → ℕ → ℕ
 nextWanted code file i = nextFrom code file (lastOf file - i) i
+
+-- those from a place on
+abbrev pub placesFrom : List ℕ → List ℕ → ℕ → List ℕ
+placesFrom code file at = wantedFrom code file (lastOf file - at) at
+
+-- the number of the view at a place: how many views there are up to it
+unfoldable pub viewNumber : List ℕ → ℕ → ℕ
+viewNumber file place = length (wantedFrom [] file place 1)

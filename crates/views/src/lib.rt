@@ -1,7 +1,7 @@
 // Views and live views of a point file: the step to the next one, the k-th, and how many there are. Any bytes may be
 // asked; only of an accepted file is the answer what document 01 calls a view.
 ghost use mathlib.Core.Path.{_≡_};
-ghost use Rattle.views.specs.Views.{wanted, lastOf, nextWanted, wantedCount, wantedAt};
+ghost use Rattle.views.specs.Views.{wanted, lastOf, nextWanted, wantedCount, wantedAt, viewNumber};
 
 // Whether a record is wanted: a live view of the code; where no code is given, any view.
 pub fn is_wanted(rec: &[u8], code: &[u8]) -> bool
@@ -20,7 +20,7 @@ pub fn is_wanted(rec: &[u8], code: &[u8]) -> bool
 }
 
 // The trailer's place; 0 where the file has no records.
-fn last_of(points: &[u8]) -> usize
+pub fn last_of(points: &[u8]) -> usize
     ensures { λ r. ⌜ r ≡ lastOf (now (points .entry)) ⌝ }
 {
     let n = points.len() / record::Point::WIDTH;
@@ -53,6 +53,21 @@ pub fn count_wanted(points: &[u8], code: &[u8]) -> usize
     while at < last {
         n += 1;
         at = next_wanted(points, code, at + 1);
+    }
+    n
+}
+
+// The number of the view at a place: how many views stand up to it.
+pub fn number_at(points: &[u8], place: usize) -> usize
+    ensures { λ r. ⌜ r ≡ viewNumber (now (points .entry)) place ⌝ }
+{
+    let mut n = 0;
+    let mut i = 0;
+    while i < place {
+        i += 1;
+        if is_wanted(record::point_record(points, i), &points[..0]) {
+            n += 1;
+        }
     }
     n
 }

@@ -6,7 +6,7 @@ use mathlib.Core.Path.{_≡_, refl, sym, ap, _∙_}
 use native.Mathlib.Omega.{arith}
 use lib.ListN.{length}
 use Rattle.views.specs.Views.{lastOf, wantedFrom, wantedCount, nextWanted}
-use Rattle.views.proofs.Laws.{next-range, next-next, count-start, count-step, count-end}
+use Rattle.views.proofs.Laws.{next-range, next-next, places-step, places-end, count-is}
 use Rattle.views.proofs.count_wanted.Statement.{statement}
 use Rattle.views.proofs.count_wanted.Tie as tie
 
@@ -31,7 +31,7 @@ loop-holds c =
     rw (c .next-wanted .ensures) (
       omega arith,
       next-next (a .code .now) (a .points .now) _,
-      omega (arith, count-start (a .code .now) (a .points .now)),
+      omega (arith, count-is (a .code .now) (a .points .now)),
     )
 
 add-n : tie.Need-add-n Inv-loop μ-loop
@@ -55,7 +55,9 @@ loop-again c =
     let f = l .before .before in
     let a = f .before .before .before .args in
     let i = l .loop .at in
-    let step = count-step (a .code .now) (a .points .now) i (l .loop .inv .1) (omega (arith, f .last-of .ensures)) in
+    let step =
+    ap length
+    (places-step (a .code .now) (a .points .now) i (l .loop .inv .1) (omega (arith, f .last-of .ensures))) in
     rw (c .next-wanted2 .ensures) (
       omega (arith, next-range (a .code .now) (a .points .now) (i + 1) .0),
       next-next (a .code .now) (a .points .now) (i + 1),
@@ -70,7 +72,7 @@ returns c =
     omega (
       arith,
       l .loop .inv .2,
-      count-end (a .code .now) (a .points .now) (l .loop .at) (omega (arith, f .last-of .ensures)),
+      ap length (places-end (a .code .now) (a .points .now) (l .loop .at) (omega (arith, f .last-of .ensures))),
     )
 
 pub count-wanted-spec : {M : Type 1} → statement M
