@@ -1,3 +1,4 @@
 pub mod Packed
 pub mod Texts
 pub mod Rows
+pub mod Refused

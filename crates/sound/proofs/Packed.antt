@@ -5,6 +5,7 @@ use mathlib.Core.Path.{_≡_, refl, sym, ap, _∙_}
 use mathlib.Core.Bool.{Bool, true, false, cond, _&&_, _||_}
 use mathlib.Core.List.{List, [], _∷_, _++_}
 use native.Mathlib.Omega.{arith}
+use native.Mathlib.Numerals.{add-one}
 use borrow.Author.Tests.{eqb-true, eqb-false}
 use lib.Dec.{eqb}
 use lib.ListN.{length, getD, length-append}
@@ -19,7 +20,7 @@ use Rattle.address.specs.Address.{Address}
 use Rattle.source.specs.Addresses.{addressOf, addressAt, numbered, addressesIn, kept}
 use Rattle.source.specs.Pair.{pairSource}
 use Rattle.layout.specs.Cutting.{inCode}
-use Rattle.sound.specs.Packed.{packed, viewNumber, viewAt, viewsAt}
+use Rattle.sound.specs.Packed.{packed, viewNumber, viewAt, viewsAt, WantedPlaces}
 
 -- one record more behind k others
 wanted-more : (code file : List ℕ) (k i : ℕ)
@@ -60,6 +61,16 @@ module _ (points : List ℕ) (place : ℕ) where
   pub number-other : isView (recordAt 168 points (suc place)) ≡ false
       → viewNumber points (suc place) ≡ viewNumber points place
   number-other e = counted ∙ simp e (omega arith)
+
+  -- the same as a loop goes on
+  pub number-step : viewNumber points (place + 1)
+      ≡ cond (isView (recordAt 168 points (place + 1))) (viewNumber points place + 1) (viewNumber points place)
+  number-step = rw (add-one, add-one) (by-test (isView (recordAt 168 points (suc place))) refl)
+    where
+      by-test : (t : Bool) → isView (recordAt 168 points (suc place)) ≡ t
+          → viewNumber points (suc place) ≡ cond t (suc (viewNumber points place)) (viewNumber points place)
+      by-test true e = number-view e
+      by-test false e = number-other e
 
 pub number-none : (points : List ℕ) → viewNumber points 0 ≡ 0
 unfolding viewNumber
@@ -169,3 +180,24 @@ module _ (points code : List ℕ) (well-formed : outwardFault code ≡ 0) where
   packed-at (suc k) d low high =
       rw (packed-views points code well-formed, let z : suc k - 1 ≡ k = omega arith in z)
       (views-at points (wantedIn code points) k d (omega arith))
+
+-- each of the wanted places is one
+module _ (code points : List ℕ) where
+  from-places : (k i : ℕ) → 1 ≤ i → i + k ≤ lastOf points → WantedPlaces code points (wantedFrom code points k i)
+  from-places zero i low high = tt
+  from-places (suc k) i low high =
+      by-test (wanted code (recordAt 168 points i)) refl (wantedFrom code points k (suc i))
+      (from-places k (suc i) (omega arith) (omega arith))
+    where
+      by-test : (t : Bool) → wanted code (recordAt 168 points i) ≡ t → (ps : List ℕ) → WantedPlaces code points ps
+          → WantedPlaces code points (cond t (i ∷ ps) ps)
+      by-test true e ps more = (record { low = low; high = omega arith; is-wanted = e }, more)
+      by-test false e ps more = more
+
+  pub all-wanted : WantedPlaces code points (wantedIn code points)
+  unfolding wantedIn
+  all-wanted = by-size (lastOf points) refl
+    where
+      by-size : (n : ℕ) → lastOf points ≡ n → WantedPlaces code points (wantedFrom code points (n - 1) 1)
+      by-size zero e = tt
+      by-size (suc n) e = from-places (suc n - 1) 1 (omega arith) (omega arith)

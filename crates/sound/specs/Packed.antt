@@ -1,13 +1,15 @@
 -- Which views of a pair of files are packed for a code, by their places in the point file.
 -- Assumes nothing.
-use Prim.Native.Nat.{ℕ}
+use Prim.Native.Nat.{ℕ, _-_, _≤_, _<_}
+use mathlib.Core.Path.{_≡_}
+use mathlib.Core.Bool.{true}
 use mathlib.Core.List.{List, [], _∷_}
 use lib.ListN.{length}
 use Rattle.record.specs.Parts.{recordAt}
 use Rattle.files.specs.declared.check.Verdict.{Verdict}
 use Rattle.files.specs.declared.check.Verdict.the-variants.{Fine, Bad}
 use Rattle.files.specs.Check.{orElse}
-use Rattle.views.specs.Views.{wantedFrom}
+use Rattle.views.specs.Views.{lastOf, wanted, wantedFrom}
 use Rattle.address.specs.Address.{Address}
 use Rattle.source.specs.Addresses.{addressAt, addressesIn, kept}
 use Rattle.keys.specs.Keys.{refusalIn}
@@ -42,3 +44,17 @@ refusalAt table points place = numberedRefusal (viewNumber points place) (refusa
 abbrev pub firstRefused : List ℕ → List ℕ → List ℕ → Verdict
 firstRefused table points [] = Fine
 firstRefused table points (place ∷ places) = orElse (refusalAt table points place) (firstRefused table points places)
+
+-- the first refusal of the wanted from place i on
+abbrev pub refusedFrom : List ℕ → List ℕ → List ℕ → ℕ → Verdict
+refusedFrom table points code i = firstRefused table points (wantedFrom code points (lastOf points - i) i)
+
+-- a place between header and trailer at which a wanted record stands
+pub record WantedPlace (code points : List ℕ) (place : ℕ) : Type 0 where
+  pub low : 1 ≤ place
+  pub high : place < lastOf points
+  pub is-wanted : wanted code (recordAt 168 points place) ≡ true
+
+abbrev pub WantedPlaces : List ℕ → List ℕ → List ℕ → Type 0
+WantedPlaces code points [] = Unit {0}
+WantedPlaces code points (place ∷ places) = WantedPlace code points place × WantedPlaces code points places
