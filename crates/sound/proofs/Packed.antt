@@ -1,91 +1,30 @@
 -- The packed views are the wanted places of the point file, in order.
 -- Assumes nothing.
-use Prim.Native.Nat.{ℕ, zero, suc, _+_, _-_, _/_, _≤_, _<_}
-use mathlib.Core.Path.{_≡_, refl, sym, ap, _∙_}
-use mathlib.Core.Bool.{Bool, true, false, cond, _&&_, _||_}
-use mathlib.Core.List.{List, [], _∷_, _++_}
+use Prim.Native.Nat.{ℕ, zero, suc, _+_, _-_, _≤_, _<_}
+use mathlib.Core.Path.{_≡_, refl, ap, _∙_}
+use mathlib.Core.Bool.{Bool, true, false, cond, _&&_}
+use mathlib.Core.List.{List, [], _∷_}
 use native.Mathlib.Omega.{arith}
-use native.Mathlib.Numerals.{add-one}
 use borrow.Author.Tests.{eqb-true, eqb-false}
 use lib.Dec.{eqb}
-use lib.ListN.{length, getD, length-append}
-use Rattle.text.proofs.Tests.{and-true}
+use lib.ListN.{length, getD}
 use Rattle.record.specs.Parts.{recordAt}
 use Rattle.postcode.specs.Outward.{outwardFault}
 use Rattle.postcode.proofs.Codes.{not-four}
-use Rattle.views.specs.Views.{isView, isLive, isEmpty, wanted, lastOf, wantedFrom, wantedIn, wantedCount, wantedAt}
+use Rattle.views.specs.Views.{isView, isLive, wanted, lastOf, wantedFrom, wantedIn, wantedCount, wantedAt}
 use Rattle.views.specs.Views as views
-use Rattle.views.proofs.Laws.{from-bound}
 use Rattle.address.specs.Address.{Address}
 use Rattle.source.specs.Addresses.{addressOf, addressAt, numbered, addressesIn, kept}
 use Rattle.source.specs.Pair.{pairSource}
 use Rattle.layout.specs.Cutting.{inCode}
 use Rattle.sound.specs.Packed.{packed, viewNumber, viewAt, viewsAt, WantedPlaces}
-
--- one record more behind k others
-wanted-more : (code file : List ℕ) (k i : ℕ)
-    → wantedFrom code file (suc k) i
-    ≡ wantedFrom code file k i ++ cond (wanted code (recordAt 168 file (i + k))) ((i + k) ∷ []) []
-wanted-more code file zero i = rw (let z : i + 0 ≡ i = omega arith in z)
-wanted-more code file (suc k) i =
-    let next : suc i + k ≡ i + suc k = omega arith in
-    by-test (wanted code (recordAt 168 file i)) (rw next at (wanted-more code file k (suc i)))
-  where
-    last : List ℕ
-    last = cond (wanted code (recordAt 168 file (i + suc k))) ((i + suc k) ∷ []) []
-
-    by-test : (t : Bool) → wantedFrom code file (suc k) (suc i) ≡ wantedFrom code file k (suc i) ++ last
-        → cond t (i ∷ wantedFrom code file (suc k) (suc i)) (wantedFrom code file (suc k) (suc i))
-        ≡ cond t (i ∷ wantedFrom code file k (suc i)) (wantedFrom code file k (suc i)) ++ last
-    by-test true e = ap (i ∷_) e
-    by-test false e = e
-
--- without a code every view is wanted
-wanted-every : (rec : List ℕ) → wanted [] rec ≡ isView rec
-unfolding wanted
-wanted-every rec = and-true (isView rec)
-
--- how the number goes up, place by place
-module _ (points : List ℕ) (place : ℕ) where
-  counted : viewNumber points (suc place)
-      ≡ viewNumber points place + length (cond (isView (recordAt 168 points (suc place))) (suc place ∷ []) [])
-  unfolding viewNumber
-  counted =
-      let next : 1 + place ≡ suc place = omega arith in
-      ap length (rw (next, wanted-every (recordAt 168 points (suc place))) at (wanted-more [] points place 1)) ∙ length-append (wantedFrom [] points place 1) (cond (isView (recordAt 168 points (suc place))) (suc place ∷ []) [])
-
-  pub number-view : isView (recordAt 168 points (suc place)) ≡ true
-      → viewNumber points (suc place) ≡ suc (viewNumber points place)
-  number-view e = counted ∙ simp e (omega arith)
-
-  pub number-other : isView (recordAt 168 points (suc place)) ≡ false
-      → viewNumber points (suc place) ≡ viewNumber points place
-  number-other e = counted ∙ simp e (omega arith)
-
-  -- the same as a loop goes on
-  pub number-step : viewNumber points (place + 1)
-      ≡ cond (isView (recordAt 168 points (place + 1))) (viewNumber points place + 1) (viewNumber points place)
-  number-step = rw (add-one, add-one) (by-test (isView (recordAt 168 points (suc place))) refl)
-    where
-      by-test : (t : Bool) → isView (recordAt 168 points (suc place)) ≡ t
-          → viewNumber points (suc place) ≡ cond t (suc (viewNumber points place)) (viewNumber points place)
-      by-test true e = number-view e
-      by-test false e = number-other e
-
-pub number-none : (points : List ℕ) → viewNumber points 0 ≡ 0
-unfolding viewNumber
-number-none points = refl
-
--- no number is above its place
-pub number-bound : (points : List ℕ) (place : ℕ) → viewNumber points place ≤ place
-unfolding viewNumber
-number-bound points place = from-bound [] points place 1
+use Rattle.sound.proofs.Numbers.{wanted-every, number-none, number-view, number-other}
 
 -- a code that is given wants the live views in it
-wanted-live : (x : ℕ) (xs rec : List ℕ)
+pub wanted-given : (x : ℕ) (xs rec : List ℕ)
     → wanted (x ∷ xs) rec ≡ isView rec && (isLive rec && views.inCode (x ∷ xs) rec)
 unfolding wanted
-wanted-live x xs rec = refl
+wanted-given x xs rec = refl
 
 module _ (x : ℕ) (xs points : List ℕ) where
   abbrev code : List ℕ
@@ -108,8 +47,7 @@ module _ (x : ℕ) (xs points : List ℕ) where
   at-one true n place as′ places e f = rw (e, f)
   at-one false n place as′ places e f = f
 
-  -- of k records behind place j: the views numbered on, of these the live ones in the code, are those at the wanted places
-  pub from-views : (k j : ℕ)
+  from-views : (k j : ℕ)
       → inCode code (kept (numbered points (suc (viewNumber points j)) (wantedFrom [] points k (suc j))))
       ≡ viewsAt points (wantedFrom code points k (suc j))
   from-views zero j = refl
@@ -129,35 +67,39 @@ module _ (x : ℕ) (xs points : List ℕ) where
       by-test true e later =
           let rest = numbered points (suc (suc n)) (wantedFrom [] points k (suc (suc j))) in
           let next = number-view points j e in
-          simp (wanted-every rec, wanted-live x xs rec, e)
+          simp (wanted-every rec, wanted-given x xs rec, e)
           (one-view (suc n) (suc j) rest (isLive rec) (views.inCode code rec) refl refl
-          ∙ at-one (isLive rec && views.inCode code rec) (suc n) (suc j) (inCode code (kept rest)) (wantedFrom code points k (suc (suc j))) next (rw next at later))
+          ∙ at-one (isLive rec && views.inCode code rec) (suc n) (suc j) (inCode code (kept rest))
+          (wantedFrom code points k (suc (suc j))) next (rw next at later))
       by-test false e later =
-          simp (wanted-every rec, wanted-live x xs rec, e) (rw (number-other points j e) at later)
+          simp (wanted-every rec, wanted-given x xs rec, e) (rw (number-other points j e) at later)
 
-  some-packed : packed points code ≡ viewsAt points (wantedIn code points)
-  unfolding addressesIn wantedIn
-  some-packed = rw (number-none points) at (from-views (lastOf points - 1) 0)
-
--- a code that is well formed has bytes
-some-code : (code : List ℕ) → outwardFault code ≡ 0 → length code ≡ 4
-some-code code e = by-test (eqb (length code) 4) refl
+-- a code that is well formed has four bytes
+pub code-length : (code : List ℕ) → outwardFault code ≡ 0 → length code ≡ 4
+code-length code e = by-test (eqb (length code) 4) refl
   where
     by-test : (t : Bool) → eqb (length code) 4 ≡ t → length code ≡ 4
     by-test true q = eqb-true (length code) 4 q
     by-test false q = absurd (omega (arith, not-four code (eqb-false (length code) 4 q)))
 
+-- of k records behind place j: the views numbered on, of these the live ones in the code, are those at the wanted places
+pub views-from : (points code : List ℕ) → outwardFault code ≡ 0 → (k j : ℕ)
+    → inCode code (kept (numbered points (suc (viewNumber points j)) (wantedFrom [] points k (suc j))))
+    ≡ viewsAt points (wantedFrom code points k (suc j))
+views-from points [] e = absurd (omega (arith, code-length [] e))
+views-from points (x ∷ xs) e = from-views x xs points
+
 pub packed-views : (points code : List ℕ) → outwardFault code ≡ 0
     → packed points code ≡ viewsAt points (wantedIn code points)
-packed-views points [] e = absurd (omega (arith, some-code [] e))
-packed-views points (x ∷ xs) e = some-packed x xs points
+unfolding addressesIn wantedIn
+packed-views points code e = rw (number-none points) at (views-from points code e (lastOf points - 1) 0)
 
 -- the packed views are of the live addresses of the pair's source
 pub packed-live : (table points code : List ℕ) → inCode code (pairSource table points .live) ≡ packed points code
 unfolding pairSource
 packed-live table points code = refl
 
-views-length : (points places : List ℕ) → length (viewsAt points places) ≡ length places
+pub views-length : (points places : List ℕ) → length (viewsAt points places) ≡ length places
 views-length points [] = refl
 views-length points (place ∷ places) = ap suc (views-length points places)
 

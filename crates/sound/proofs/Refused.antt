@@ -1,24 +1,23 @@
 -- The first refusal of the packed views, by the keys of their records.
 -- Assumes nothing.
-use Prim.Native.Nat.{ℕ, zero, suc, _+_, _-_, _≤_, _<_}
-use mathlib.Core.Path.{_≡_, refl, sym, ap, _∙_}
-use mathlib.Core.Bool.{Bool, true, false, cond}
+use Prim.Native.Nat.{ℕ, suc, _+_, _-_, _≤_, _<_}
+use mathlib.Core.Path.{_≡_, refl, ap}
+use mathlib.Core.Bool.{true, false}
 use mathlib.Core.List.{List, [], _∷_}
 use native.Mathlib.Omega.{arith}
 use native.Mathlib.Numerals.{add-one}
-use lib.ListN.{length, getD}
+use lib.ListN.{getD}
 use Rattle.record.specs.Parts.{recordAt}
 use Rattle.postcode.specs.Outward.{outwardFault}
 use Rattle.refusal.specs.declared.Reason.{Reason}
 use Rattle.files.specs.declared.check.Verdict.{Verdict}
 use Rattle.files.specs.declared.check.Verdict.the-variants.{Fine, Bad}
-use Rattle.files.specs.Check.{records, orElse}
 use Rattle.files.specs.Formats.{tableFormat, pointFormat}
 use Rattle.files.proofs.Accepted.{Accepted}
-use Rattle.views.specs.Views.{wanted, lastOf, wantedFrom, wantedIn, wantedCount, wantedAt, nextWanted}
+use Rattle.views.specs.Views.{wanted, lastOf, wantedIn, wantedCount, wantedAt, nextWanted}
 use Rattle.views.proofs.Laws.{next-skip}
 use Rattle.address.specs.Address.{Lookup, Address}
-use Rattle.address.specs.Resolve.{forbidden, missing, elementsOf, Resolved, elements, refused, resolve}
+use Rattle.address.specs.Resolve.{forbidden, missing, elementsOf, resolve}
 use Rattle.source.specs.Rows.{tableLookup}
 use Rattle.source.specs.Addresses.{addressOf, addressAt}
 use Rattle.keys.specs.Keys.{refusalIn}

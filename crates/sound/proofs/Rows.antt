@@ -1,13 +1,13 @@
 -- Every row that a key finds in an accepted table file is one that a pack may hold.
 -- Assumes nothing.
-use Prim.Native.Nat.{ℕ, zero, suc, _+_, _-_, _≤_, _<_}
-use mathlib.Core.Path.{_≡_, refl, sym, ap, subst, _∙_}
+use Prim.Native.Nat.{ℕ, zero, suc, _+_, _≤_, _<_}
+use mathlib.Core.Path.{_≡_, refl, subst}
 use mathlib.Core.Bool.{Bool, true, false, cond, not, _&&_, _||_}
 use mathlib.Core.List.{List, [], _∷_}
 use mathlib.Core.Option.{none, some}
 use native.Mathlib.Omega.{arith}
 use lib.Dec.{eqb}
-use lib.ListN.{length, getD}
+use lib.ListN.{getD}
 use Rattle.text.specs.Text.{blank, textFault, filledFault, part, textIn}
 use Rattle.record.specs.Parts.{recordAt}
 use Rattle.faults.specs.Fields.{field}
@@ -17,12 +17,11 @@ use Rattle.files.proofs.Accepted.{Accepted}
 use Rattle.rows.specs.Rows.{rowOf}
 use Rattle.rows.proofs.Last.{row-of-some}
 use Rattle.source.specs.Rows.{digitsOf, textsOf, textsAt, tableLookup}
-use Rattle.label.specs.Lines.{isEmpty}
 use Rattle.meaning.proofs.Fields.{Passes, table-passes}
 use Rattle.meaning.proofs.Keys.{row-type}
-use Rattle.layout.specs.Opening.{slot, slotsOf, textGood}
-use Rattle.layout.specs.Sound.{slotsGood, RowSound, RowsSound}
-use Rattle.sound.proofs.Texts.{trim-empty, may-be-blank, filled-text, filled-good}
+use Rattle.layout.specs.Opening.{slot, slotsOf}
+use Rattle.layout.specs.Sound.{RowSound, RowsSound}
+use Rattle.sound.proofs.Texts.{trim-empty, may-be-blank, filled-good}
 
 -- "A double dependent locality needs a dependent one"
 double-passes : (dependent s : List ℕ) → doubleFault dependent s ≡ 0
