@@ -25,7 +25,6 @@ use Rattle.files.specs.Formats.{pointFormat}
 use Rattle.files.proofs.Accepted.{Accepted, both-fine}
 use Rattle.files.proofs.Laws.{within-limit}
 use Rattle.views.specs.Views.{isView, isLive, wanted, lastOf, wantedFrom, wantedIn}
-use Rattle.views.specs.Views as views
 use Rattle.address.specs.Address.{Lookup, Address}
 use Rattle.address.specs.Resolve.{forbidden, missing, elementsOf, elements, refused, resolve}
 use Rattle.source.specs.Addresses.{addressOf, addressAt}
@@ -47,7 +46,10 @@ unfolding resolve
 unrefused look a view e = by-tests (eqb (forbidden a) 0) (eqb (missing look a) 0) refl refl e
   where
     by-tests : (t u : Bool) → eqb (forbidden a) 0 ≡ t → eqb (missing look a) 0 ≡ u
-        → badOf view (cond t (cond u (elements (elementsOf look a)) (refused (MissingKey (missing look a) 0))) (refused (Combination (forbidden a) 0))) ≡ Fine
+        → badOf view
+        (cond t (cond u (elements (elementsOf look a)) (refused (MissingKey (missing look a) 0)))
+        (refused (Combination (forbidden a) 0)))
+        ≡ Fine
         → (forbidden a ≡ 0) × (missing look a ≡ 0)
     by-tests true true p q e = (eqb-true (forbidden a) 0 p, eqb-true (missing look a) 0 q)
     by-tests true false p q e = let z : _≡_ {A = ℕ} 0 1 = cc in absurd (omega arith)
@@ -101,8 +103,13 @@ module _ (look : Lookup) (points code : List ℕ) (p : Accepted pointFormat poin
         box-long = part-length rec 107 113 (omega arith) (omega arith);
         box-good = rest .1 .1 .1 .1 .1 .1 .1 .1 .1 .1 .0;
         view = small;
-        keys = (eight rec 42, (eight rec 50, (eight rec 58, (eight rec 66, (eight rec 74, (eight rec 86, (eight rec 94, tt)))))));
-        organisation = organisation-sound rec (recordAt 168 points (place + 1)) view kind (follower-there points p place (w .low) (w .high) view);
+        keys = (
+          eight rec 42,
+          (eight rec 50, (eight rec 58, (eight rec 66, (eight rec 74, (eight rec 86, (eight rec 94, tt)))))),
+        );
+        organisation =
+            organisation-sound rec (recordAt 168 points (place + 1)) view kind
+            (follower-there points p place (w .low) (w .high) view);
       }
 
   -- of k records behind place j
@@ -122,16 +129,21 @@ module _ (look : Lookup) (points code : List ℕ) (p : Accepted pointFormat poin
       n = viewNumber points (suc j)
 
       by-test : (t : Bool) → wanted code rec ≡ t → (ps : List ℕ)
-          → ((lower : ℕ) → lower ≤ n → firstBad look (viewsAt points ps) ≡ Fine → AddressesSound look code lower (viewsAt points ps))
+          → ((lower : ℕ) → lower ≤ n → firstBad look (viewsAt points ps) ≡ Fine
+          → AddressesSound look code lower (viewsAt points ps))
           → firstBad look (viewsAt points (cond t (suc j ∷ ps) ps)) ≡ Fine
           → AddressesSound look code low (viewsAt points (cond t (suc j ∷ ps) ps))
       by-test true e ps later fine =
-          let both = both-fine (badOf n (resolve look (viewAt points (suc j)))) (firstBad look (viewsAt points ps)) fine in
+          let here = badOf n (resolve look (viewAt points (suc j))) in
+          let both = both-fine here (firstBad look (viewsAt points ps)) fine in
           let view = eq-eqb (getD rec 41 0) 49 (wanted-view code rec e) in
-          let place : WantedPlace code points (suc j) = record { low = omega arith; high = omega arith; is-wanted = e } in
+          let place : WantedPlace code points (suc j) =
+          record { low = omega arith; high = omega arith; is-wanted = e } in
           let limit = within-limit pointFormat points (p .is-whole) in
-          let small : n ≤ 99_999_999 = omega (arith, number-bound points (suc j)) in
-          (omega (arith, number-view points j view), (address-sound (suc j) n place small (both .0), later n (omega arith) (both .1)))
+          let small : n ≤ 99_999_999 = omega (arith, number-bound points (suc j)) in (
+            omega (arith, number-view points j view),
+            (address-sound (suc j) n place small (both .0), later n (omega arith) (both .1)),
+          )
       by-test false e ps later fine = later low (omega (arith, number-rises points j)) fine
 
   addresses-at : firstBad look (viewsAt points (wantedIn code points)) ≡ Fine
@@ -148,4 +160,5 @@ pub addresses-sound : (look : Lookup) (points code : List ℕ) → Accepted poin
     → firstBad look (packed points code) ≡ Fine
     → AddressesSound look code 0 (packed points code)
 addresses-sound look points code p e =
-    rw (packed-views points code e) (addresses-at look points code p (λ (z : length code ≡ 0). omega (arith, code-length code e)))
+    rw (packed-views points code e)
+    (addresses-at look points code p (λ (z : length code ≡ 0). omega (arith, code-length code e)))

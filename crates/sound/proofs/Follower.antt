@@ -1,5 +1,5 @@
--- The organisation of a view of an accepted point file: its follower is there where it needs one, and is a record between
--- header and trailer.
+-- The organisation of a view of an accepted point file: where it needs a follower, that is a record between header and
+-- trailer.
 -- Assumes nothing.
 use Prim.Native.Nat.{ℕ, suc, _+_, _-_, _≤_, _<_}
 use mathlib.Core.Path.{_≡_, refl, sym, ap, _∙_}
@@ -14,7 +14,7 @@ use lib.ListN.{length, getD}
 use lib.Seq.{getD-take}
 use Rattle.text.specs.Test.{elem, every, only}
 use Rattle.text.specs.Digits.{digit, digitsFault, value}
-use Rattle.text.specs.Text.{part, textIn}
+use Rattle.text.specs.Text.{textFault, part, textIn}
 use Rattle.text.proofs.Tests.{and-left, and-right, range-low, range-high}
 use Rattle.record.specs.Parts.{recordAt}
 use Rattle.record.specs.Ends.{order, same, identifier, trailerOk}
@@ -27,6 +27,7 @@ use Rattle.address.specs.Address.{named}
 use Rattle.source.specs.Addresses.{organisationOf}
 use Rattle.meaning.proofs.Records.{part-length, record-length}
 use Rattle.meaning.proofs.Fields.{Passes, digits-pass, point-passes}
+use Rattle.label.specs.Lines.{isEmpty}
 use Rattle.layout.specs.Sound.{OrganisationSound}
 use Rattle.sound.proofs.Texts.{may-be-blank, filled-text, not-blank}
 
@@ -103,7 +104,9 @@ module _ (points : List ℕ) (p : Accepted pointFormat points) (i : ℕ) (low : 
       let size = part-length next 0 14 (omega arith) (omega arith) in
       let ended = and-left (not (eqb (identifier 255 (part next 0 14)) 0)) _ (rw (← e) at (p .ended)) in
       let start = front-first next 14 (omega arith) in
-      let same-start : getD next 0 0 ≡ getD rec 0 0 = sym (front-first next 41 (omega arith)) ∙ (ap (λ (s : List ℕ). getD s 0 0) same-front ∙ front-first rec 41 (omega arith)) in
+      let same-start : getD next 0 0 ≡ getD rec 0 0 =
+      sym (front-first next 41 (omega arith))
+      ∙ (ap (λ (s : List ℕ). getD s 0 0) same-front ∙ front-first rec 41 (omega arith)) in
       ⊎-elim (λ (h : getD (part next 0 14) 0 0 ≡ 255). omega (arith, begins-digit .1))
       (λ (h : getD (part next 0 14) 0 0 ≡ 32). omega (arith, begins-digit .0))
       (identifier-first 255 (part next 0 14) (omega arith) ended)
@@ -142,15 +145,22 @@ module _ (rec next : List ℕ) (view : getD rec 41 0 ≡ 49) (either : elem (get
   abbrev key : ℕ
   key = value (part rec 32 40)
 
-  large-sound : type ≡ 76 → Passes 42 (pointRest 51) next
-      → OrganisationSound type key (named (textIn next 42 102) (textIn next 102 162))
-  large-sound e p =
-      (may-be-blank next 42 102 60 (omega arith) (p .0), (may-be-blank next 102 162 60 (omega arith) (p .1 .0), λ (h : type ≡ 83). absurd (omega arith)))
+  abbrev Named : Type 0
+  Named = OrganisationSound type key (named (textIn next 42 102) (textIn next 102 162))
 
-  small-sound : (key ≡ 0 → ⊥) → Passes 42 (pointRest 50) next
-      → OrganisationSound type key (named (textIn next 42 102) (textIn next 102 162))
+  named-sound : textFault (part next 42 102) ≡ 0 → textFault (part next 102 162) ≡ 0
+      → (type ≡ 83 → (0 < key) × (isEmpty (textIn next 42 102) ≡ false))
+      → Named
+  named-sound name department small =
+      (may-be-blank next 42 102 60 (omega arith) name, (may-be-blank next 102 162 60 (omega arith) department, small))
+
+  large-sound : type ≡ 76 → Passes 42 (pointRest 51) next → Named
+  large-sound e p = named-sound (p .0) (p .1 .0) (λ (h : type ≡ 83). absurd (omega arith))
+
+  small-sound : (key ≡ 0 → ⊥) → Passes 42 (pointRest 50) next → Named
   small-sound n p =
-      (may-be-blank next 42 102 60 (omega arith) (filled-text next 42 102 (p .0)), (may-be-blank next 102 162 60 (omega arith) (p .1 .0), λ (h : type ≡ 83). (omega arith, not-blank next 42 102 (p .0))))
+      named-sound (filled-text next 42 102 (p .0)) (p .1 .0)
+      (λ (h : type ≡ 83). (omega arith, not-blank next 42 102 (p .0)))
 
   pub organisation-sound : ((needed rec ≡ 0 → ⊥) → (getD next 41 0 ≡ needed rec) × (pointFault next ≡ 0))
       → OrganisationSound type key (organisationOf rec next)

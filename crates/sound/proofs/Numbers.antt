@@ -10,7 +10,6 @@ use lib.ListN.{length, length-append}
 use Rattle.text.proofs.Tests.{and-true}
 use Rattle.record.specs.Parts.{recordAt}
 use Rattle.views.specs.Views.{isView, wanted, wantedFrom}
-use Rattle.views.specs.Views as views
 use Rattle.views.proofs.Laws.{from-bound}
 use Rattle.sound.specs.Packed.{viewNumber}
 

@@ -60,7 +60,8 @@ module _ (x : ℕ) (xs points : List ℕ) where
       n = viewNumber points j
 
       by-test : (t : Bool) → isView rec ≡ t
-          → inCode code (kept (numbered points (suc (viewNumber points (suc j))) (wantedFrom [] points k (suc (suc j)))))
+          → inCode code
+          (kept (numbered points (suc (viewNumber points (suc j))) (wantedFrom [] points k (suc (suc j)))))
           ≡ viewsAt points (wantedFrom code points k (suc (suc j)))
           → inCode code (kept (numbered points (suc n) (wantedFrom [] points (suc k) (suc j))))
           ≡ viewsAt points (wantedFrom code points (suc k) (suc j))
@@ -82,7 +83,8 @@ code-length code e = by-test (eqb (length code) 4) refl
     by-test true q = eqb-true (length code) 4 q
     by-test false q = absurd (omega (arith, not-four code (eqb-false (length code) 4 q)))
 
--- of k records behind place j: the views numbered on, of these the live ones in the code, are those at the wanted places
+-- of k records behind place j: the views numbered on, of these the live ones in the code, are those at the wanted
+-- places
 pub views-from : (points code : List ℕ) → outwardFault code ≡ 0 → (k j : ℕ)
     → inCode code (kept (numbered points (suc (viewNumber points j)) (wantedFrom [] points k (suc j))))
     ≡ viewsAt points (wantedFrom code points k (suc j))

@@ -84,7 +84,8 @@ module _ (table points code : List ℕ) where
   refused-end i h = rw (let z : lastOf points - i ≡ 0 = omega arith in z)
 
   -- to the next that is wanted
-  pub refused-next : (i : ℕ) → refusedFrom table points code i ≡ refusedFrom table points code (nextWanted code points i)
+  pub refused-next : (i : ℕ)
+      → refusedFrom table points code i ≡ refusedFrom table points code (nextWanted code points i)
   refused-next i = ap (firstRefused table points) (next-skip code points i)
 
   module _ (i : ℕ) (h : i < lastOf points) where

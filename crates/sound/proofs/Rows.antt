@@ -11,7 +11,7 @@ use lib.ListN.{getD}
 use Rattle.text.specs.Text.{blank, textFault, filledFault, part, textIn}
 use Rattle.record.specs.Parts.{recordAt}
 use Rattle.faults.specs.Fields.{field}
-use Rattle.faults.specs.Table.{doubleFault, tableRest, tableFault}
+use Rattle.faults.specs.Table.{doubleFault, tableRest}
 use Rattle.files.specs.Formats.{tableFormat}
 use Rattle.files.proofs.Accepted.{Accepted}
 use Rattle.rows.specs.Rows.{rowOf}
@@ -60,15 +60,16 @@ module _ (rec : List ℕ) where
         double = λ e. absurd (omega arith);
       }
 
-  row-sound : (kind : ℕ) → 1 ≤ kind → kind ≤ 5 → getD rec 0 0 ≡ 48 + kind → tableFault rec ≡ 0
+  row-sound : (kind : ℕ) → 1 ≤ kind → kind ≤ 5 → getD rec 0 0 ≡ 48 + kind
+      → Passes 24 (tableRest (getD rec 0 0) rec) rec
       → RowSound kind (textsOf rec)
-  row-sound zero low high e f = absurd (omega arith)
-  row-sound (suc zero) low high e f = simp e (locality-sound (rw e at (table-passes rec f .1)))
-  row-sound (suc (suc zero)) low high e f = simp e (one-sound 2 60 (omega arith) refl (rw e at (table-passes rec f .1)))
-  row-sound (suc (suc (suc zero))) low high e f = simp e (one-sound 3 20 (omega arith) refl (rw e at (table-passes rec f .1)))
-  row-sound (suc (suc (suc (suc zero)))) low high e f = simp e (one-sound 4 50 (omega arith) refl (rw e at (table-passes rec f .1)))
-  row-sound (suc (suc (suc (suc (suc zero))))) low high e f = simp e (one-sound 5 30 (omega arith) refl (rw e at (table-passes rec f .1)))
-  row-sound (suc (suc (suc (suc (suc (suc more)))))) low high e f = absurd (omega arith)
+  row-sound zero low high e p = absurd (omega arith)
+  row-sound (suc zero) low high e p = simp e (locality-sound (rw e at p))
+  row-sound (suc (suc zero)) low high e p = simp e (one-sound 2 60 (omega arith) refl (rw e at p))
+  row-sound (suc (suc (suc zero))) low high e p = simp e (one-sound 3 20 (omega arith) refl (rw e at p))
+  row-sound (suc (suc (suc (suc zero)))) low high e p = simp e (one-sound 4 50 (omega arith) refl (rw e at p))
+  row-sound (suc (suc (suc (suc (suc zero))))) low high e p = simp e (one-sound 5 30 (omega arith) refl (rw e at p))
+  row-sound (suc (suc (suc (suc (suc (suc more)))))) low high e p = absurd (omega arith)
 
 -- the texts that are found are the record's
 texts-found : (t : Bool) (ts texts : List (List ℕ)) → cond t none (some ts) ≡ some texts → ts ≡ texts
@@ -89,4 +90,5 @@ rows-sound table t kind key texts low high small e = by-place (rowOf table want)
         let r = row-of-some table want p q in
         let rec = recordAt 169 table (suc p) in
         subst (λ (ts : List (List ℕ)). RowSound kind ts) (texts-found (eqb (suc p) 0) (textsOf rec) texts e)
-        (row-sound rec kind low high (row-type table kind (digitsOf 8 key) p q) (t .each (suc p) (r .0) (r .1) .well-formed))
+        (row-sound rec kind low high (row-type table kind (digitsOf 8 key) p q)
+        (table-passes rec (t .each (suc p) (r .0) (r .1) .well-formed) .1))

@@ -43,7 +43,8 @@ keys-bound [] rs = omega arith
 keys-bound (k ∷ ks) rs = by-test (present (k .key)) (keys-bound ks rs)
   where
     by-test : (t : Bool) → length (insertKeys ks rs) ≤ length ks + length rs
-        → length (cond t (insert (ref (k .kind) (k .key)) (insertKeys ks rs)) (insertKeys ks rs)) ≤ suc (length ks) + length rs
+        → length (cond t (insert (ref (k .kind) (k .key)) (insertKeys ks rs)) (insertKeys ks rs))
+        ≤ suc (length ks) + length rs
     by-test true h = omega (arith, insert-bound (ref (k .kind) (k .key)) (insertKeys ks rs))
     by-test false h = omega arith
 
