@@ -27,7 +27,7 @@ pub refused-value : (file n : ℕ) (why : Reason) → Refused file why ≡ Value
 refused-value file n why e = let z : _≡_ {A = ℕ} 0 1 = cc in omega arith
 
 -- of a scan that found nothing, each verdict is fine
-both-fine : (v w : Verdict) → orElse v w ≡ Fine → (v ≡ Fine) × (w ≡ Fine)
+pub both-fine : (v w : Verdict) → orElse v w ≡ Fine → (v ≡ Fine) × (w ≡ Fine)
 both-fine Fine w e = (refl, e)
 both-fine (Bad why) w e = absurd (bad-fine why e)
 

@@ -65,12 +65,17 @@ key rec start h e =
       size = omega (arith, part-length rec start (start + 8) (omega arith) h);
     }
 
-view-passes : (rec : List ℕ) → pointFault rec ≡ 0 → getD rec 41 0 ≡ 49 → Passes 42 viewFields rec
+-- every field of a point record that has no fault
+pub point-passes : (rec : List ℕ) → pointFault rec ≡ 0
+    → Passes 0 pointHead rec × Passes 42 (pointRest (getD rec 41 0)) rec
 unfolding pointFault
-view-passes rec e view =
+point-passes rec e =
     let both = first-zero (faultIn 0 pointHead rec) (faultIn 42 (pointRest (getD rec 41 0)) rec) e in
-    let rest : faultIn 42 viewFields rec ≡ 0 = rw view at (both .1) in
-    fields-pass 42 viewFields rec rest
+    (fields-pass 0 pointHead rec (both .0), fields-pass 42 (pointRest (getD rec 41 0)) rec (both .1))
+
+-- and of a view's record
+pub view-passes : (rec : List ℕ) → pointFault rec ≡ 0 → getD rec 41 0 ≡ 49 → Passes 42 viewFields rec
+view-passes rec e view = rw view at (point-passes rec e .1)
 
 -- the keys of a view's record
 pub view-keys : (rec : List ℕ) → length rec ≡ 168 → pointFault rec ≡ 0 → getD rec 41 0 ≡ 49 → Keys rec
@@ -101,8 +106,13 @@ key-passes s e = by-test (only 48 s) e
     by-test true e = absurd (omega arith)
     by-test false e = refl
 
-pub row-key : (rec : List ℕ) → tableFault rec ≡ 0 → only 48 (part rec 1 9) ≡ false
+-- every field of a table record that has no fault
+pub table-passes : (rec : List ℕ) → tableFault rec ≡ 0
+    → Passes 0 tableHead rec × Passes 24 (tableRest (getD rec 0 0) rec) rec
 unfolding tableFault
-row-key rec e =
+table-passes rec e =
     let both = first-zero (faultIn 0 tableHead rec) (faultIn 24 (tableRest (getD rec 0 0) rec) rec) e in
-    key-passes (part rec 1 9) (fields-pass 0 tableHead rec (both .0) .1 .0)
+    (fields-pass 0 tableHead rec (both .0), fields-pass 24 (tableRest (getD rec 0 0) rec) rec (both .1))
+
+pub row-key : (rec : List ℕ) → tableFault rec ≡ 0 → only 48 (part rec 1 9) ≡ false
+row-key rec e = key-passes (part rec 1 9) (table-passes rec e .0 .1 .0)

@@ -1,6 +1,6 @@
 -- Laws of spans: what a span's text is.
 -- Assumes nothing.
-use Prim.Native.Nat.{ℕ, zero, suc, _+_, _-_, _*_, _/_, _≤_, _<_}
+use Prim.Native.Nat.{ℕ, zero, suc, _+_, _-_, _*_, _/_, _^_, _≤_, _<_}
 use mathlib.Core.Path.{_≡_, refl, sym, ap, _∙_}
 use mathlib.Core.Bool.{Bool, true, false, cond}
 use mathlib.Core.List.{List, [], _∷_}
@@ -38,10 +38,14 @@ pub trim-front : (s : List ℕ) → take (length (trim s)) s ≡ trim s
 trim-front [] = refl
 trim-front (x ∷ xs) = keep-front (eqb x 32) x (trim xs) xs (trim-front xs)
 
+-- w bytes say less than 10 to the w
+pub digits-below : (w : ℕ) (s : List ℕ) → w ≤ 9 → length s ≤ w → value s < 10 ^ w
+digits-below w s small h =
+    rw (value-whole s (omega arith)) (lt-of-lt-of-le (value-bound s) (pow-le-pow-right (lit< tt) h))
+
 -- four bytes say less than 10,000
 pub four-digits : (s : List ℕ) → length s ≤ 4 → value s < 10_000
-four-digits s h =
-    rw (value-whole s (omega arith)) (lt-of-lt-of-le (value-bound s) (pow-le-pow-right (lit< tt) h))
+four-digits s h = digits-below 4 s (omega arith) h
 
 -- spans from their parts, and that equal parts make equal spans
 abbrev made : Span → Span → Span → Span → Span → ℕ → Bool → Span → Span → Span → Span → Span → Span → Span → Span → Span → Spans

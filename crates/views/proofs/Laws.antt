@@ -114,7 +114,7 @@ module _ (code file : List ℕ) where
           let r = more m (omega arith) in (omega (arith, r .0), omega (arith, r .1), r .2)
       by-test false e ps more m h = let r = more m h in (omega (arith, r .0), omega (arith, r .1), r .2)
 
-  from-bound : (k i : ℕ) → length (wantedFrom code file k i) ≤ k
+  pub from-bound : (k i : ℕ) → length (wantedFrom code file k i) ≤ k
   from-bound zero i = omega arith
   from-bound (suc k) i =
       by-test (wanted code (recordAt 168 file i)) (wantedFrom code file k (suc i)) (from-bound k (suc i))
