@@ -188,8 +188,11 @@ module _ (look : Lookup) (rows : RowsSound look) where
       (found-used code (a .view) more (g .1 .1))
 
 -- every row that is used is found in its table, and is sound
+pub used-each : (look : Lookup) (addresses : List Address) (code : List ℕ) → Sound look addresses code
+    → Each (RowFound look) (usedBy addresses)
+used-each look addresses code g = found-used look (g .of-rows) code 0 addresses (g .of-addresses)
+
 pub used-found : (look : Lookup) (addresses : List Address) (code : List ℕ) → Sound look addresses code → (r : ℕ)
     → elem r (usedBy addresses) ≡ true
     → RowFound look r
-used-found look addresses code g r e =
-    each-of (RowFound look) (usedBy addresses) (found-used look (g .of-rows) code 0 addresses (g .of-addresses)) r e
+used-found look addresses code g r e = each-of (RowFound look) (usedBy addresses) (used-each look addresses code g) r e
