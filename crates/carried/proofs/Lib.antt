@@ -6,3 +6,6 @@ pub mod Found
 pub mod Entries
 pub mod Trailer
 pub mod Points
+pub mod Refs
+pub mod Point
+pub mod Carried
