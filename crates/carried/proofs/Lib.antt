@@ -9,3 +9,4 @@ pub mod Points
 pub mod Refs
 pub mod Point
 pub mod Carried
+pub mod Labels
