@@ -10,3 +10,5 @@ pub mod Refs
 pub mod Point
 pub mod Carried
 pub mod Labels
+pub mod Exactly
+pub mod Same

@@ -46,12 +46,12 @@ module _ (rows : List ℕ) where
     text-end : textEnd rows at ≡ at + 1 + length t
     text-end = ap (λ n. at + 1 + n) (stands-byte (length t) (t ++ more) h)
 
-    text-at : textAt rows at ≡ t
+    pub text-at : textAt rows at ≡ t
     text-at =
         ap (part rows (at + 1)) text-end
         ∙ stands-part (stands-first t more (stands-next (length t) (t ++ more) h)) (length t) refl
 
-    text-behind : Stands rows (textEnd rows at) more
+    pub text-behind : Stands rows (textEnd rows at) more
     text-behind =
         stands-second t more (length t) (textEnd rows at) refl (sym text-end) (stands-next (length t) (t ++ more) h)
 
@@ -84,7 +84,7 @@ module _ (rows : List ℕ) where
     pub row-kind : rowKind rows at ≡ kindOf (e .stands-for)
     row-kind = stands-byte (kindOf (e .stands-for)) (textsBytes (e .texts)) h
 
-    texts-stand : Stands rows (at + 1) (textsBytes (e .texts))
+    pub texts-stand : Stands rows (at + 1) (textsBytes (e .texts))
     texts-stand = stands-next (kindOf (e .stands-for)) (textsBytes (e .texts)) h
 
     pub row-long : length (e .texts) ≡ length (slotsOf (kindOf (e .stands-for)))
