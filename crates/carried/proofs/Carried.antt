@@ -1,12 +1,12 @@
 -- The pack of a sound source is accepted, has a point for each address, and each point gives what its address resolves to.
 -- Assumes nothing.
-use Prim.Native.Nat.{ℕ, suc, _+_, _-_, _*_, _^_, _≤_, _<_}
+use Prim.Native.Nat.{ℕ, suc, _+_, _-_, _*_, _≤_, _<_}
 use mathlib.Core.Path.{_≡_, refl, sym, ap, ap₂, subst, _∙_}
-use mathlib.Core.Bool.{Bool, true, false, cond, _&&_}
+use mathlib.Core.Bool.{true}
 use mathlib.Core.List.{List, [], _∷_, _++_, append-assoc}
 use native.Mathlib.Omega.{arith}
 use borrow.Author.Tests.{eq-eqb, le-leb}
-use lib.Dec.{eqb, leb}
+use lib.Dec.{eqb}
 use lib.ListN.{length, take, getD, length-append}
 use lib.Seq.{take-at}
 use Rattle.postcode.specs.Outward.{outwardFault}
@@ -14,7 +14,7 @@ use Rattle.refusal.specs.declared.Answer.the-variants.{Value}
 use Rattle.address.specs.Address.{Lookup, Address}
 use Rattle.address.specs.Resolve.{elementsOf}
 use Rattle.layout.specs.Layout.{newest, Entry, entriesOf, entryBytes, entriesBytes, pointsBytes, trailerBytes, packBytes, packOf}
-use Rattle.layout.specs.Opening.{edition, rowCount, pointsStart, pointCount, outward, lengthSaid, trailerGood, rowArea, rowsGood, allRowsGood, pointsGood, allPointsGood, opened}
+use Rattle.layout.specs.Opening.{pointsStart, pointCount, lengthSaid, trailerGood, rowsGood, allRowsGood, pointsGood, allPointsGood, opened}
 use Rattle.layout.specs.Points.{elementsAt, pointPlace}
 use Rattle.layout.specs.Sound.{Sound}
 use Rattle.carried.proofs.Stands.{Stands, stands-end, stands-all, stands-first}

@@ -1,18 +1,17 @@
 -- The rows of a sound source's pack: each is sound, and each that an address refers to is among them.
 -- Assumes nothing.
-use Prim.Native.Nat.{ℕ, suc, _+_, _*_, _/_, _%_, _≤_, _<_}
+use Prim.Native.Nat.{ℕ, _≤_, _<_}
 use mathlib.Core.Path.{_≡_, refl, sym, ap, ap₂, subst, _∙_}
 use mathlib.Core.Bool.{Bool, true, false, cond, _&&_, _||_}
 use mathlib.Core.List.{List, [], _∷_, _++_}
-use mathlib.Core.Option.{Option, none, some}
+use mathlib.Core.Option.{some}
 use native.Mathlib.Omega.{arith}
 use borrow.Author.Tests.{eq-eqb, ne-eqb, eqb-true, eqb-false}
 use lib.Dec.{eqb}
-use lib.ListN.{length}
 use Rattle.text.specs.Test.{elem}
 use Rattle.address.specs.Address.{Lookup, Organisation, none-needed, named, lacking, Address, present, Asked, keysOf}
 use Rattle.layout.specs.Layout.{ref, kindOf, keyOf, Entry, entry, usedBy, textsOr, tableEntries, organisationEntry, organisationEntries, entriesOf}
-use Rattle.layout.specs.Sound.{RowSound, OrganisationSound, KeysFit, AddressSound, AddressesSound, Sound}
+use Rattle.layout.specs.Sound.{RowSound, OrganisationSound, KeysFit, AddressesSound, Sound}
 use Rattle.carried.specs.Used.{refersIn, refers, Rises, RowFound}
 use Rattle.carried.proofs.Used.{used-exactly, used-rises, used-each, used-found, Each, ref-kind, ref-key}
 use Rattle.carried.proofs.Rows.{EntrySound, EntriesSound, and-both, or-true}

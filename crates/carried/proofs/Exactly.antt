@@ -1,7 +1,7 @@
 -- The rows of a pack, read back: each row that its addresses use, and no other.
 -- Assumes nothing.
-use Prim.Native.Nat.{ℕ, suc, _+_, _≤_}
-use mathlib.Core.Path.{_≡_, refl, sym, ap, ap₂, _∙_}
+use Prim.Native.Nat.{ℕ, _+_, _≤_}
+use mathlib.Core.Path.{_≡_, refl, ap, ap₂, _∙_}
 use mathlib.Core.List.{List, [], _∷_, _++_}
 use native.Mathlib.Omega.{arith}
 use lib.ListN.{length}
@@ -9,10 +9,10 @@ use Rattle.address.specs.Address.{Lookup, Organisation, none-needed, named, lac
 use Rattle.layout.specs.Layout.{kindOf, Entry, usedBy, textsBytes, entriesBytes, tableEntries, organisationEntry, organisationEntries, entriesOf, packOf}
 use Rattle.layout.specs.Opening.{Slot, slotsOf, textEnd, rowEnd}
 use Rattle.layout.specs.Sound.{AddressesSound, Sound}
-use Rattle.carried.specs.Rows.{RowRead, rowRead, textsAt, rowAt, rowsFrom, rowsIn, rowsOf, tableRows, organisationRow, organisationRows}
+use Rattle.carried.specs.Rows.{rowRead, textsAt, rowsFrom, rowsIn, rowsOf, tableRows, organisationRow, organisationRows}
 use Rattle.carried.proofs.Stands.{Stands, stands-all}
 use Rattle.carried.proofs.Used.{ref-kind}
-use Rattle.carried.proofs.Rows.{EntrySound, EntriesSound, text-at, text-behind, row-kind, row-long, texts-stand, first-stands, others-stand}
+use Rattle.carried.proofs.Rows.{EntriesSound, text-at, text-behind, row-kind, row-long, texts-stand, first-stands, others-stand}
 use Rattle.carried.proofs.Carried.{pack-rows}
 
 module _ (rows : List ℕ) where

@@ -2,7 +2,6 @@
 -- Assumes nothing.
 use Prim.Native.Nat.{ℕ, zero, suc, _+_, _*_, _/_, _%_, _^_, _<_}
 use mathlib.Core.Path.{_≡_, refl, sym, ap, _∙_}
-use mathlib.Core.List.{List, [], _∷_}
 use native.Mathlib.Nat.{pow-zero, pow-suc, div-one, div-eq-of-lt, div-div-eq-div-mul, div-add-mod'}
 use lib.ListN.{length}
 use Rattle.layout.specs.Numbers.{bytesOf, numberFrom}

@@ -1,11 +1,11 @@
 -- A point of a sound address is accepted, and gives the elements of the address.
 -- Assumes nothing.
-use Prim.Native.Nat.{ℕ, zero, suc, _+_, _*_, _≤_, _<_}
-use mathlib.Core.Path.{_≡_, refl, sym, ap, ap₂, subst, _∙_}
-use mathlib.Core.Bool.{Bool, true, false, cond, not, _&&_, _||_}
+use Prim.Native.Nat.{ℕ, zero, suc, _+_, _*_, _<_}
+use mathlib.Core.Path.{_≡_, refl, ap, ap₂, _∙_}
+use mathlib.Core.Bool.{Bool, true, false, cond, not, _||_}
 use mathlib.Core.List.{List, [], _∷_}
 use native.Mathlib.Omega.{arith}
-use borrow.Author.Tests.{eq-eqb, ne-eqb, eqb-true, eqb-false, le-leb}
+use borrow.Author.Tests.{eq-eqb, ne-eqb, eqb-true, le-leb}
 use lib.Dec.{eqb, leb}
 use lib.ListN.{length, getD}
 use Rattle.text.specs.Test.{elem}
@@ -17,7 +17,7 @@ use Rattle.address.specs.Address.{Lookup, Organisation, none-needed, named, lac
 use Rattle.address.specs.Resolve.{forbidden, nameOf, elementsOf}
 use Rattle.label.specs.Lines.{isEmpty}
 use Rattle.layout.specs.Layout.{newest, Entry, markOf, pointsBytes}
-use Rattle.layout.specs.Opening.{outward, offsetKinds, offsetsGood, given, postcodeGood, plainGood, allowedMix, organisationGood, pointGood, pointsGood, rowArea, rowText, offsetOfPoint, buildingNumber}
+use Rattle.layout.specs.Opening.{outward, offsetKinds, offsetsGood, given, postcodeGood, plainGood, allowedMix, organisationGood, pointGood, pointsGood, rowArea, rowText, offsetOfPoint}
 use Rattle.layout.specs.Points.{elementsAt}
 use Rattle.layout.specs.Sound.{OrganisationSound, AddressSound, AddressesSound}
 use Rattle.carried.proofs.Stands.{Stands}

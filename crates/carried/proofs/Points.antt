@@ -1,8 +1,8 @@
 -- The points of a pack, read where they stand: each gives the fields of its address, and where its rows are.
 -- Assumes nothing.
-use Prim.Native.Nat.{ℕ, zero, suc, _+_, _*_, _^_, _≤_, _<_}
-use mathlib.Core.Path.{_≡_, refl, sym, ap, _∙_}
-use mathlib.Core.Bool.{Bool, true, false, cond, _&&_}
+use Prim.Native.Nat.{ℕ, zero, suc, _+_, _*_, _<_}
+use mathlib.Core.Path.{_≡_, refl, ap, _∙_}
+use mathlib.Core.Bool.{Bool, true, false, cond}
 use mathlib.Core.List.{List, [], _∷_, _++_}
 use mathlib.Core.Option.{Option, none, some}
 use native.Mathlib.Omega.{arith}
@@ -12,15 +12,14 @@ use lib.ListN.{length, getD, length-append}
 use Rattle.text.specs.Test.{elem}
 use Rattle.text.specs.Text.{part}
 use Rattle.text.proofs.Tests.{and-left}
-use Rattle.postcode.specs.Outward.{sequenceFrom, patterns, lettersFault, outwardFault}
-use Rattle.postcode.specs.Inward.{faultBy, inwardFault}
+use Rattle.postcode.specs.Outward.{sequenceFrom, patterns, outwardFault}
+use Rattle.postcode.specs.Inward.{inwardFault}
 use Rattle.address.specs.Address.{Lookup, Address}
 use Rattle.layout.specs.Numbers.{bytesOf, numberAt, absent}
 use Rattle.layout.specs.Layout.{newest, Entry, entriesBytes, offsetOf, refBytes, refsBytes, refsOf, markOf, postcodeOf, plainOf, pointBytes, pointsBytes}
-use Rattle.layout.specs.Opening.{offsetOfPoint}
 use Rattle.layout.specs.Sound.{AddressSound, AddressesSound}
 use Rattle.carried.proofs.Numbers.{bytes-long}
-use Rattle.carried.proofs.Stands.{Stands, stands-first, stands-second, stands-part, stands-byte, stands-next, stands-number}
+use Rattle.carried.proofs.Stands.{Stands, stands-first, stands-second, stands-part, stands-byte, stands-number}
 use Rattle.carried.proofs.Found.{offset-within}
 
 -- a code without fault has its length

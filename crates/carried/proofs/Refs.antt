@@ -1,23 +1,23 @@
 -- The references of a point: an offset leads to the row that was packed for its key, and no offset stands for no row.
 -- Assumes nothing.
-use Prim.Native.Nat.{ℕ, _+_, _*_, _/_, _≤_, _<_}
-use mathlib.Core.Path.{_≡_, refl, sym, ap, ap₂, subst, _∙_}
-use mathlib.Core.Bool.{Bool, true, false, cond, not, _&&_, _||_}
-use mathlib.Core.List.{List, [], _∷_, _++_}
-use mathlib.Core.Option.{Option, none, some}
+use Prim.Native.Nat.{ℕ, _+_, _≤_, _<_}
+use mathlib.Core.Path.{_≡_, refl, ap, subst, _∙_}
+use mathlib.Core.Bool.{Bool, true, false, cond}
+use mathlib.Core.List.{List, [], _∷_}
+use mathlib.Core.Option.{none, some}
 use native.Mathlib.Omega.{arith}
 use borrow.Author.Tests.{eq-eqb, ne-eqb}
 use lib.Dec.{eqb}
 use lib.ListN.{length, getD}
 use Rattle.address.specs.Address.{Lookup, Organisation, none-needed, named, lacking, Address, present}
-use Rattle.address.specs.Resolve.{textOr, textOf, nameOf, departmentOf}
+use Rattle.address.specs.Resolve.{textOf, nameOf, departmentOf}
 use Rattle.layout.specs.Numbers.{absent}
 use Rattle.layout.specs.Layout.{ref, kindOf, Entry, entry, entriesBytes, offsetOf, organisationRef, refsOf}
-use Rattle.layout.specs.Opening.{rowCount, rowArea, slotsOf, rowKind, rowText, isStart, offsetGood, offsetOfPoint, given}
+use Rattle.layout.specs.Opening.{rowCount, rowArea, slotsOf, rowKind, rowText, offsetGood, offsetOfPoint, given}
 use Rattle.layout.specs.Points.{offsetText}
-use Rattle.carried.proofs.Stands.{Stands, stands-all}
+use Rattle.carried.proofs.Stands.{stands-all}
 use Rattle.carried.proofs.Used.{ref-kind}
-use Rattle.carried.proofs.Rows.{EntrySound, EntriesSound, and-both, row-kind, row-long, row-text}
+use Rattle.carried.proofs.Rows.{EntriesSound, and-both, row-kind, row-long, row-text}
 use Rattle.carried.proofs.Found.{textsFor, offset-within, FoundAt, found-at}
 use Rattle.carried.proofs.Entries.{KeyFound, OrganisationFound, RowsFound}
 use Rattle.carried.proofs.Points.{placeOf, refs-back, PointRead}

@@ -1,10 +1,9 @@
 -- The rows of a pack, read where they stand: each is accepted, and gives the texts that were packed.
 -- Assumes nothing.
 use Prim.Native.Nat.{ℕ, zero, suc, _+_, _≤_, _<_}
-use mathlib.Core.Path.{_≡_, refl, sym, ap, ap₂, subst, _∙_}
-use mathlib.Core.Bool.{Bool, true, false, cond, not, _&&_, _||_}
+use mathlib.Core.Path.{_≡_, refl, sym, ap, ap₂, _∙_}
+use mathlib.Core.Bool.{Bool, true, false, not, _&&_, _||_}
 use mathlib.Core.List.{List, [], _∷_, _++_}
-use mathlib.Core.Option.{Option, none, some}
 use native.Mathlib.Omega.{arith}
 use borrow.Author.Tests.{eq-eqb, eqb-true, le-leb}
 use lib.Dec.{eqb, leb}
@@ -12,8 +11,8 @@ use lib.ListN.{length, getD, length-append}
 use Rattle.text.specs.Text.{part}
 use Rattle.text.proofs.Tests.{and-left, and-right}
 use Rattle.label.specs.Lines.{isEmpty}
-use Rattle.layout.specs.Layout.{Entry, entry, kindOf, textsBytes, entryBytes, entriesBytes, offsetOf}
-use Rattle.layout.specs.Opening.{Slot, slotsOf, textGood, textEnd, textAt, textsEnd, textsGood, textPlace, rowKind, rowEnd, rowText, doubleGood, rowGood, rowsGood, isStart}
+use Rattle.layout.specs.Layout.{Entry, kindOf, textsBytes, entryBytes, entriesBytes}
+use Rattle.layout.specs.Opening.{Slot, slotsOf, textGood, textEnd, textAt, textsEnd, textsGood, textPlace, rowKind, rowEnd, rowText, doubleGood, rowGood, rowsGood}
 use Rattle.layout.specs.Sound.{slotsGood, RowSound}
 use Rattle.carried.proofs.Stands.{Stands, stands-first, stands-second, stands-fits, stands-part, stands-byte, stands-next}
 
@@ -99,7 +98,9 @@ module _ (rows : List ℕ) where
     row-text n l = text-nth n (e .texts) (at + 1) l texts-stand
 
     row-double : doubleGood rows at ≡ true
-    row-double = ap (λ k. not (eqb k 1) || (not (isEmpty (rowText rows at 1)) || isEmpty (rowText rows at 2))) row-kind ∙ by-test (eqb (kindOf (e .stands-for)) 1) refl
+    row-double =
+        ap (λ k. not (eqb k 1) || (not (isEmpty (rowText rows at 1)) || isEmpty (rowText rows at 2))) row-kind
+        ∙ by-test (eqb (kindOf (e .stands-for)) 1) refl
       where
         by-test : (t : Bool) → eqb (kindOf (e .stands-for)) 1 ≡ t
             → not t || (not (isEmpty (rowText rows at 1)) || isEmpty (rowText rows at 2)) ≡ true

@@ -1,6 +1,6 @@
 -- A pack sees the look-up through the keys that its addresses use, and through nothing else.
 -- Assumes nothing.
-use Prim.Native.Nat.{ℕ, _≤_, _<_}
+use Prim.Native.Nat.{ℕ}
 use mathlib.Core.Path.{_≡_, refl, sym, ap, ap₂, _∙_}
 use mathlib.Core.Bool.{Bool, true, false, _&&_, _||_}
 use mathlib.Core.List.{List, [], _∷_, _++_}
@@ -35,7 +35,7 @@ AllAgree look other (a ∷ more) = Agree look other (keysOf a) × AllAgree look 
 
 module _ (look other : Lookup) where
   -- they find the same for a number
-  abbrev Alike : ℕ → Type 0
+  abbrev pub Alike : ℕ → Type 0
   Alike r = look (kindOf r) (keyOf r) ≡ other (kindOf r) (keyOf r)
 
   tables-same : (rs : List ℕ) → ((r : ℕ) → elem r rs ≡ true → Alike r) → tableEntries look rs ≡ tableEntries other rs

@@ -5,7 +5,7 @@ use mathlib.Core.Path.{_≡_, refl, sym, ap, subst, _∙_}
 use mathlib.Core.List.{List, [], _∷_, _++_, append-assoc, append-nil}
 use native.Mathlib.Omega.{arith}
 use lib.ListN.{length, take, drop, getD, length-append, length-drop}
-use lib.Seq.{drop-drop, take-at, drop-at, drop-append-add, getD-drop}
+use lib.Seq.{drop-drop, take-at, drop-at, getD-drop}
 use Rattle.text.specs.Text.{part}
 use Rattle.layout.specs.Numbers.{bytesOf, numberFrom, numberAt}
 use Rattle.carried.proofs.Numbers.{bytes-long, number-back}

@@ -1,6 +1,6 @@
 -- The rows that addresses use are those that their keys refer to, each once and rising; and each of them is found.
 -- Assumes nothing.
-use Prim.Native.Nat.{ℕ, suc, _+_, _*_, _/_, _%_, _≤_, _<_}
+use Prim.Native.Nat.{ℕ, suc, _≤_, _<_}
 use mathlib.Core.Path.{_≡_, refl, sym, ap, ap₂, subst, _∙_}
 use mathlib.Core.Bool.{Bool, true, false, cond, not, _&&_, _||_}
 use mathlib.Core.List.{List, [], _∷_}
@@ -12,7 +12,7 @@ use Rattle.text.specs.Test.{elem}
 use Rattle.address.specs.Address.{Lookup, Address, present, Asked, keysOf}
 use Rattle.address.specs.Resolve.{lacks, missingFrom, lacksOrganisation, missing}
 use Rattle.layout.specs.Layout.{ref, kindOf, keyOf, insert, insertKeys, usedBy}
-use Rattle.layout.specs.Sound.{RowSound, RowsSound, KeysFit, AddressSound, AddressesSound, Sound}
+use Rattle.layout.specs.Sound.{RowSound, RowsSound, KeysFit, AddressesSound, Sound}
 use Rattle.carried.specs.Used.{refersIn, refers, Rises, RowFound}
 
 -- ---- which they are
