@@ -9,6 +9,7 @@ use Rattle.refusal.specs.declared.Reason.the-variants.{Room}
 use Rattle.refusal.specs.declared.Answer.{Answer}
 use Rattle.refusal.specs.declared.Answer.the-variants.{Value, Refused}
 use Rattle.address.specs.Address.{Elements}
+use Rattle.address.specs.Resolve.{Resolved, elements, refused}
 use Rattle.label.specs.Lines.{linesOf}
 
 -- "Each line ends with byte 10"
@@ -26,3 +27,12 @@ roomAnswer text out = cond (leb (length text) (length out)) (Value (length text)
 -- "bytes behind the label keep their values"; "A refusal leaves lent buffers unwritten"
 unfoldable pub roomMemory : List ℕ → List ℕ → List ℕ
 roomMemory text out = cond (leb (length text) (length out)) (text ++ drop (length text) out) out
+
+-- what is printed of an address, or its refusal
+abbrev pub resolvedAnswer : Resolved → List ℕ → Answer
+resolvedAnswer (elements e) out = roomAnswer (labelOf e) out
+resolvedAnswer (refused why) out = Refused 0 why
+
+abbrev pub resolvedMemory : Resolved → List ℕ → List ℕ
+resolvedMemory (elements e) out = roomMemory (labelOf e) out
+resolvedMemory (refused why) out = out

@@ -22,9 +22,9 @@ use Rattle.views.specs.Views.{wanted, wantedCount, wantedAt}
 use Rattle.views.proofs.Laws.{wanted-at-wanted, wanted-at-zero, wanted-at-none}
 use Rattle.address.specs.Address.{Elements}
 use Rattle.address.specs.Resolve.{elements, refused}
-use Rattle.label.specs.Label.{labelOf, roomAnswer, roomMemory}
+use Rattle.label.specs.Label.{labelOf, roomAnswer, roomMemory, resolvedAnswer, resolvedMemory}
 use Rattle.listing.specs.Listing.{after}
-use Rattle.pair.specs.Pair.{resolvedAnswer, resolvedMemory, resolvedAt, placeAnswer, placeMemory, afterMemory, pairAnswer, pairMemory, codeAnswer, codeMemory, ViewPlace}
+use Rattle.pair.specs.Pair.{resolvedAt, placeAnswer, placeMemory, afterMemory, pairAnswer, pairMemory, codeAnswer, codeMemory, ViewPlace}
 
 -- an answer with what the buffer holds
 pub record Says (answer : Answer) (memory : List ℕ) (a : Answer) (m : List ℕ) : Type 0 where

@@ -15,20 +15,11 @@ use Rattle.files.proofs.Accepted.{Accepted}
 use Rattle.files.specs.Check.{records, checked}
 use Rattle.files.specs.Formats.{tableFormat, pointFormat}
 use Rattle.views.specs.Views.{wantedAt}
-use Rattle.address.specs.Resolve.{Resolved, elements, refused, resolve}
+use Rattle.address.specs.Resolve.{Resolved, resolve}
 use Rattle.source.specs.Rows.{tableLookup}
 use Rattle.source.specs.Addresses.{addressAt}
-use Rattle.label.specs.Label.{labelOf, roomAnswer, roomMemory}
+use Rattle.label.specs.Label.{resolvedAnswer, resolvedMemory}
 use Rattle.listing.specs.Listing.{after}
-
--- what is printed of an address, or its refusal
-abbrev pub resolvedAnswer : Resolved → List ℕ → Answer
-resolvedAnswer (elements e) out = roomAnswer (labelOf e) out
-resolvedAnswer (refused why) out = Refused 0 why
-
-abbrev pub resolvedMemory : Resolved → List ℕ → List ℕ
-resolvedMemory (elements e) out = roomMemory (labelOf e) out
-resolvedMemory (refused why) out = out
 
 -- the address of the view at a place; its number is not printed
 abbrev pub resolvedAt : List ℕ → List ℕ → ℕ → Resolved

@@ -1,0 +1,14 @@
+pub mod Numbers
+pub mod Stands
+pub mod Used
+pub mod Rows
+pub mod Found
+pub mod Entries
+pub mod Trailer
+pub mod Points
+pub mod Refs
+pub mod Point
+pub mod Carried
+pub mod Labels
+pub mod Exactly
+pub mod Same

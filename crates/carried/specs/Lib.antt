@@ -1,0 +1,3 @@
+pub mod Used
+pub mod Kth
+pub mod Rows
