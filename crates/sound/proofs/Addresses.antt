@@ -24,7 +24,7 @@ use Rattle.files.specs.declared.check.Verdict.the-variants.{Fine}
 use Rattle.files.specs.Formats.{pointFormat}
 use Rattle.files.proofs.Accepted.{Accepted, both-fine}
 use Rattle.files.proofs.Laws.{within-limit}
-use Rattle.views.specs.Views.{isView, isLive, wanted, lastOf, wantedFrom, wantedIn}
+use Rattle.views.specs.Views.{isView, isLive, wanted, lastOf, wantedFrom, wantedIn, viewNumber}
 use Rattle.address.specs.Address.{Lookup, Address}
 use Rattle.address.specs.Resolve.{forbidden, missing, elementsOf, elements, refused, resolve}
 use Rattle.source.specs.Addresses.{addressOf, addressAt}
@@ -34,7 +34,7 @@ use Rattle.meaning.proofs.Meant.{wanted-view}
 use Rattle.spans.proofs.Laws.{digits-below}
 use Rattle.layout.specs.Cutting.{badOf, firstBad}
 use Rattle.layout.specs.Sound.{AddressSound, AddressesSound}
-use Rattle.sound.specs.Packed.{packed, viewNumber, viewAt, viewsAt, WantedPlace}
+use Rattle.sound.specs.Packed.{packed, viewAt, viewsAt, WantedPlace}
 use Rattle.sound.proofs.Numbers.{number-view, number-rises, number-bound}
 use Rattle.sound.proofs.Packed.{wanted-given, code-length, packed-views}
 use Rattle.sound.proofs.Follower.{follower-there, organisation-sound}

@@ -9,9 +9,8 @@ use native.Mathlib.Numerals.{add-one}
 use lib.ListN.{length, length-append}
 use Rattle.text.proofs.Tests.{and-true}
 use Rattle.record.specs.Parts.{recordAt}
-use Rattle.views.specs.Views.{isView, wanted, wantedFrom}
+use Rattle.views.specs.Views.{isView, wanted, wantedFrom, viewNumber}
 use Rattle.views.proofs.Laws.{from-bound}
-use Rattle.sound.specs.Packed.{viewNumber}
 
 -- one record more behind k others
 wanted-more : (code file : List ℕ) (k i : ℕ)

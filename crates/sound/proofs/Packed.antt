@@ -11,13 +11,13 @@ use lib.ListN.{length, getD}
 use Rattle.record.specs.Parts.{recordAt}
 use Rattle.postcode.specs.Outward.{outwardFault}
 use Rattle.postcode.proofs.Codes.{not-four}
-use Rattle.views.specs.Views.{isView, isLive, wanted, lastOf, wantedFrom, wantedIn, wantedCount, wantedAt}
+use Rattle.views.specs.Views.{isView, isLive, wanted, lastOf, wantedFrom, wantedIn, wantedCount, wantedAt, viewNumber}
 use Rattle.views.specs.Views as views
 use Rattle.address.specs.Address.{Address}
 use Rattle.source.specs.Addresses.{addressOf, addressAt, numbered, addressesIn, kept}
 use Rattle.source.specs.Pair.{pairSource}
 use Rattle.layout.specs.Cutting.{inCode}
-use Rattle.sound.specs.Packed.{packed, viewNumber, viewAt, viewsAt, WantedPlaces}
+use Rattle.sound.specs.Packed.{packed, viewAt, viewsAt, WantedPlaces}
 use Rattle.sound.proofs.Numbers.{wanted-every, number-none, number-view, number-other}
 
 -- a code that is given wants the live views in it

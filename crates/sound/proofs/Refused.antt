@@ -14,7 +14,7 @@ use Rattle.files.specs.declared.check.Verdict.{Verdict}
 use Rattle.files.specs.declared.check.Verdict.the-variants.{Fine, Bad}
 use Rattle.files.specs.Formats.{tableFormat, pointFormat}
 use Rattle.files.proofs.Accepted.{Accepted}
-use Rattle.views.specs.Views.{wanted, lastOf, wantedIn, wantedCount, wantedAt, nextWanted}
+use Rattle.views.specs.Views.{wanted, lastOf, wantedIn, wantedCount, wantedAt, nextWanted, viewNumber}
 use Rattle.views.proofs.Laws.{next-skip}
 use Rattle.address.specs.Address.{Lookup, Address}
 use Rattle.address.specs.Resolve.{forbidden, missing, elementsOf, resolve}
@@ -22,8 +22,10 @@ use Rattle.source.specs.Rows.{tableLookup}
 use Rattle.source.specs.Addresses.{addressOf, addressAt}
 use Rattle.keys.specs.Keys.{refusalIn}
 use Rattle.meaning.proofs.Meant.{wanted-view, resolved-fine, resolved-bad}
-use Rattle.layout.specs.Cutting.{withView, badOf, firstBad}
-use Rattle.sound.specs.Packed.{packed, viewNumber, viewAt, viewsAt, numberedRefusal, refusalAt, firstRefused, refusedFrom, WantedPlace, WantedPlaces}
+use Rattle.refusal.specs.Refusal.{withView}
+use Rattle.layout.specs.Cutting.{badOf, firstBad}
+use Rattle.sound.specs.Packed.{packed, viewAt, viewsAt, WantedPlace, WantedPlaces}
+use Rattle.marks.specs.Places.{numberedRefusal, refusalAt, firstRefused}
 use Rattle.sound.proofs.Packed.{packed-views, packed-at, all-wanted}
 
 -- what an address resolves to does not look at its number
@@ -73,34 +75,3 @@ module _ (table points code : List ℕ) (t : Accepted tableFormat table) (p : Ac
   pub first-bad : outwardFault code ≡ 0
       → firstBad (tableLookup table) (packed points code) ≡ firstRefused table points (wantedIn code points)
   first-bad e = rw (packed-views points code e) (refused-all (wantedIn code points) (all-wanted code points))
-
--- the same from a place on, as a loop goes
-module _ (table points code : List ℕ) where
-  pub refused-start : firstRefused table points (wantedIn code points) ≡ refusedFrom table points code 1
-  unfolding wantedIn
-  refused-start = refl
-
-  pub refused-end : (i : ℕ) → lastOf points ≤ i → refusedFrom table points code i ≡ Fine
-  refused-end i h = rw (let z : lastOf points - i ≡ 0 = omega arith in z)
-
-  -- to the next that is wanted
-  pub refused-next : (i : ℕ)
-      → refusedFrom table points code i ≡ refusedFrom table points code (nextWanted code points i)
-  refused-next i = ap (firstRefused table points) (next-skip code points i)
-
-  module _ (i : ℕ) (h : i < lastOf points) where
-    one-more : lastOf points - i ≡ suc (lastOf points - suc i)
-    one-more = omega arith
-
-    pub refused-other : wanted code (recordAt 168 points i) ≡ false
-        → refusedFrom table points code i ≡ refusedFrom table points code (i + 1)
-    refused-other e = rw (one-more, add-one) (simp e)
-
-    module _ (e : wanted code (recordAt 168 points i) ≡ true) where
-      pub refused-fine : refusalIn table (recordAt 168 points i) ≡ Fine
-          → refusedFrom table points code i ≡ refusedFrom table points code (i + 1)
-      refused-fine f = rw (one-more, add-one) (simp (e, f))
-
-      pub refused-bad : (why : Reason) → refusalIn table (recordAt 168 points i) ≡ Bad why
-          → refusedFrom table points code i ≡ Bad (withView (viewNumber points i) why)
-      refused-bad why f = rw one-more (simp (e, f))
