@@ -4,7 +4,7 @@ use crate::Span;
 use crate::Spans;
 use crate::lens::text_len;
 use crate::pieces::byte_at;
-use crate::pieces::bytes_at;
+pub use crate::pieces::bytes_at;
 use crate::pieces::lead_at;
 use crate::pieces::tail_at;
 use crate::pieces::text_at;

@@ -1,0 +1,4 @@
+pub mod Feeds
+pub mod Decimals
+pub mod Labels
+pub mod Runs
