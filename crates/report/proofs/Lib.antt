@@ -2,3 +2,4 @@ pub mod Feeds
 pub mod Decimals
 pub mod Labels
 pub mod Runs
+pub mod Unique

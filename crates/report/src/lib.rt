@@ -1,9 +1,8 @@
-// What a program prints of the files `changes1` and `changes2`, at most 300 records each: document 01's "One run".
+// What is printed of a pair of files, of at most 300 records each: document 01's "One run".
 mod blocks;
 mod pieces;
 
 use blocks::blocks_at;
-use libc::STDOUT_FILENO;
 use pieces::number_at;
 use pieces::refused_at;
 use pieces::text_at;
@@ -19,15 +18,10 @@ ghost use Rattle.label.specs.Put.{Wrote};
 ghost use Rattle.report.specs.Fed.{Fed, fitting};
 ghost use Rattle.report.specs.Report.{refusedLine, pairText, pointsText, reportOf};
 
-// One byte more than 300 records of the wider file, to tell a longer one.
-const ROOM: usize = 50701;
-
+// 300 records.
 const TABLE_MOST: usize = 50700;
 
 const POINTS_MOST: usize = 50400;
-
-// More than any report of such files has.
-const REPORT_ROOM: usize = 160000;
 
 // `pair`, table records, point records, views; then each view.
 fn write_pair<'a>(table: &'a [u8], points: &'a [u8], t: usize, p: usize, out: &mut [u8]) -> usize
@@ -77,35 +71,4 @@ pub fn write_report<'a>(table: &'a [u8], points: &'a [u8], out: &mut [u8]) -> us
         Answer::Value(t) => write_points(table, points, t, out),
         Answer::Refused { file: _, reason } => write_refused(b"table", reason, out),
     }
-}
-
-// What stands in a file, as far as the buffer goes; an absent file counts as empty.
-fn read_file(name: &[u8], into: &mut [u8]) -> usize {
-    let file = os::open_read(name);
-    if file < 0 {
-        return 0;
-    }
-    let n = io::read_full(file, into);
-    libc::close(file);
-    n
-}
-
-// The report of what was read of both files.
-fn show_read<'a>(table: &'a [u8], t: usize, points: &'a [u8], p: usize) {
-    if t <= table.len() {
-        if p <= points.len() {
-            let mut report = [0u8; REPORT_ROOM];
-            let n = write_report(&table[..t], &points[..p], &mut report);
-            io::write_all(STDOUT_FILENO, &report[..n]);
-        }
-    }
-}
-
-// Reads `changes1` and `changes2` from the folder that the program runs in, and prints what they say.
-pub fn show_folder() {
-    let mut table = [0u8; ROOM];
-    let mut points = [0u8; ROOM];
-    let t = read_file(b"changes1", &mut table);
-    let p = read_file(b"changes2", &mut points);
-    show_read(&table, t, &points, p);
 }

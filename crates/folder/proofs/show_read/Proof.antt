@@ -1,10 +1,10 @@
--- `report::show_read` meets its contract. Assumes nothing.
+-- `folder::show_read` is safe. Assumes nothing.
 use borrow.Author.Needs.{needs}
 use mathlib.Core.Path.{sym}
 use lib.Seq.{length-take-le}
 use Rattle.report.proofs.Feeds.{wrote-count}
-use Rattle.report.proofs.show_read.Statement.{statement}
-use Rattle.report.proofs.show_read.Tie as tie
+use Rattle.folder.proofs.show_read.Statement.{statement}
+use Rattle.folder.proofs.show_read.Tie as tie
 
 slice-aggregate-write-report : tie.Need-slice-aggregate-write-report
 slice-aggregate-write-report c =
@@ -16,21 +16,21 @@ slice-aggregate-write-report-2 c =
     let i = c .before .before in
     sym (length-take-le _ _ (i .if2 .taken))
 
-slice-aggregate-write-report-3 : tie.Need-slice-aggregate-write-report-3
-slice-aggregate-write-report-3 c = search needs
-
 write-report-requires : tie.Need-write-report-requires
 write-report-requires c κs = search needs
 
-array-share-prefix-report : tie.Need-array-share-prefix-report
-array-share-prefix-report c = wrote-count (c .before .write-report .ensures)
+slice-reshare-prefix-write-all : tie.Need-slice-reshare-prefix-write-all
+slice-reshare-prefix-write-all c = wrote-count (c .before .before .write-report .ensures)
 
 slice-aggregate-write-all : tie.Need-slice-aggregate-write-all
 slice-aggregate-write-all c =
-    sym (length-take-le _ _ (wrote-count (c .before .before .write-report .ensures)))
+    sym (length-take-le _ _ (wrote-count (c .before .before .before .write-report .ensures)))
 
 write-all-requires : tie.Need-write-all-requires
 write-all-requires c κs = search needs
+
+same-length : tie.Need-same-length
+same-length c = search needs
 
 returns : tie.Need-returns
 returns c = search needs
@@ -47,11 +47,11 @@ show-read-spec =
     (tie.spec
     slice-aggregate-write-report
     slice-aggregate-write-report-2
-    slice-aggregate-write-report-3
     write-report-requires
-    array-share-prefix-report
+    slice-reshare-prefix-write-all
     slice-aggregate-write-all
     write-all-requires
+    same-length
     returns
     returns-2
     returns-3)
