@@ -17,7 +17,8 @@ fn put_bytes(t: &[u8], out: &mut [u8]) -> usize
 {
     let mut i = 0;
     while i < t.len() {
-        out[i] = t[i];
+        let b = t[i];
+        out[i] = b;
         i += 1;
     }
     i
