@@ -1,5 +1,5 @@
 // Pieces of a report, written at a place of a lent buffer as far as it goes. All else stays as it was.
-use label::inner::bytes_at;
+use print::inner::bytes_at;
 use refusal::Reason;
 ghost use mathlib.Core.List.{[], _∷_};
 ghost use Prim.Native.Nat.{_≤_};

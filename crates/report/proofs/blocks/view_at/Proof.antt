@@ -5,7 +5,7 @@ use Prim.Native.Nat.{ℕ, _≤_}
 use native.Mathlib.Omega.{arith}
 use lib.ListN.{length, length-replicate}
 use lib.Seq.{length-take-le}
-use Rattle.label.proofs.Unique.{zeros}
+use Rattle.print.proofs.Unique.{zeros}
 use Rattle.report.specs.Report.{viewText}
 use Rattle.report.proofs.Feeds.{fed-as}
 use Rattle.report.proofs.Labels.{told-value, told-refused, view-told}
