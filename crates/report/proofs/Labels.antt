@@ -82,24 +82,29 @@ narrow f =
       inward = f .inward;
     }
 
-module _ (table points : List ℕ) (place : ℕ) (v : ViewPlace table points place) (out : List ℕ) (n : 499 ≤ length out) where
-  some-told : (place ≡ 0 → ⊥)
-      → Told (resolvedText (resolvedAt table points place)) (resolvedAnswer (resolvedAt table points place) out)
-      (resolvedMemory (resolvedAt table points place) out)
-  some-told some =
-      resolved-told (resolvedAt table points place) out
-      (λ e h.
-      let fits =
-      address-fits table points (v .of-table) (v .of-points) place (v .low some) (v .high some) (v .a-view some) 0 in
-      let same = resolved-is (tableLookup table) (addressAt points 0 place) e h in
-      let most = at-most-499 (elementsOf (tableLookup table) (addressAt points 0 place)) (narrow fits) in
-      omega (arith, most, ap (λ (x : Elements). length (labelOf x)) same))
+module _ (table points : List ℕ) (place : ℕ) (v : ViewPlace table points place) where
+  -- the label of a view has at most 499 bytes
+  pub label-fits : (place ≡ 0 → ⊥) → length (labelOf (elementsOf (tableLookup table) (addressAt points 0 place))) ≤ 499
+  label-fits some =
+      at-most-499 (elementsOf (tableLookup table) (addressAt points 0 place))
+      (narrow
+      (address-fits table points (v .of-table) (v .of-points) place (v .low some) (v .high some) (v .a-view some) 0))
 
-  pub view-told : Told (viewText table points place) (placeAnswer table points place out) (placeMemory table points place out)
-  unfolding viewText placeAnswer placeMemory
-  view-told = by-test (eqb place 0) refl
-    where
-      by-test : (t : Bool) → eqb place 0 ≡ t
-          → Told (viewText table points place) (placeAnswer table points place out) (placeMemory table points place out)
-      by-test true e = rw e refl
-      by-test false e = rw e (some-told (eqb-false place 0 e))
+  module _ (out : List ℕ) (n : 499 ≤ length out) where
+    some-told : (place ≡ 0 → ⊥)
+        → Told (resolvedText (resolvedAt table points place)) (resolvedAnswer (resolvedAt table points place) out)
+        (resolvedMemory (resolvedAt table points place) out)
+    some-told some =
+        resolved-told (resolvedAt table points place) out
+        (λ e h.
+        let same = resolved-is (tableLookup table) (addressAt points 0 place) e h in
+        omega (arith, label-fits some, ap (λ (x : Elements). length (labelOf x)) same))
+
+    pub view-told : Told (viewText table points place) (placeAnswer table points place out) (placeMemory table points place out)
+    unfolding viewText placeAnswer placeMemory
+    view-told = by-test (eqb place 0) refl
+      where
+        by-test : (t : Bool) → eqb place 0 ≡ t
+            → Told (viewText table points place) (placeAnswer table points place out) (placeMemory table points place out)
+        by-test true e = rw e refl
+        by-test false e = rw e (some-told (eqb-false place 0 e))

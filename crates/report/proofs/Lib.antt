@@ -3,3 +3,4 @@ pub mod Decimals
 pub mod Labels
 pub mod Runs
 pub mod Unique
+pub mod Sizes
