@@ -4,3 +4,4 @@ pub mod Labels
 pub mod Runs
 pub mod Unique
 pub mod Sizes
+pub mod Worked

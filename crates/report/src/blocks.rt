@@ -12,13 +12,7 @@ ghost use Rattle.report.specs.Fed.{Fed};
 ghost use Rattle.report.specs.Report.{viewText, block, blocks};
 
 // The label of the view at a place, or its refusal.
-fn view_at<'a>(
-    table: &'a [u8],
-    points: &'a [u8],
-    place: usize,
-    at: usize,
-    out: &mut [u8],
-) -> usize
+fn view_at<'a>(table: &'a [u8], points: &'a [u8], place: usize, at: usize, out: &mut [u8]) -> usize
     requires { ⌜ (at ≤ length (now out)) × ViewPlace (now table) (now points) place ⌝ }
     ensures { λ r. ⌜ Fed (viewText (now (table .entry)) (now (points .entry)) place) (now (out .entry)) at r (now (out .exit)) ⌝ }
 {
@@ -30,13 +24,7 @@ fn view_at<'a>(
 }
 
 // `view`, number, letter; then the label.
-fn block_at<'a>(
-    table: &'a [u8],
-    points: &'a [u8],
-    view: usize,
-    at: usize,
-    out: &mut [u8],
-) -> usize
+fn block_at<'a>(table: &'a [u8], points: &'a [u8], view: usize, at: usize, out: &mut [u8]) -> usize
     requires { ⌜ (at ≤ length (now out)) × Accepted tableFormat (now table) × Accepted pointFormat (now points) ⌝ }
     ensures { λ r. ⌜ Fed (block (now (table .entry)) (now (points .entry)) view) (now (out .entry)) at r (now (out .exit)) ⌝ }
 {
