@@ -3,7 +3,6 @@ pub mod Puts
 pub mod Table
 pub mod Places
 pub mod Whole
-pub mod Unique
 pub mod Bounds
 pub mod Split
 pub mod Examples

@@ -1,26 +1,24 @@
-// The label of elements whose texts stand in two lent slices: its length, and its printing into a lent buffer.
+// The label of elements whose texts stand in two lent slices: which lines it has, and its length.
 pub mod inner;
 mod lens;
-mod pieces;
 mod shape;
 
 use lens::head_len;
 use lens::pair_len;
 use lens::places_len;
 use lens::premises_len;
-use refusal::Answer;
-use refusal::Reason;
 pub use shape::Front;
 pub use shape::Lines;
 pub use shape::Shape;
 use shape::front_of;
 use shape::lines_of;
 use shape::shape_of;
+use text::lesser;
 ghost use mathlib.Core.Path.{_≡_};
-ghost use Prim.Native.Nat.{_+_, min};
+ghost use Prim.Native.Nat.{_+_};
 ghost use lib.ListN.{length};
 ghost use Rattle.text.specs.Text.{part};
-ghost use Rattle.label.specs.Label.{labelOf, roomAnswer, roomMemory};
+ghost use Rattle.label.specs.Label.{labelOf};
 ghost use Rattle.label.specs.Spans.{textIn2, elementsIn};
 
 // Where a text stands: so many bytes at a place of the first slice or of the second.
@@ -48,12 +46,6 @@ pub struct Spans {
     pub town: Span,
     pub outward: Span,
     pub inward: Span,
-}
-
-fn lesser(a: usize, b: usize) -> usize
-    ensures { λ r. ⌜ r ≡ min a b ⌝ }
-{
-    if a < b { a } else { b }
 }
 
 // So many bytes at a place, as far as there are bytes.
@@ -95,18 +87,4 @@ pub fn label_len<'a>(a: &'a [u8], b: &'a [u8], e: Spans) -> usize
     let j = premises_len(a, b, lines);
     let k = places_len(a, b, front, e);
     i + j + k + pair_len(a, b, outward, inward)
-}
-
-// Prints the label, or refuses and writes nothing: its length is known before the first byte is written.
-pub fn print_label<'a>(a: &'a [u8], b: &'a [u8], e: Spans, out: &mut [u8]) -> Answer
-    ensures { λ r. ⌜ (r ≡ roomAnswer (labelOf (elementsIn (now (a .entry)) (now (b .entry)) e)) (now (out .entry))) × (now (out .exit) ≡ roomMemory (labelOf (elementsIn (now (a .entry)) (now (b .entry)) e)) (now (out .entry))) ⌝ }
-{
-    let needed = label_len(a, b, e);
-    if out.len() < needed {
-        return Answer::Refused {
-            file: 0,
-            reason: Reason::Room { needed },
-        };
-    }
-    Answer::Value(inner::write_label(a, b, e, out))
 }

@@ -17,7 +17,7 @@ pub fn label_at<'a>(table: &'a [u8], points: &'a [u8], place: usize, out: &mut [
         };
     }
     match keys::refusal_in(table, record::point_record(points, place)) {
-        Verdict::Fine => label::print_label(
+        Verdict::Fine => print::print_label(
             table,
             points,
             spans::spans_of(table, points, place),

@@ -2,19 +2,14 @@
 // bytes may be asked for any part.
 use crate::layout::Point;
 use crate::layout::Table;
+use text::lesser;
 ghost use mathlib.Core.Path.{_≡_};
 ghost use mathlib.Core.Bool.{true};
-ghost use Prim.Native.Nat.{_+_, _≤_, min};
+ghost use Prim.Native.Nat.{_+_, _≤_};
 ghost use lib.ListN.{length, drop, getD};
 ghost use Rattle.text.specs.Text.{part};
 ghost use Rattle.record.specs.Parts.{recordAt};
 ghost use Rattle.record.specs.Ends.{order, SameFront};
-
-fn lesser(a: usize, b: usize) -> usize
-    ensures { λ r. ⌜ r ≡ min a b ⌝ }
-{
-    if a < b { a } else { b }
-}
 
 // The bytes from `start` up to `end`, as a part of the record.
 pub fn part_of(rec: &[u8], start: usize, end: usize) -> &[u8]

@@ -159,7 +159,8 @@ pub fn read_text(rec: &[u8], start: usize, end: usize) -> &[u8]
     &rec[..0]
 }
 
-fn lesser(a: usize, b: usize) -> usize
+// The lesser of two numbers.
+pub fn lesser(a: usize, b: usize) -> usize
     ensures { λ r. ⌜ r ≡ min a b ⌝ }
 {
     if a < b { a } else { b }

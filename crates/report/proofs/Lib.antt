@@ -1,0 +1,7 @@
+pub mod Feeds
+pub mod Decimals
+pub mod Labels
+pub mod Runs
+pub mod Unique
+pub mod Sizes
+pub mod Worked

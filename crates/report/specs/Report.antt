@@ -1,0 +1,107 @@
+-- Document 01's "One run, complete": the bytes that the program writes for a pair of files, of at most 300 records each.
+-- Assumes nothing.
+use Prim.Native.Nat.{ℕ, zero, suc, _+_, _/_, _%_}
+use mathlib.Core.Bool.{cond}
+use mathlib.Core.List.{List, [], _∷_, _++_}
+use lib.Dec.{eqb, ltb}
+use lib.ListN.{length, getD}
+use Rattle.refusal.specs.declared.Reason.{Reason}
+use Rattle.refusal.specs.declared.Reason.the-variants.{NoSuchNumber}
+use Rattle.refusal.specs.declared.Answer.{Answer}
+use Rattle.refusal.specs.declared.Answer.the-variants.{Value, Refused}
+use Rattle.refusal.specs.Refusal.{number, detail}
+use Rattle.record.specs.Parts.{recordAt}
+use Rattle.files.specs.Check.{checked}
+use Rattle.files.specs.Formats.{tableFormat, pointFormat}
+use Rattle.views.specs.Views.{wantedCount, wantedAt}
+use Rattle.address.specs.Resolve.{Resolved, elements, refused}
+use Rattle.label.specs.Label.{labelOf}
+use Rattle.pair.specs.Pair.{resolvedAt}
+
+-- the words `pair`, `view`, `refused`, `table`, `points`, `long`
+abbrev pub pairWord : List ℕ
+pairWord = 112 ∷ 97 ∷ 105 ∷ 114 ∷ []
+
+abbrev pub viewWord : List ℕ
+viewWord = 118 ∷ 105 ∷ 101 ∷ 119 ∷ []
+
+abbrev pub refusedWord : List ℕ
+refusedWord = 114 ∷ 101 ∷ 102 ∷ 117 ∷ 115 ∷ 101 ∷ 100 ∷ []
+
+abbrev pub tableWord : List ℕ
+tableWord = 116 ∷ 97 ∷ 98 ∷ 108 ∷ 101 ∷ []
+
+abbrev pub pointsWord : List ℕ
+pointsWord = 112 ∷ 111 ∷ 105 ∷ 110 ∷ 116 ∷ 115 ∷ []
+
+abbrev pub longWord : List ℕ
+longWord = 108 ∷ 111 ∷ 110 ∷ 103 ∷ []
+
+-- a number in decimal digits without leading zeros, of at most so many digits and one
+abbrev pub decimalIn : ℕ → ℕ → List ℕ
+decimalIn zero n = (48 + n % 10) ∷ []
+decimalIn (suc most) n = cond (ltb n 10) ((48 + n) ∷ []) (decimalIn most (n / 10) ++ ((48 + n % 10) ∷ []))
+
+-- a number has no more digits than it counts, but for 0
+unfoldable pub decimal : ℕ → List ℕ
+decimal n = decimalIn n n
+
+-- a space and a number
+abbrev pub spacedNumber : ℕ → List ℕ
+spacedNumber n = 32 ∷ decimal n
+
+-- "`refused`, number, detail"
+unfoldable pub refusedLine : Reason → List ℕ
+refusedLine why = refusedWord ++ (spacedNumber (number why) ++ (spacedNumber (detail why) ++ (10 ∷ [])))
+
+-- "then the label, or `refused`, number, detail"
+abbrev pub resolvedText : Resolved → List ℕ
+resolvedText (elements e) = labelOf e
+resolvedText (refused why) = refusedLine why
+
+-- the same of the view at a place, 0 being no place
+unfoldable pub viewText : List ℕ → List ℕ → ℕ → List ℕ
+viewText table points place =
+    cond (eqb place 0) (refusedLine NoSuchNumber) (resolvedText (resolvedAt table points place))
+
+-- "For each view: `view`, number, letter; then the label"
+unfoldable pub block : List ℕ → List ℕ → ℕ → List ℕ
+block table points k =
+    viewWord
+    ++ (spacedNumber k
+    ++ ((32 ∷ getD (recordAt 168 points (wantedAt [] points k)) 40 0 ∷ 10 ∷ [])
+    ++ viewText table points (wantedAt [] points k)))
+
+-- the views from 1 up to a number
+abbrev pub blocks : List ℕ → List ℕ → ℕ → List ℕ
+blocks table points zero = []
+blocks table points (suc k) = blocks table points k ++ block table points (suc k)
+
+-- "First line: `pair`, table records, point records, views"; then each view
+unfoldable pub pairText : List ℕ → List ℕ → ℕ → ℕ → List ℕ
+pairText table points t p =
+    pairWord
+    ++ (spacedNumber t
+    ++ (spacedNumber p
+    ++ (spacedNumber (wantedCount [] points) ++ ((10 ∷ []) ++ blocks table points (wantedCount [] points)))))
+
+-- "A refused file gives the one line `table` or `points`, `refused`, number, detail"
+abbrev pub fileText : List ℕ → Answer → (ℕ → List ℕ) → List ℕ
+fileText word (Value n) next = next n
+fileText word (Refused file why) next = word ++ ((32 ∷ []) ++ refusedLine why)
+
+-- "One longer than 300 records gives `table long` or `points long`"
+abbrev pub longText : List ℕ → List ℕ
+longText word = word ++ (32 ∷ longWord ++ (10 ∷ []))
+
+-- what is written once the table file is taken
+unfoldable pub pointsText : List ℕ → List ℕ → ℕ → List ℕ
+pointsText table points t =
+    cond (ltb 50_400 (length points)) (longText pointsWord)
+    (fileText pointsWord (checked pointFormat points) (pairText table points t))
+
+-- the run: "the table file first"
+unfoldable pub reportOf : List ℕ → List ℕ → List ℕ
+reportOf table points =
+    cond (ltb 50_700 (length table)) (longText tableWord)
+    (fileText tableWord (checked tableFormat table) (pointsText table points))
