@@ -23,7 +23,7 @@ view1 = view 1 7 3 0 0 9 4
 abbrev pub code : List ℕ
 code = 65 ∷ 66 ∷ 49 ∷ 32 ∷ []
 
-abbrev nowhere : List ℕ
+abbrev pub nowhere : List ℕ
 nowhere = 255 ∷ 255 ∷ 255 ∷ 255 ∷ []
 
 -- "The pack for AB1 has 5 rows in 51 bytes, one point at 51, and 129 bytes in all; its present offsets are 0, 16, 24, 30,
