@@ -24,11 +24,11 @@ pub resolved-sound : (look : Lookup) (code : List ℕ) (a : Address) → Address
 unfolding resolve
 resolved-sound look code a g = rw (g .mix, g .rows)
 
-kth-zero : (addresses : List Address) → kth addresses 0 ≡ none
+pub kth-zero : (addresses : List Address) → kth addresses 0 ≡ none
 kth-zero [] = refl
 kth-zero (a ∷ more) = refl
 
-kth-none : (addresses : List Address) (j : ℕ) → length addresses ≤ j → kth addresses (suc j) ≡ none
+pub kth-none : (addresses : List Address) (j : ℕ) → length addresses ≤ j → kth addresses (suc j) ≡ none
 kth-none [] j h = refl
 kth-none (a ∷ more) zero h = absurd (omega arith)
 kth-none (a ∷ more) (suc j) h = kth-none more j (omega arith)

@@ -1,0 +1,1 @@
+// Building the pack of an outward code from a pair of files.

@@ -1,0 +1,44 @@
+-- Demand 3: a pack that was built from a pair of files, beside the files.
+-- Assumes nothing.
+use Prim.Native.Nat.{ℕ, _≤_}
+use mathlib.Core.Path.{_≡_}
+use mathlib.Core.List.{List, [], _∷_, _++_}
+use lib.ListN.{length}
+use Rattle.postcode.specs.Outward.{outwardFault}
+use Rattle.refusal.specs.declared.Answer.the-variants.{Value}
+use Rattle.files.specs.Formats.{tableFormat, pointFormat}
+use Rattle.files.proofs.Accepted.{Accepted}
+use Rattle.views.specs.Views.{wantedCount}
+use Rattle.address.specs.Address.{Lookup, Address}
+use Rattle.address.specs.Resolve.{forbidden, missing}
+use Rattle.source.specs.Rows.{tableLookup}
+use Rattle.layout.specs.Layout.{usedBy, packOf}
+use Rattle.layout.specs.Opening.{opened}
+use Rattle.layout.specs.Points.{packAnswer, packMemory}
+use Rattle.carried.specs.Rows.{rowsIn, tableRows, organisationRows}
+use Rattle.pair.specs.Pair.{codeAnswer, codeMemory}
+use Rattle.build.specs.Build.{liveIn}
+
+-- "it opens, and for every number k and every buffer length answers label k as the files do for the k-th live view of its
+-- code: same answer, same bytes written, same bytes untouched. It holds each table row that its views refer to once, and
+-- no other."
+pub record Carries (table points code pack : List ℕ) : Type 0 where
+  pub opens : opened pack ≡ Value (wantedCount code points)
+  pub answers : (k : ℕ) (out : List ℕ) → packAnswer pack k out ≡ codeAnswer table points code k out
+  pub memories : (k : ℕ) (out : List ℕ) → packMemory pack k out ≡ codeMemory table points code k out
+  pub rows :
+      rowsIn pack
+      ≡ tableRows (tableLookup table) (usedBy (liveIn table points code)) ++ organisationRows (liveIn table points code)
+
+-- no view has "a missing key or a forbidden combination"
+abbrev pub AllPrinted : Lookup → List Address → Type 0
+AllPrinted look [] = Unit {0}
+AllPrinted look (a ∷ more) = (forbidden a ≡ 0) × ((missing look a ≡ 0) × AllPrinted look more)
+
+-- what has to hold for a pack to be built
+pub record Buildable (table points code out : List ℕ) : Type 0 where
+  pub of-table : Accepted tableFormat table
+  pub of-points : Accepted pointFormat points
+  pub of-code : outwardFault code ≡ 0
+  pub printed : AllPrinted (tableLookup table) (liveIn table points code)
+  pub room : length (packOf (tableLookup table) (liveIn table points code) code) ≤ length out
