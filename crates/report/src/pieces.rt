@@ -1,7 +1,6 @@
 // Pieces of a report, written at a place of a lent buffer as far as it goes. All else stays as it was.
 use print::inner::bytes_at;
 use refusal::Reason;
-ghost use mathlib.Core.List.{[], _∷_};
 ghost use Prim.Native.Nat.{_≤_};
 ghost use lib.ListN.{length};
 ghost use Rattle.report.specs.Fed.{Fed};

@@ -1,6 +1,5 @@
 -- `print::pieces::byte_at` meets its contract. Assumes nothing.
 use borrow.Author.Needs.{needs}
-use mathlib.Core.Path.{_≡_, refl, sym, ap, _∙_}
 use Rattle.label.proofs.Puts.{put-byte}
 use Rattle.print.proofs.pieces.byte_at.Statement.{statement}
 use Rattle.print.proofs.pieces.byte_at.Tie as tie

@@ -1,7 +1,6 @@
 -- `print::pieces::front_text_at` meets its contract. Assumes nothing.
 use borrow.Author.Needs.{needs}
-use mathlib.Core.Path.{_≡_, refl, sym, ap, _∙_}
-use mathlib.Core.List.{[], _∷_, _++_}
+use mathlib.Core.List.{_++_}
 use Rattle.label.specs.Lines.{numberText}
 use Rattle.label.specs.Put.{tailText}
 use Rattle.label.specs.Spans.{textIn2}

@@ -1,7 +1,6 @@
 -- `print::pieces::number_at` meets its contract. Assumes nothing.
 use borrow.Author.Needs.{needs}
 use Prim.Native.Nat.{_+_, _/_, _%_}
-use mathlib.Core.Path.{_≡_, refl, sym, ap, _∙_}
 use mathlib.Core.List.{[], _∷_, _++_}
 use native.Mathlib.Omega.{arith}
 use Rattle.label.proofs.Puts.{room-as, room-first, room-after, put-none, put-then, put-as}

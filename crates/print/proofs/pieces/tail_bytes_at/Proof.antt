@@ -1,6 +1,5 @@
 -- `print::pieces::tail_bytes_at` meets its contract. Assumes nothing.
 use borrow.Author.Needs.{needs}
-use mathlib.Core.Path.{_≡_, refl, sym, ap, _∙_}
 use mathlib.Core.List.{[], _∷_, _++_}
 use Rattle.label.proofs.Puts.{room-as, room-first, room-after, put-none, put-then, put-as}
 use Rattle.label.proofs.Places.{tail-none, tail-some}

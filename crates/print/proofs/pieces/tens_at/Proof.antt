@@ -1,10 +1,9 @@
 -- `print::pieces::tens_at` meets its contract. Assumes nothing.
 use borrow.Author.Needs.{needs}
-use Prim.Native.Nat.{_+_, _/_, _%_}
-use mathlib.Core.Path.{_≡_, refl, sym, ap, _∙_}
-use mathlib.Core.List.{[], _∷_, _++_}
+use Prim.Native.Nat.{_+_, _%_}
+use mathlib.Core.List.{[], _∷_}
 use native.Mathlib.Omega.{arith}
-use Rattle.label.proofs.Puts.{room-as, room-after, put-then, put-as}
+use Rattle.label.proofs.Puts.{room-after, put-then}
 use Rattle.print.proofs.pieces.tens_at.Statement.{statement}
 use Rattle.print.proofs.pieces.tens_at.Tie as tie
 

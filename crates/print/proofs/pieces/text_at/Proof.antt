@@ -1,6 +1,6 @@
 -- `print::pieces::text_at` meets its contract. Assumes nothing.
 use borrow.Author.Needs.{needs}
-use mathlib.Core.Path.{_≡_, refl, sym, ap, _∙_}
+use mathlib.Core.Path.{sym}
 use Rattle.print.proofs.pieces.text_at.Statement.{statement}
 use Rattle.print.proofs.pieces.text_at.Tie as tie
 

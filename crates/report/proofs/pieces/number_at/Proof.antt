@@ -1,7 +1,6 @@
 -- `report::pieces::number_at` meets its contract. Assumes nothing.
 use borrow.Author.Needs.{needs}
-use mathlib.Core.Path.{_≡_, refl, sym, ap, _∙_}
-use lib.ListN.{take}
+use mathlib.Core.Path.{_∙_}
 use Rattle.report.proofs.Feeds.{fed-then, fed-as}
 use Rattle.report.proofs.Decimals.{decimal-is}
 use Rattle.report.proofs.pieces.number_at.Statement.{statement}

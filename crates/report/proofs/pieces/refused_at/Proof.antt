@@ -1,6 +1,6 @@
 -- `report::pieces::refused_at` meets its contract. Assumes nothing.
 use borrow.Author.Needs.{needs}
-use mathlib.Core.Path.{_≡_, refl, sym, ap, _∙_}
+use mathlib.Core.Path.{ap}
 use Rattle.report.specs.Report.{spacedNumber, refusedLine}
 use Rattle.report.proofs.Feeds.{fed-then, fed-as}
 use Rattle.report.proofs.pieces.refused_at.Statement.{statement}

@@ -3,7 +3,6 @@ use borrow.Author.Needs.{needs}
 use mathlib.Core.Path.{refl, sym}
 use native.Mathlib.Omega.{arith}
 use native.Mathlib.Nat.{le-of-lt}
-use lib.ListN.{length-take}
 use lib.Seq.{length-take-le, take-all}
 use Rattle.report.proofs.Feeds.{fed-put}
 use Rattle.report.proofs.pieces.text_at.Statement.{statement}
