@@ -1,10 +1,5 @@
 // The label, line by line: each line writer is lent what is left of the buffer, writes one line and its end byte, or
 // none, and leaves the rest as it was.
-use crate::pieces::byte_at;
-pub use crate::pieces::bytes_at;
-use crate::pieces::lead_at;
-use crate::pieces::tail_at;
-use crate::pieces::text_at;
 use label::Front;
 use label::Lines;
 use label::Span;
@@ -16,6 +11,11 @@ use label::inner::no_front;
 use label::inner::no_text;
 use label::inner::shape_of;
 use label::inner::text_len;
+use pieces::inner::byte_at;
+use pieces::inner::bytes_at;
+use pieces::inner::lead_at;
+use pieces::inner::tail_at;
+use pieces::inner::text_at;
 ghost use mathlib.Core.Path.{_≡_};
 ghost use mathlib.Core.List.{_++_};
 ghost use Prim.Native.Nat.{_+_, _≤_};

@@ -1,6 +1,5 @@
 // The printing of a label into a lent buffer.
 pub mod inner;
-mod pieces;
 
 use label::Spans;
 use label::label_len;

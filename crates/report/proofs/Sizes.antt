@@ -1,9 +1,9 @@
 -- No report is longer than the buffer that the program lends, 160,000 bytes, so that all of it is written.
 -- Assumes nothing.
 use Prim.Native.Nat.{ℕ, zero, suc, _+_, _-_, _*_, _/_, _%_, _^_, _≤_, _<_}
-use mathlib.Core.Path.{_≡_, refl, sym, ap, _∙_}
+use mathlib.Core.Path.{_≡_, refl, ap}
 use mathlib.Core.Bool.{Bool, true, false, cond, not, _&&_, _||_}
-use mathlib.Core.List.{List, [], _∷_, _++_}
+use mathlib.Core.List.{List, [], _∷_}
 use native.Mathlib.Omega.{arith}
 use native.Mathlib.Nat.{div-le-of-le-mul, div-lt-iff-lt-mul, pow-suc}
 use borrow.Author.Tests.{ltb-true, ltb-false, eqb-false}

@@ -3,7 +3,7 @@
 use Prim.Native.Nat.{ℕ, _-_, _≤_}
 use mathlib.Core.List.{List}
 use lib.ListN.{length, take}
-use Rattle.label.specs.Put.{Wrote, Put}
+use Rattle.label.specs.Put.{Put}
 
 -- as much of a text as goes into a buffer
 abbrev pub fitting : List ℕ → List ℕ → List ℕ

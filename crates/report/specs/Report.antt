@@ -37,12 +37,12 @@ pointsWord = 112 ∷ 111 ∷ 105 ∷ 110 ∷ 116 ∷ 115 ∷ []
 abbrev pub longWord : List ℕ
 longWord = 108 ∷ 111 ∷ 110 ∷ 103 ∷ []
 
--- a number in decimal digits without leading zeros, of at most so many digits and one
+-- a number in decimal digits without leading zeros; the first argument is one less than the most digits
 abbrev pub decimalIn : ℕ → ℕ → List ℕ
 decimalIn zero n = (48 + n % 10) ∷ []
 decimalIn (suc most) n = cond (ltb n 10) ((48 + n) ∷ []) (decimalIn most (n / 10) ++ ((48 + n % 10) ∷ []))
 
--- a number has no more digits than it counts, but for 0
+-- the number n has at most n + 1 digits
 unfoldable pub decimal : ℕ → List ℕ
 decimal n = decimalIn n n
 

@@ -1,7 +1,7 @@
 // What is written of each view of a pair of accepted files, which are not judged again.
-use crate::pieces::number_at;
-use crate::pieces::refused_at;
-use crate::pieces::text_at;
+use crate::feed::number_at;
+use crate::feed::refused_at;
+use crate::feed::text_at;
 use refusal::Answer;
 ghost use Prim.Native.Nat.{_≤_};
 ghost use lib.ListN.{length};

@@ -1,11 +1,11 @@
 // What is printed of a pair of files, of at most 300 records each: document 01's "One run".
 mod blocks;
-mod pieces;
+mod feed;
 
 use blocks::blocks_at;
-use pieces::number_at;
-use pieces::refused_at;
-use pieces::text_at;
+use feed::number_at;
+use feed::refused_at;
+use feed::text_at;
 use refusal::Answer;
 use refusal::Reason;
 ghost use mathlib.Core.Path.{_≡_};

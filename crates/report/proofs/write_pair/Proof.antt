@@ -1,8 +1,6 @@
 -- `report::write_pair` meets its contract. Assumes nothing.
 use borrow.Author.Needs.{needs}
-use mathlib.Core.Path.{_≡_, refl, sym, ap, _∙_}
-use native.Mathlib.Omega.{arith}
-use mathlib.Core.List.{List}
+use mathlib.Core.Path.{ap}
 use Rattle.report.specs.Report.{spacedNumber, blocks, pairText}
 use Rattle.report.proofs.Feeds.{fed-then, fed-as}
 use Rattle.report.proofs.write_pair.Statement.{statement}

@@ -1,6 +1,6 @@
 -- `report::write_report` meets its contract. Assumes nothing.
 use borrow.Author.Needs.{needs}
-use mathlib.Core.Path.{_≡_, refl, sym, ap, _∙_}
+use mathlib.Core.Path.{sym, _∙_}
 use Rattle.report.proofs.Feeds.{fed-as, fed-wrote}
 use Rattle.report.proofs.Runs.{table-long, table-taken, table-refused}
 use Rattle.report.proofs.write_report.Statement.{statement}

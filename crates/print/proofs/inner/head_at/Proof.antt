@@ -1,7 +1,6 @@
 -- `print::inner::head_at` meets its contract. Assumes nothing.
 use borrow.Author.Needs.{needs}
-use mathlib.Core.Path.{_≡_, refl, sym, ap, _∙_}
-use mathlib.Core.List.{[], _∷_, _++_}
+use mathlib.Core.List.{_++_}
 use Rattle.label.specs.Lines.{line, boxLine}
 use Rattle.label.specs.Label.{ended}
 use Rattle.label.specs.Spans.{textIn2, elementsIn}

@@ -1,6 +1,5 @@
 -- `print::inner::pair_at` meets its contract. Assumes nothing.
 use borrow.Author.Needs.{needs}
-use mathlib.Core.Path.{_≡_, refl, sym, ap, _∙_}
 use native.Mathlib.Omega.{arith}
 use Rattle.label.proofs.Puts.{put-part}
 use Rattle.print.proofs.inner.pair_at.Statement.{statement}

@@ -1,8 +1,7 @@
 -- `print::inner::places_at` meets its contract. Assumes nothing.
 use borrow.Author.Needs.{needs}
-use mathlib.Core.Bool.{false, _&&_}
-use mathlib.Core.Path.{_≡_, refl, sym, ap, _∙_}
-use mathlib.Core.List.{[], _∷_, _++_}
+use mathlib.Core.Bool.{_&&_}
+use mathlib.Core.List.{_++_}
 use Rattle.label.specs.Lines.{isEmpty}
 use Rattle.label.specs.Label.{ended}
 use Rattle.label.specs.Put.{frontText, placeLine, opened, localities}

@@ -1,6 +1,6 @@
 -- `print::inner::put_box` meets its contract. Assumes nothing.
 use borrow.Author.Needs.{needs}
-use mathlib.Core.Path.{_≡_, refl, sym, ap, _∙_}
+use mathlib.Core.Path.{sym, _∙_}
 use mathlib.Core.List.{[], _∷_, _++_}
 use Rattle.label.specs.Spans.{textIn2}
 use Rattle.label.proofs.Puts.{room-front, room-first, room-after, put-then, put-as, wrote, wrote-as, wrote-none}

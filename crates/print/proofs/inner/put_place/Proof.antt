@@ -1,6 +1,6 @@
 -- `print::inner::put_place` meets its contract. Assumes nothing.
 use borrow.Author.Needs.{needs}
-use mathlib.Core.Path.{_≡_, refl, sym, ap, _∙_}
+use mathlib.Core.Path.{sym, _∙_}
 use mathlib.Core.List.{[], _∷_, _++_}
 use Rattle.label.specs.Put.{frontText, lead, tailText}
 use Rattle.label.specs.Spans.{textIn2}

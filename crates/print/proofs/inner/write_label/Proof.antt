@@ -1,6 +1,5 @@
 -- `print::inner::write_label` meets its contract. Assumes nothing.
 use borrow.Author.Needs.{needs}
-use mathlib.Core.Path.{_≡_, refl, sym, ap, _∙_}
 use mathlib.Core.List.{[], _∷_, _++_}
 use Rattle.label.specs.Lines.{spaced, places}
 use Rattle.label.specs.Label.{ended}

@@ -1,0 +1,2 @@
+// Pieces of a line, written into a lent buffer.
+pub mod inner;
