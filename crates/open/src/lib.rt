@@ -1,0 +1,3 @@
+// Opening any bytes as a pack.
+pub mod inner;
+mod rows;
