@@ -1,3 +1,4 @@
 // Opening any bytes as a pack.
 pub mod inner;
 mod rows;
+mod starts;
