@@ -2,3 +2,4 @@ pub mod Numbers
 pub mod Texts
 pub mod RowLaws
 pub mod WalkLaws
+pub mod PointLaws

@@ -3,7 +3,10 @@ ghost use mathlib.Core.Path.{_≡_};
 ghost use Prim.Native.Nat.{_+_, _*_, _^_, _≤_, _<_};
 ghost use lib.ListN.{length};
 ghost use Rattle.layout.specs.Numbers.{numberFrom, numberAt};
-ghost use Rattle.layout.specs.Opening.{textEnd, textPlace};
+ghost use Rattle.layout.specs.Opening.{fromBack, textEnd, textPlace, offsetOfPoint, given};
+
+// The offset that refers to no row.
+pub const ABSENT: usize = 4294967295;
 
 // What so few bytes say, the most significant first.
 fn number_in(s: &[u8]) -> usize
@@ -47,4 +50,20 @@ pub fn text_place(rows: &[u8], from: usize, n: usize) -> usize
         i += 1;
     }
     at
+}
+
+// The number so many bytes before the end of the pack, where a trailer has it.
+pub fn trailer_number(pack: &[u8], back: usize) -> usize
+    requires { ⌜ back ≤ length (now pack) ⌝ }
+    ensures { λ r. ⌜ (r ≡ numberAt (now (pack .entry)) (fromBack (now (pack .entry)) back) 4) × (r < 4294967296) ⌝ }
+{
+    number_at(pack, pack.len() - back, 4)
+}
+
+// The n-th offset of the point at a place, counted from 0.
+pub fn offset_of(pack: &[u8], at: usize, n: usize) -> usize
+    requires { ⌜ (at + 57 ≤ length (now pack)) × (n ≤ 7) ⌝ }
+    ensures { λ r. ⌜ (r ≡ offsetOfPoint (now (pack .entry)) at n) × (r < 4294967296) ⌝ }
+{
+    number_at(pack, at + 25 + 4 * n, 4)
 }

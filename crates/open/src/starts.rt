@@ -1,5 +1,6 @@
 // Whether an offset is the start of a row, told by a short walk: the row area is cut in stretches of one width, and the first
 // row start at or behind the beginning of each is kept.
+use crate::inner::ABSENT;
 use crate::rows::row_end;
 ghost use mathlib.Core.Path.{_≡_};
 ghost use mathlib.Core.Bool.{true};
@@ -46,4 +47,14 @@ fn is_start(rows: &[u8], width: usize, starts: &[u32], o: usize) -> bool
     }
     let j = o / width;
     walk_to(rows, starts[j] as usize, o) == o
+}
+
+// Whether an offset is absent, or the start of a row of a type.
+pub fn offset_good(rows: &[u8], width: usize, starts: &[u32], kind: u8, o: usize) -> bool
+    requires { ⌜ Cut (now rows) width (now starts) ⌝ }
+    ensures { λ r. ⌜ ((n : ℕ) → Starts (now (rows .entry)) n width (now (starts .entry)) → r ≡ offsetGood (now (rows .entry)) n kind o) ⌝ }
+{
+    let found = is_start(rows, width, starts, o);
+    let same = record::byte_of(rows, o) == kind;
+    (o == ABSENT) | (found & same)
 }
