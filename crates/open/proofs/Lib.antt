@@ -3,3 +3,4 @@ pub mod Texts
 pub mod RowLaws
 pub mod WalkLaws
 pub mod PointLaws
+pub mod Trailers
