@@ -4,3 +4,4 @@ pub mod RowLaws
 pub mod WalkLaws
 pub mod PointLaws
 pub mod Trailers
+pub mod Opened

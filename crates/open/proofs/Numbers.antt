@@ -1,8 +1,8 @@
 -- Laws of numbers read from bytes.
 -- Assumes nothing.
-use Prim.Native.Nat.{ℕ, suc, _+_, _*_, _^_, _≤_, _<_}
-use mathlib.Core.Path.{_≡_, refl, sym, ap, _∙_}
-use mathlib.Core.List.{List, [], _∷_}
+use Prim.Native.Nat.{ℕ, _+_, _*_, _^_, _≤_, _<_}
+use mathlib.Core.Path.{_≡_}
+use mathlib.Core.List.{List}
 use native.Mathlib.Omega.{arith}
 use native.Mathlib.Numerals.{add-one}
 use native.Mathlib.Nat.{lt-of-lt-of-le, pow-le-pow-right}
@@ -10,9 +10,7 @@ use lib.Dec.{lit<}
 use lib.Pow.{pow-add}
 use lib.ListN.{length, drop, getD, drop-of-length-le}
 use lib.Seq.{drop-cons}
-use Rattle.text.specs.Text.{part}
-use Rattle.text.proofs.Texts.{part-bound}
-use Rattle.layout.specs.Numbers.{numberFrom, numberAt}
+use Rattle.layout.specs.Numbers.{numberFrom}
 
 pub number-step : (s : List ℕ) (v i : ℕ) → i < length s
     → numberFrom v (drop i s) ≡ numberFrom (v * 256 + getD s i 0) (drop (i + 1) s)

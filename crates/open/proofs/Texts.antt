@@ -9,10 +9,10 @@ use borrow.Author.Tests.{eq-eqb, ne-eqb, le-leb}
 use lib.Dec.{eqb, leb}
 use lib.ListN.{length, getD}
 use Rattle.text.specs.Test.{every, firstFault}
-use Rattle.text.specs.Text.{textByte, startsBlank, filledFault, fromEnd}
+use Rattle.text.specs.Text.{textByte, filledFault, fromEnd}
 use Rattle.text.proofs.Tests.{and-true, and-false, or-false}
 use Rattle.text.proofs.Faults.{no-fault, no-fault-every}
-use Rattle.text.proofs.Texts.{starts-byte, filled-blank, filled-other}
+use Rattle.text.proofs.Texts.{filled-blank, filled-other}
 use Rattle.label.specs.Lines.{isEmpty}
 use Rattle.layout.specs.Opening.{Slot, slot, slotsOf, textGood, textEnd, textAt, textsEnd, textsGood, textPlace}
 

@@ -1,16 +1,10 @@
 -- `open::all_points_good` meets its contract. Assumes nothing.
 use borrow.Author.Needs.{needs}
-use mathlib.Core.Path.{_≡_, refl, sym, ap, _∙_}
-use native.Mathlib.Omega.{arith}
 use lib.Dec.{lit<}
 use Rattle.layout.specs.Opening.{rowCount}
 use Rattle.open.proofs.Trailers.{fresh, ready}
 use Rattle.open.proofs.all_points_good.Statement.{statement}
 use Rattle.open.proofs.all_points_good.Tie as tie
-use Rattle.open.proofs.all_points_good.Reads as reads
-use Rattle.open.proofs.all_points_good.Lts as lts
-use Rattle.open.proofs.points.points_good.Reads as points-good-reads
-use Rattle.open.proofs.starts.keep_starts.Reads as keep-starts-reads
 
 add-width : tie.Need-add-width
 add-width c = search needs

@@ -1,6 +1,6 @@
 -- `open::open_pack` meets its contract. Assumes nothing.
 use borrow.Author.Needs.{needs}
-use mathlib.Core.Path.{_≡_, refl, sym, ap, _∙_}
+use mathlib.Core.Path.{_≡_, sym, _∙_}
 use native.Mathlib.Omega.{arith}
 use lib.Seq.{length-take-le}
 use borrow.Author.Tests.{not-true, not-false}
@@ -9,17 +9,10 @@ use Prim.Native.Nat.{ℕ, _≤_}
 use lib.ListN.{length, take}
 use mathlib.Core.List.{List}
 use Rattle.open.specs.Ready.{Sized, Area}
-use Rattle.layout.specs.Opening.{rowsGood, trailerGood, allRowsGood, allPointsGood, opened}
+use Rattle.layout.specs.Opening.{rowsGood, trailerGood, allRowsGood, opened}
 use Rattle.open.proofs.Trailers.{trailer-room, trailer-sized}
 use Rattle.open.proofs.open_pack.Statement.{statement}
 use Rattle.open.proofs.open_pack.Tie as tie
-use Rattle.open.proofs.open_pack.Reads as reads
-use Rattle.open.proofs.open_pack.Lts as lts
-use Rattle.open.proofs.all_points_good.Reads as all-points-good-reads
-use Rattle.open.proofs.bad_pack.Reads as bad-pack-reads
-use Rattle.open.proofs.inner.trailer_number.Reads as trailer-number-reads
-use Rattle.open.proofs.rows.rows_good.Reads as rows-good-reads
-use Rattle.open.proofs.trailer_good.Reads as trailer-good-reads
 
 -- past step 1
 module _ (c : tie.Else1) where

@@ -1,16 +1,9 @@
 -- `open::trailer_good` meets its contract. Assumes nothing.
 use borrow.Author.Needs.{needs}
-use mathlib.Core.Path.{_≡_, refl, sym, ap, _∙_}
-use native.Mathlib.Omega.{arith}
+use mathlib.Core.Path.{sym}
 use Rattle.open.proofs.Trailers.{trailer-short, trailer-long}
 use Rattle.open.proofs.trailer_good.Statement.{statement}
 use Rattle.open.proofs.trailer_good.Tie as tie
-use Rattle.open.proofs.trailer_good.Reads as reads
-use Rattle.open.proofs.trailer_good.Lts as lts
-use Rattle.open.proofs.inner.trailer_number.Reads as trailer-number-reads
-use Rattle.postcode.proofs.outward_fault.Reads as outward-fault-reads
-use Rattle.record.proofs.byte_of.Reads as byte-of-reads
-use Rattle.record.proofs.part_of.Reads as part-of-reads
 
 returns : tie.Need-returns
 returns c = sym (trailer-short (c .before .before .args .pack .now) (c .if1 .taken))

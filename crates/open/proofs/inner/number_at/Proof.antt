@@ -1,6 +1,5 @@
 -- `open::inner::number_at` meets its contract. Assumes nothing.
 use borrow.Author.Needs.{needs}
-use mathlib.Core.Path.{_≡_, refl, sym, ap, _∙_}
 use native.Mathlib.Omega.{arith}
 use Rattle.layout.specs.Numbers.{numberAt}
 use Rattle.open.proofs.Numbers.{power-small}
@@ -10,10 +9,6 @@ use Prim.Native.Nat.{_+_}
 use lib.ListN.{length}
 use Rattle.open.proofs.inner.number_at.Statement.{statement}
 use Rattle.open.proofs.inner.number_at.Tie as tie
-use Rattle.open.proofs.inner.number_at.Reads as reads
-use Rattle.open.proofs.inner.number_at.Lts as lts
-use Rattle.open.proofs.inner.number_in.Reads as number-in-reads
-use Rattle.record.proofs.part_of.Reads as part-of-reads
 
 add-part-of : tie.Need-add-part-of
 add-part-of c = search needs

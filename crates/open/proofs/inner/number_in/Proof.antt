@@ -1,16 +1,14 @@
 -- `open::inner::number_in` meets its contract. Assumes nothing.
 use borrow.Author.Needs.{needs}
-use mathlib.Core.Path.{_≡_, refl, sym, ap, _∙_}
+use mathlib.Core.Path.{_≡_, refl, sym, _∙_}
 use native.Mathlib.Omega.{arith}
 use Prim.Native.Nat.{_-_, _^_, _≤_, _<_}
 use lib.Dec.{lit<}
-use lib.ListN.{length, drop, getD}
+use lib.ListN.{length, drop}
 use Rattle.layout.specs.Numbers.{numberFrom}
 use Rattle.open.proofs.Numbers.{number-step, number-end, power-step, power-small}
 use Rattle.open.proofs.inner.number_in.Statement.{statement}
 use Rattle.open.proofs.inner.number_in.Tie as tie
-use Rattle.open.proofs.inner.number_in.Reads as reads
-use Rattle.open.proofs.inner.number_in.Lts as lts
 
 abbrev Inv-loop : tie.InvT-loop
 Inv-loop s v₀ i₀ v i = (i ≤ length s) × (v < 256 ^ i) × (numberFrom 0 s ≡ numberFrom v (drop i s))

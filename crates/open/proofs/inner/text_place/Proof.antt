@@ -1,15 +1,12 @@
 -- `open::inner::text_place` meets its contract. Assumes nothing.
 use borrow.Author.Needs.{needs}
-use mathlib.Core.Path.{_≡_, refl, sym, ap, _∙_}
+use mathlib.Core.Path.{_≡_, sym, _∙_}
 use native.Mathlib.Omega.{arith}
 use Prim.Native.Nat.{_+_, _-_, _*_, _≤_}
 use Rattle.layout.specs.Opening.{textPlace}
 use Rattle.open.proofs.RowLaws.{place-step, place-end}
 use Rattle.open.proofs.inner.text_place.Statement.{statement}
 use Rattle.open.proofs.inner.text_place.Tie as tie
-use Rattle.open.proofs.inner.text_place.Reads as reads
-use Rattle.open.proofs.inner.text_place.Lts as lts
-use Rattle.open.proofs.inner.text_end.Reads as text-end-reads
 
 abbrev Inv-loop : tie.InvT-loop
 Inv-loop rows from n at₀ i₀ at i = (i ≤ n) × (at ≤ from + 256 * i) × (textPlace rows n from ≡ textPlace rows (n - i) at)

@@ -1,17 +1,11 @@
 -- `open::points::allowed_mix` meets its contract. Assumes nothing.
 use borrow.Author.Needs.{needs}
-use mathlib.Core.Path.{_≡_, refl, sym, ap, _∙_}
-use native.Mathlib.Omega.{arith}
 use Rattle.layout.specs.Opening.{given, buildingNumber, allowedMix}
 use Rattle.open.proofs.PointLaws.{mix-test}
 use mathlib.Core.Bool.{not}
 use lib.Dec.{eqb}
 use Rattle.open.proofs.points.allowed_mix.Statement.{statement}
 use Rattle.open.proofs.points.allowed_mix.Tie as tie
-use Rattle.open.proofs.points.allowed_mix.Reads as reads
-use Rattle.open.proofs.points.allowed_mix.Lts as lts
-use Rattle.open.proofs.inner.number_at.Reads as number-at-reads
-use Rattle.open.proofs.points.is_given.Reads as is-given-reads
 
 is-given-requires : tie.Need-is-given-requires
 is-given-requires c κs = search needs

@@ -1,12 +1,7 @@
 -- `open::points::is_given` meets its contract. Assumes nothing.
 use borrow.Author.Needs.{needs}
-use mathlib.Core.Path.{_≡_, refl, sym, ap, _∙_}
-use native.Mathlib.Omega.{arith}
 use Rattle.open.proofs.points.is_given.Statement.{statement}
 use Rattle.open.proofs.points.is_given.Tie as tie
-use Rattle.open.proofs.points.is_given.Reads as reads
-use Rattle.open.proofs.points.is_given.Lts as lts
-use Rattle.open.proofs.inner.offset_of.Reads as offset-of-reads
 
 offset-of-requires : tie.Need-offset-of-requires
 offset-of-requires c κs = search needs

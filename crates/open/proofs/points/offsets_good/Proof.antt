@@ -1,21 +1,14 @@
 -- `open::points::offsets_good` meets its contract. Assumes nothing.
 use borrow.Author.Needs.{needs}
-use mathlib.Core.Path.{_≡_, refl, sym, ap, _∙_}
+use mathlib.Core.Path.{_≡_, refl, sym, _∙_}
 use native.Mathlib.Omega.{arith}
 use borrow.Author.Tests.{not-true, not-false}
-use mathlib.Core.List.{List}
-use Rattle.layout.specs.Opening.{rowCount, rowArea, offsetOfPoint, offsetGood}
+use Rattle.layout.specs.Opening.{rowCount, rowArea, offsetOfPoint, offsetGood, offsetKinds, offsetsGood}
 use Rattle.open.proofs.PointLaws.{offsets-step, offsets-stop, offsets-end}
 use Prim.Native.Nat.{_-_, _≤_}
-use mathlib.Core.Bool.{true, false}
-use lib.ListN.{length, drop, getD}
-use Rattle.layout.specs.Opening.{offsetKinds, offsetsGood}
+use lib.ListN.{drop, getD}
 use Rattle.open.proofs.points.offsets_good.Statement.{statement}
 use Rattle.open.proofs.points.offsets_good.Tie as tie
-use Rattle.open.proofs.points.offsets_good.Reads as reads
-use Rattle.open.proofs.points.offsets_good.Lts as lts
-use Rattle.open.proofs.inner.offset_of.Reads as offset-of-reads
-use Rattle.open.proofs.starts.offset_good.Reads as offset-good-reads
 
 abbrev Inv-loop : tie.InvT-loop
 Inv-loop pack rows width starts at n₀ n = (n ≤ 8) × (offsetsGood pack at 0 offsetKinds ≡ offsetsGood pack at n (drop n offsetKinds))

@@ -1,18 +1,10 @@
 -- `open::points::organisation_good` meets its contract. Assumes nothing.
 use borrow.Author.Needs.{needs}
-use mathlib.Core.Path.{_≡_, refl, sym, ap, _∙_}
-use native.Mathlib.Omega.{arith}
+use mathlib.Core.Path.{sym, _∙_}
 use borrow.Author.Tests.{eq-eqb, ne-eqb}
 use Rattle.layout.specs.Opening.{organisationGood}
 use Rattle.open.proofs.points.organisation_good.Statement.{statement}
 use Rattle.open.proofs.points.organisation_good.Tie as tie
-use Rattle.open.proofs.points.organisation_good.Reads as reads
-use Rattle.open.proofs.points.organisation_good.Lts as lts
-use Rattle.open.proofs.inner.number_at.Reads as number-at-reads
-use Rattle.open.proofs.inner.offset_of.Reads as offset-of-reads
-use Rattle.open.proofs.points.is_given.Reads as is-given-reads
-use Rattle.open.proofs.rows.text_empty.Reads as text-empty-reads
-use Rattle.record.proofs.byte_of.Reads as byte-of-reads
 
 is-given-requires : tie.Need-is-given-requires
 is-given-requires c κs = search needs

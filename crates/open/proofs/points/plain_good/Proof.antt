@@ -1,19 +1,11 @@
 -- `open::points::plain_good` meets its contract. Assumes nothing.
 use borrow.Author.Needs.{needs}
-use mathlib.Core.Path.{_≡_, refl, sym, ap, _∙_}
-use native.Mathlib.Omega.{arith}
 use Prim.Native.Nat.{_+_}
 use lib.ListN.{getD}
 use Rattle.layout.specs.Opening.{plainGood}
 use Rattle.open.proofs.PointLaws.{pair-test}
 use Rattle.open.proofs.points.plain_good.Statement.{statement}
 use Rattle.open.proofs.points.plain_good.Tie as tie
-use Rattle.open.proofs.points.plain_good.Reads as reads
-use Rattle.open.proofs.points.plain_good.Lts as lts
-use Rattle.open.proofs.inner.number_at.Reads as number-at-reads
-use Rattle.record.proofs.byte_of.Reads as byte-of-reads
-use Rattle.record.proofs.part_of.Reads as part-of-reads
-use Rattle.text.proofs.text_fault.Reads as text-fault-reads
 
 add-byte-of : tie.Need-add-byte-of
 add-byte-of c = search needs

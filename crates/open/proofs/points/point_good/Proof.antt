@@ -1,18 +1,8 @@
 -- `open::points::point_good` meets its contract. Assumes nothing.
 use borrow.Author.Needs.{needs}
-use mathlib.Core.Path.{_≡_, refl, sym, ap, _∙_}
-use native.Mathlib.Omega.{arith}
 use Rattle.layout.specs.Opening.{pointGood}
 use Rattle.open.proofs.points.point_good.Statement.{statement}
 use Rattle.open.proofs.points.point_good.Tie as tie
-use Rattle.open.proofs.points.point_good.Reads as reads
-use Rattle.open.proofs.points.point_good.Lts as lts
-use Rattle.open.proofs.points.allowed_mix.Reads as allowed-mix-reads
-use Rattle.open.proofs.points.is_given.Reads as is-given-reads
-use Rattle.open.proofs.points.offsets_good.Reads as offsets-good-reads
-use Rattle.open.proofs.points.organisation_good.Reads as organisation-good-reads
-use Rattle.open.proofs.points.plain_good.Reads as plain-good-reads
-use Rattle.open.proofs.points.postcode_good.Reads as postcode-good-reads
 
 offsets-good-requires : tie.Need-offsets-good-requires
 offsets-good-requires c κs = search needs

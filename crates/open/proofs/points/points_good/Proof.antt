@@ -1,19 +1,14 @@
 -- `open::points::points_good` meets its contract. Assumes nothing.
 use borrow.Author.Needs.{needs}
-use mathlib.Core.Path.{_≡_, refl, sym, ap, _∙_}
+use mathlib.Core.Path.{_≡_, sym, _∙_}
 use native.Mathlib.Omega.{arith}
 use Prim.Native.Nat.{_+_, _-_, _*_, _≤_}
-use mathlib.Core.Bool.{true, false}
 use borrow.Author.Tests.{not-true, not-false}
 use lib.ListN.{length}
 use Rattle.layout.specs.Opening.{pointsStart, pointsGood, allPointsGood}
 use Rattle.open.proofs.PointLaws.{points-step, points-stop, points-end}
 use Rattle.open.proofs.points.points_good.Statement.{statement}
 use Rattle.open.proofs.points.points_good.Tie as tie
-use Rattle.open.proofs.points.points_good.Reads as reads
-use Rattle.open.proofs.points.points_good.Lts as lts
-use Rattle.open.proofs.inner.trailer_number.Reads as trailer-number-reads
-use Rattle.open.proofs.points.point_good.Reads as point-good-reads
 
 abbrev Inv-loop : tie.InvT-loop
 Inv-loop pack rows width starts count at₀ i₀ at i = (i ≤ count) × (at ≡ pointsStart pack + 57 * i) × (allPointsGood pack ≡ pointsGood pack (count - i) at)

@@ -1,14 +1,7 @@
 -- `open::points::postcode_good` meets its contract. Assumes nothing.
 use borrow.Author.Needs.{needs}
-use mathlib.Core.Path.{_≡_, refl, sym, ap, _∙_}
-use native.Mathlib.Omega.{arith}
 use Rattle.open.proofs.points.postcode_good.Statement.{statement}
 use Rattle.open.proofs.points.postcode_good.Tie as tie
-use Rattle.open.proofs.points.postcode_good.Reads as reads
-use Rattle.open.proofs.points.postcode_good.Lts as lts
-use Rattle.postcode.proofs.inward_fault.Reads as inward-fault-reads
-use Rattle.record.proofs.order_of.Reads as order-of-reads
-use Rattle.record.proofs.part_of.Reads as part-of-reads
 
 sub-part-of : tie.Need-sub-part-of
 sub-part-of c = search needs

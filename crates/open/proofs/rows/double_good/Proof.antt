@@ -1,13 +1,7 @@
 -- `open::rows::double_good` meets its contract. Assumes nothing.
 use borrow.Author.Needs.{needs}
-use mathlib.Core.Path.{_≡_, refl, sym, ap, _∙_}
-use native.Mathlib.Omega.{arith}
 use Rattle.open.proofs.rows.double_good.Statement.{statement}
 use Rattle.open.proofs.rows.double_good.Tie as tie
-use Rattle.open.proofs.rows.double_good.Reads as reads
-use Rattle.open.proofs.rows.double_good.Lts as lts
-use Rattle.open.proofs.rows.text_empty.Reads as text-empty-reads
-use Rattle.record.proofs.byte_of.Reads as byte-of-reads
 
 byte-of-requires : tie.Need-byte-of-requires
 byte-of-requires c κs = search needs

@@ -1,17 +1,10 @@
 -- `open::rows::row_end` meets its contract. Assumes nothing.
 use borrow.Author.Needs.{needs}
-use mathlib.Core.Path.{_≡_, refl, sym, ap, _∙_}
-use native.Mathlib.Omega.{arith}
 use Rattle.layout.specs.Opening.{slotsOf, rowKind}
 use Rattle.open.proofs.Texts.{slots-end}
 use Prim.Native.Nat.{_+_}
 use Rattle.open.proofs.rows.row_end.Statement.{statement}
 use Rattle.open.proofs.rows.row_end.Tie as tie
-use Rattle.open.proofs.rows.row_end.Reads as reads
-use Rattle.open.proofs.rows.row_end.Lts as lts
-use Rattle.open.proofs.inner.text_place.Reads as text-place-reads
-use Rattle.open.proofs.rows.text_count.Reads as text-count-reads
-use Rattle.record.proofs.byte_of.Reads as byte-of-reads
 
 byte-of-requires : tie.Need-byte-of-requires
 byte-of-requires c κs = search needs

@@ -1,16 +1,8 @@
 -- `open::rows::row_good` meets its contract. Assumes nothing.
 use borrow.Author.Needs.{needs}
-use mathlib.Core.Path.{_≡_, refl, sym, ap, _∙_}
-use native.Mathlib.Omega.{arith}
 use Rattle.layout.specs.Opening.{rowGood}
 use Rattle.open.proofs.rows.row_good.Statement.{statement}
 use Rattle.open.proofs.rows.row_good.Tie as tie
-use Rattle.open.proofs.rows.row_good.Reads as reads
-use Rattle.open.proofs.rows.row_good.Lts as lts
-use Rattle.open.proofs.rows.double_good.Reads as double-good-reads
-use Rattle.open.proofs.rows.row_end.Reads as row-end-reads
-use Rattle.open.proofs.rows.texts_good.Reads as texts-good-reads
-use Rattle.record.proofs.byte_of.Reads as byte-of-reads
 
 byte-of-requires : tie.Need-byte-of-requires
 byte-of-requires c κs = search needs

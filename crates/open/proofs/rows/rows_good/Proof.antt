@@ -1,6 +1,6 @@
 -- `open::rows::rows_good` meets its contract. Assumes nothing.
 use borrow.Author.Needs.{needs}
-use mathlib.Core.Path.{_≡_, refl, sym, ap, _∙_}
+use mathlib.Core.Path.{_≡_, sym, _∙_}
 use native.Mathlib.Omega.{arith}
 use borrow.Author.Tests.{not-true, not-false}
 use Prim.Native.Nat.{_-_, _≤_}
@@ -9,11 +9,6 @@ use Rattle.layout.specs.Opening.{rowsGood}
 use Rattle.open.proofs.RowLaws.{rows-step, rows-stop, rows-end, row-within}
 use Rattle.open.proofs.rows.rows_good.Statement.{statement}
 use Rattle.open.proofs.rows.rows_good.Tie as tie
-use Rattle.open.proofs.rows.rows_good.Reads as reads
-use Rattle.open.proofs.rows.rows_good.Lts as lts
-use Rattle.open.proofs.rows.row_end.Reads as row-end-reads
-use Rattle.open.proofs.rows.row_good.Reads as row-good-reads
-use Rattle.record.proofs.byte_of.Reads as byte-of-reads
 
 abbrev Inv-loop : tie.InvT-loop
 Inv-loop rows count low₀ at₀ i₀ low at i = (i ≤ count) × (at ≤ length rows) × (rowsGood rows count 1 0 ≡ rowsGood rows (count - i) low at)

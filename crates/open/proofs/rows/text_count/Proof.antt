@@ -1,14 +1,11 @@
 -- `open::rows::text_count` meets its contract. Assumes nothing.
 use borrow.Author.Needs.{needs}
-use mathlib.Core.Path.{_≡_, refl, sym, ap, _∙_}
-use native.Mathlib.Omega.{arith}
+use mathlib.Core.Path.{sym, ap}
 use lib.ListN.{length}
 use Rattle.layout.specs.Opening.{slotsOf}
 use Rattle.open.proofs.Texts.{slots-none}
 use Rattle.open.proofs.rows.text_count.Statement.{statement}
 use Rattle.open.proofs.rows.text_count.Tie as tie
-use Rattle.open.proofs.rows.text_count.Reads as reads
-use Rattle.open.proofs.rows.text_count.Lts as lts
 
 returns : tie.Need-returns
 returns c = (sym (ap (λ k. length (slotsOf k)) (c .match .keys1)), search needs)

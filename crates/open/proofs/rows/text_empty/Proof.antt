@@ -1,16 +1,9 @@
 -- `open::rows::text_empty` meets its contract. Assumes nothing.
 use borrow.Author.Needs.{needs}
-use mathlib.Core.Path.{_≡_, refl, sym, ap, _∙_}
-use native.Mathlib.Omega.{arith}
 use Rattle.layout.specs.Opening.{rowText}
 use Rattle.open.proofs.Texts.{empty-length}
 use Rattle.open.proofs.rows.text_empty.Statement.{statement}
 use Rattle.open.proofs.rows.text_empty.Tie as tie
-use Rattle.open.proofs.rows.text_empty.Reads as reads
-use Rattle.open.proofs.rows.text_empty.Lts as lts
-use Rattle.open.proofs.inner.text_end.Reads as text-end-reads
-use Rattle.open.proofs.inner.text_place.Reads as text-place-reads
-use Rattle.record.proofs.part_of.Reads as part-of-reads
 
 add-text-place : tie.Need-add-text-place
 add-text-place c = search needs

@@ -1,14 +1,7 @@
 -- `open::rows::text_fits` meets its contract. Assumes nothing.
 use borrow.Author.Needs.{needs}
-use mathlib.Core.Path.{_≡_, refl, sym, ap, _∙_}
-use native.Mathlib.Omega.{arith}
 use Rattle.open.proofs.rows.text_fits.Statement.{statement}
 use Rattle.open.proofs.rows.text_fits.Tie as tie
-use Rattle.open.proofs.rows.text_fits.Reads as reads
-use Rattle.open.proofs.rows.text_fits.Lts as lts
-use Rattle.open.proofs.inner.text_end.Reads as text-end-reads
-use Rattle.open.proofs.rows.text_good.Reads as text-good-reads
-use Rattle.record.proofs.part_of.Reads as part-of-reads
 
 text-end-requires : tie.Need-text-end-requires
 text-end-requires c κs = search needs

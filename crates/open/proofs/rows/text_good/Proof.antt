@@ -1,13 +1,9 @@
 -- `open::rows::text_good` meets its contract. Assumes nothing.
 use borrow.Author.Needs.{needs}
-use mathlib.Core.Path.{_≡_, refl, sym, ap, _∙_}
-use native.Mathlib.Omega.{arith}
+use mathlib.Core.Path.{sym}
 use Rattle.open.proofs.Texts.{empty-good, filled-good}
 use Rattle.open.proofs.rows.text_good.Statement.{statement}
 use Rattle.open.proofs.rows.text_good.Tie as tie
-use Rattle.open.proofs.rows.text_good.Reads as reads
-use Rattle.open.proofs.rows.text_good.Lts as lts
-use Rattle.text.proofs.filled_fault.Reads as filled-fault-reads
 
 returns : tie.Need-returns
 returns c =

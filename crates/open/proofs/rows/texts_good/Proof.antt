@@ -1,16 +1,11 @@
 -- `open::rows::texts_good` meets its contract. Assumes nothing.
 use borrow.Author.Needs.{needs}
-use mathlib.Core.Path.{_≡_, refl, sym, ap, _∙_}
-use native.Mathlib.Omega.{arith}
+use mathlib.Core.Path.{ap, _∙_}
 use Rattle.layout.specs.Opening.{slotsOf, slot}
 use mathlib.Core.Bool.{true, false}
 use Rattle.open.proofs.Texts.{no-slot, one-slot, two-slots, three-slots, slots-none}
 use Rattle.open.proofs.rows.texts_good.Statement.{statement}
 use Rattle.open.proofs.rows.texts_good.Tie as tie
-use Rattle.open.proofs.rows.texts_good.Reads as reads
-use Rattle.open.proofs.rows.texts_good.Lts as lts
-use Rattle.open.proofs.inner.text_end.Reads as text-end-reads
-use Rattle.open.proofs.rows.text_fits.Reads as text-fits-reads
 
 text-end-requires : tie.Need-text-end-requires
 text-end-requires c κs = search needs

@@ -1,15 +1,12 @@
 -- `open::starts::is_start` meets its contract. Assumes nothing.
 use borrow.Author.Needs.{needs}
-use mathlib.Core.Path.{_≡_, refl, sym, ap, _∙_}
+use mathlib.Core.Path.{sym}
 use native.Mathlib.Omega.{arith}
 use native.Mathlib.Nat.{le-refl}
 use Prim.Native.Nat.{_/_}
 use Rattle.open.proofs.WalkLaws.{none-behind, tells-here, stretch-within}
 use Rattle.open.proofs.starts.is_start.Statement.{statement}
 use Rattle.open.proofs.starts.is_start.Tie as tie
-use Rattle.open.proofs.starts.is_start.Reads as reads
-use Rattle.open.proofs.starts.is_start.Lts as lts
-use Rattle.open.proofs.starts.walk_to.Reads as walk-to-reads
 
 returns : tie.Need-returns
 returns c =

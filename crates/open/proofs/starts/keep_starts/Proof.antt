@@ -1,6 +1,6 @@
 -- `open::starts::keep_starts` meets its contract. Assumes nothing.
 use borrow.Author.Needs.{needs}
-use mathlib.Core.Path.{_≡_, refl, sym, ap, _∙_}
+use mathlib.Core.Path.{_≡_, refl, sym, _∙_}
 use native.Mathlib.Omega.{arith}
 use native.Mathlib.Nat.{zero-mul, le-refl, lt-of-le-of-lt}
 use Prim.Native.Nat.{ℕ, _-_, _*_, _≤_, _<_}
@@ -12,9 +12,6 @@ use Rattle.layout.specs.Opening.{rowsGood}
 use Rattle.open.proofs.WalkLaws.{Keeps, keeps-first, keeps-next, keeps-last, next-place, place-within, tells-within}
 use Rattle.open.proofs.starts.keep_starts.Statement.{statement}
 use Rattle.open.proofs.starts.keep_starts.Tie as tie
-use Rattle.open.proofs.starts.keep_starts.Reads as reads
-use Rattle.open.proofs.starts.keep_starts.Lts as lts
-use Rattle.open.proofs.starts.walk_to.Reads as walk-to-reads
 
 abbrev Inv-loop : tie.InvT-loop
 Inv-loop rows width starts₀ at₀ place₀ j₀ starts at place j =

@@ -1,14 +1,8 @@
 -- `open::starts::offset_good` meets its contract. Assumes nothing.
 use borrow.Author.Needs.{needs}
-use mathlib.Core.Path.{_≡_, refl, sym, ap, _∙_}
-use native.Mathlib.Omega.{arith}
 use Rattle.layout.specs.Opening.{offsetGood}
 use Rattle.open.proofs.starts.offset_good.Statement.{statement}
 use Rattle.open.proofs.starts.offset_good.Tie as tie
-use Rattle.open.proofs.starts.offset_good.Reads as reads
-use Rattle.open.proofs.starts.offset_good.Lts as lts
-use Rattle.open.proofs.starts.is_start.Reads as is-start-reads
-use Rattle.record.proofs.byte_of.Reads as byte-of-reads
 
 is-start-requires : tie.Need-is-start-requires
 is-start-requires c κs = search needs

@@ -1,6 +1,5 @@
 -- `open::starts::walk_to` meets its contract. Assumes nothing.
 use borrow.Author.Needs.{needs}
-use mathlib.Core.Path.{_≡_, refl, sym, ap, _∙_}
 use native.Mathlib.Omega.{arith}
 use Prim.Native.Nat.{ℕ, _-_, _≤_, _<_}
 use lib.ListN.{length}
@@ -8,9 +7,6 @@ use Rattle.open.specs.Walks.{Tells}
 use Rattle.open.proofs.WalkLaws.{row-rise, tells-next}
 use Rattle.open.proofs.starts.walk_to.Statement.{statement}
 use Rattle.open.proofs.starts.walk_to.Tie as tie
-use Rattle.open.proofs.starts.walk_to.Reads as reads
-use Rattle.open.proofs.starts.walk_to.Lts as lts
-use Rattle.open.proofs.rows.row_end.Reads as row-end-reads
 
 abbrev Inv-loop : tie.InvT-loop
 Inv-loop rows from place at₀ at = (n o : ℕ) → place ≤ o → o < length rows → Tells rows n o from → Tells rows n o at
