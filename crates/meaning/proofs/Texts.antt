@@ -14,7 +14,7 @@ use Rattle.record.specs.Parts.{recordAt}
 use Rattle.files.specs.Formats.{needed}
 use Rattle.label.specs.Spans.{textIn2}
 use Rattle.spans.specs.Spans.{span, fieldSpan, rowSpan, followerSpan, inwardSpan}
-use Rattle.spans.proofs.Laws.{text-in-bound, trim-front}
+use Rattle.spans.proofs.Laws.{front-text}
 
 -- a part of a part
 drop-take : (m n : ℕ) (l : List ℕ) → drop m (take n l) ≡ take (n - m) (drop m l)
@@ -33,15 +33,6 @@ part-part file a w from to h =
 
 pub part-empty : (from to : ℕ) → part [] from to ≡ []
 part-empty from to = rw (drop-nil {A = ℕ} from) (take-nil (to - from))
-
--- the bytes that a text without its padding takes up
-front-text : (file : List ℕ) (from to : ℕ) → part file from (from + length (textIn file from to)) ≡ textIn file from to
-unfolding textIn
-front-text file from to =
-    let n = length (textIn file from to) in
-    let small : from + n - from ≡ n = omega arith in
-    rw (small, sym (take-take n (to - from) (drop from file) (text-in-bound file from to)))
-    (trim-front (part file from to))
 
 -- the first of two files or the second
 abbrev pub either : Bool → List ℕ → List ℕ → List ℕ

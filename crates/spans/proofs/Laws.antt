@@ -8,6 +8,7 @@ use native.Mathlib.Omega.{arith}
 use native.Mathlib.Nat.{lt-of-lt-of-le, pow-le-pow-right}
 use lib.Dec.{eqb, lit<}
 use lib.ListN.{length, take, drop}
+use lib.Seq.{take-take}
 use Rattle.text.specs.Digits.{value}
 use Rattle.text.specs.Text.{keep, trim, part, textIn}
 use Rattle.text.proofs.Texts.{part-bound}
@@ -34,7 +35,7 @@ keep-front true x [] xs e = refl
 keep-front true x (y ∷ ys) xs e = ap (x ∷_) e
 keep-front false x s xs e = ap (x ∷_) e
 
-pub trim-front : (s : List ℕ) → take (length (trim s)) s ≡ trim s
+trim-front : (s : List ℕ) → take (length (trim s)) s ≡ trim s
 trim-front [] = refl
 trim-front (x ∷ xs) = keep-front (eqb x 32) x (trim xs) xs (trim-front xs)
 
@@ -42,6 +43,15 @@ trim-front (x ∷ xs) = keep-front (eqb x 32) x (trim xs) xs (trim-front xs)
 pub digits-below : (w : ℕ) (s : List ℕ) → w ≤ 9 → length s ≤ w → value s < 10 ^ w
 digits-below w s small h =
     rw (value-whole s (omega arith)) (lt-of-lt-of-le (value-bound s) (pow-le-pow-right (lit< tt) h))
+
+-- the bytes that a text without its padding takes up
+pub front-text : (file : List ℕ) (from to : ℕ) → part file from (from + length (textIn file from to)) ≡ textIn file from to
+unfolding textIn
+front-text file from to =
+    let n = length (textIn file from to) in
+    let small : from + n - from ≡ n = omega arith in
+    rw (small, sym (take-take n (to - from) (drop from file) (text-in-bound file from to)))
+    (trim-front (part file from to))
 
 -- four bytes say less than 10,000
 pub four-digits : (s : List ℕ) → length s ≤ 4 → value s < 10_000

@@ -1,0 +1,76 @@
+// Opening any bytes as a pack.
+pub mod inner;
+mod points;
+mod rows;
+mod starts;
+
+use inner::trailer_number;
+use points::points_good;
+use refusal::Answer;
+use refusal::Reason;
+use rows::rows_good;
+use starts::keep_starts;
+ghost use mathlib.Core.Path.{_≡_};
+ghost use Prim.Native.Nat.{_<_};
+ghost use lib.ListN.{length};
+ghost use Rattle.refusal.specs.declared.Reason.the-variants.{BadPack};
+ghost use Rattle.refusal.specs.declared.Answer.the-variants.{Refused};
+ghost use Rattle.layout.specs.Opening.{trailerGood, allPointsGood, opened};
+ghost use Rattle.open.specs.Ready.{Sized, Area};
+
+// Into how many stretches the row area is cut, so that the walk to an offset is short.
+const STRETCHES: usize = 16384;
+
+// Step 1: whether the trailer is good.
+fn trailer_good(pack: &[u8]) -> bool
+    ensures { λ r. ⌜ r ≡ trailerGood (now (pack .entry)) ⌝ }
+{
+    let n = pack.len();
+    if n < 21 {
+        return false;
+    }
+    let edition = record::byte_of(pack, n - 1);
+    let said = trailer_number(pack, 5);
+    let fault = postcode::outward_fault(record::part_of(pack, n - 9, n - 5));
+    let start = trailer_number(pack, 17);
+    let count = trailer_number(pack, 13);
+    (edition == 1) & ((said == n) & ((fault == 0) & (start + 57 * count + 21 == n)))
+}
+
+// Step 3: whether the points are good, the rows being so.
+fn all_points_good(pack: &[u8], rows: &[u8]) -> bool
+    requires { ⌜ Sized (now pack) × Area (now pack) (now rows) ⌝ }
+    ensures { λ r. ⌜ r ≡ allPointsGood (now (pack .entry)) ⌝ }
+{
+    let width = rows.len() / STRETCHES + 1;
+    let mut starts = [0u32; STRETCHES];
+    keep_starts(rows, width, &mut starts);
+    points_good(pack, rows, width, &starts)
+}
+
+fn bad_pack(step: usize) -> Answer
+    ensures { λ r. ⌜ r ≡ Refused 0 (BadPack step) ⌝ }
+{
+    Answer::Refused {
+        file: 0,
+        reason: Reason::BadPack { step },
+    }
+}
+
+// How many points the pack has, or the first step that fails.
+pub fn open_pack(pack: &[u8]) -> Answer
+    ensures { λ r. ⌜ r ≡ opened (now (pack .entry)) ⌝ }
+{
+    if !trailer_good(pack) {
+        return bad_pack(1);
+    }
+    let start = trailer_number(pack, 17);
+    let rows = &pack[..start];
+    if !rows_good(rows, trailer_number(pack, 21)) {
+        return bad_pack(2);
+    }
+    if !all_points_good(pack, rows) {
+        return bad_pack(3);
+    }
+    Answer::Value(trailer_number(pack, 13))
+}
