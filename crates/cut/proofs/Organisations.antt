@@ -14,10 +14,10 @@ use Rattle.files.specs.Formats.{needed, pointFormat}
 use Rattle.files.proofs.Accepted.{Accepted}
 use Rattle.files.proofs.Laws.{within-limit}
 use Rattle.views.specs.Views.{lastOf, wanted, wantedFrom, wantedIn, viewNumber}
-use Rattle.address.specs.Address.{none-needed, named, Organisation}
+use Rattle.address.specs.Address.{Organisation, none-needed, named, lacking}
 use Rattle.source.specs.Addresses.{organisationOf, addressOf}
 use Rattle.meaning.proofs.Meant.{wanted-view}
-use Rattle.layout.specs.Layout.{Entry, ref, kindOf, organisationEntry, organisationEntries, textsBytes, entryBytes, entriesBytes, offsetOf}
+use Rattle.layout.specs.Layout.{Entry, entry, ref, kindOf, organisationEntry, organisationEntries, textsBytes, entryBytes, entriesBytes, offsetOf}
 use Rattle.marks.specs.Places.{organisationAt, organisationsAt, organisationCount}
 use Rattle.sound.specs.Packed.{viewAt, viewsAt}
 use Rattle.sound.proofs.Numbers.{number-view, number-rises, number-bound}
@@ -119,3 +119,42 @@ module _ (points : List ℕ) where
           ≡ cond t (organisationCount points places) (suc (organisationCount points places))
       by-test true name department e = e
       by-test false name department e = ap suc e
+
+-- the row of another view is passed by
+pass-by : (view r : ℕ) → ref 6 view < r → (o : Organisation) (es : List Entry)
+    → offsetOf (organisationEntry view o ++ es) r
+    ≡ length (entriesBytes (organisationEntry view o)) + offsetOf es r
+pass-by view r h none-needed es = omega arith
+pass-by view r h (named name department) es =
+    let row = entryBytes (entry (ref 6 view) (name ∷ department ∷ [])) in
+    simp (ne-eqb (ref 6 view) r (λ z. omega arith)) (omega (arith, length-append row []))
+pass-by view r h lacking es = omega arith
+
+-- behind a view the rows of organisations stand from `at` on, those of the views at these places
+abbrev pub Standing : List ℕ → List Entry → ℕ → ℕ → List ℕ → Type 0
+Standing points es at low places =
+    (r : ℕ) → ref 6 low < r → offsetOf es r ≡ at + offsetOf (organisationEntries (viewsAt points places)) r
+
+module _ (points : List ℕ) (es : List Entry) (at low place : ℕ) (places : List ℕ) (next : Behind points low place)
+    (stand : Standing points es at low (place ∷ places)) where
+  -- the first of them has its row there
+  pub stands-here : (needed (recordAt 168 points place) ≡ 0 → ⊥) → offsetOf es (ref 6 (viewNumber points place)) ≡ at
+  unfolding addressOf
+  stands-here n =
+      let r = ref 6 (viewNumber points place) in
+      let rest = organisationEntries (viewsAt points places) in
+      let first : offsetOf (organisationEntries (viewsAt points (place ∷ places))) r ≡ 0 =
+      simp (ne-eqb (needed (recordAt 168 points place)) 0 n, eq-eqb r r refl) in
+      omega (arith, stand r (omega (arith, next .above)), first)
+
+  -- those of the others stand behind it
+  pub stand-on : Standing points es (at + length (organisationAt points place)) (viewNumber points place) places
+  unfolding addressOf
+  stand-on r h =
+      let a = viewAt points place in
+      omega (
+        arith,
+        stand r (omega (arith, next .above)),
+        pass-by (viewNumber points place) r h (a .organisation) (organisationEntries (viewsAt points places)),
+        ap length (row-at points place (next .small)),
+      )
