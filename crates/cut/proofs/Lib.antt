@@ -1,1 +1,2 @@
 pub mod Organisations
+pub mod Points
