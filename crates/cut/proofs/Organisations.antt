@@ -142,7 +142,6 @@ module _ (points : List ℕ) (es : List Entry) (at low place : ℕ) (places : Li
   unfolding addressOf
   stands-here n =
       let r = ref 6 (viewNumber points place) in
-      let rest = organisationEntries (viewsAt points places) in
       let first : offsetOf (organisationEntries (viewsAt points (place ∷ places))) r ≡ 0 =
       simp (ne-eqb (needed (recordAt 168 points place)) 0 n, eq-eqb r r refl) in
       omega (arith, stand r (omega (arith, next .above)), first)
