@@ -76,7 +76,7 @@ from-append ok (x ∷ xs) b at =
 
 -- two neighbouring parts are one
 module _ (rec : List ℕ) (start middle end : ℕ) (low : start ≤ middle) (high : middle ≤ end) where
-  part-join : part rec start end ≡ part rec start middle ++ part rec middle end
+  pub part-join : part rec start end ≡ part rec start middle ++ part rec middle end
   part-join =
       let size : end - start ≡ (middle - start) + (end - middle) = omega arith in
       let place-of : start + (middle - start) ≡ middle = omega arith in

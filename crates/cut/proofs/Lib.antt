@@ -1,0 +1,3 @@
+pub mod Organisations
+pub mod Points
+pub mod Pack
