@@ -19,7 +19,7 @@ fn point_label<'a>(pack: &'a [u8], k: usize, out: &mut [u8]) -> Answer
     let start = open::inner::trailer_number(pack, 17);
     let at = start + 57 * (k - 1);
     let rows = &pack[..start];
-    label::print_label(rows, pack, spans_at(pack, rows, at), out)
+    print::print_label(rows, pack, spans_at(pack, rows, at), out)
 }
 
 // The label of point k, counted from 1, of any bytes: the pack is opened first.
