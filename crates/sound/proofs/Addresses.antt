@@ -56,7 +56,7 @@ unrefused look a view e = by-tests (eqb (forbidden a) 0) (eqb (missing look a) 0
     by-tests false u p q e = let z : _≡_ {A = ℕ} 0 1 = cc in absurd (omega arith)
 
 -- a byte that is one of some
-one-passes : (bytes rec : List ℕ) (at : ℕ) → oneOf bytes (part rec at (at + 1)) ≡ 0 → elem (getD rec at 0) bytes ≡ true
+pub one-passes : (bytes rec : List ℕ) (at : ℕ) → oneOf bytes (part rec at (at + 1)) ≡ 0 → elem (getD rec at 0) bytes ≡ true
 one-passes bytes rec at e = by-test (elem (getD rec at 0) bytes) (sym (one-byte bytes rec at) ∙ e)
   where
     by-test : (t : Bool) → _≡_ {A = ℕ} (cond t 0 1) 0 → t ≡ true
@@ -64,7 +64,7 @@ one-passes bytes rec at e = by-test (elem (getD rec at 0) bytes) (sym (one-byte 
     by-test false e = absurd (omega arith)
 
 -- a field of eight bytes says at most 99,999,999
-eight : (rec : List ℕ) (start : ℕ) → value (part rec start (start + 8)) ≤ 99_999_999
+pub eight : (rec : List ℕ) (start : ℕ) → value (part rec start (start + 8)) ≤ 99_999_999
 eight rec start =
     let s = part rec start (start + 8) in
     omega (arith, digits-below 8 s (omega arith) (omega (arith, part-bound rec start (start + 8))))
