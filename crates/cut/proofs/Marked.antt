@@ -1,7 +1,7 @@
 -- Which records a builder marks: those that a packed view refers to. Where rows stand shows the same, and as many bytes.
 -- Assumes nothing.
 use Prim.Native.Nat.{ℕ, zero, suc, _+_, _-_, _≤_, _<_}
-use mathlib.Core.Path.{_≡_, refl, sym, ap, ap₂, _∙_}
+use mathlib.Core.Path.{_≡_, refl, sym, ap, _∙_}
 use mathlib.Core.Bool.{Bool, true, false, cond, not, _||_}
 use mathlib.Core.List.{List, [], _∷_}
 use native.Mathlib.Omega.{arith}
@@ -15,7 +15,7 @@ use Rattle.record.specs.Parts.{recordAt}
 use Rattle.rows.specs.Rows.{lastOf}
 use Rattle.marks.specs.Places.{rowsOf, refersTo, markRow, markRows, markPlaces}
 use Rattle.marks.specs.Rows.{rowBytesAt, isMarked, bytesTo}
-use Rattle.marks.specs.Placed.{startOf, Placed}
+use Rattle.marks.specs.Placed.{Placed}
 
 -- ---- marks
 

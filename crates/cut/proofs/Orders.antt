@@ -3,11 +3,11 @@
 -- Assumes nothing.
 use Prim.Native.Nat.{ℕ, suc, _+_, _-_, _*_, _^_, _≤_, _<_}
 use mathlib.Core.Path.{_≡_, refl, sym, ap, ap₂, subst, _∙_}
-use mathlib.Core.Bool.{Bool, true, false, true≢false, _&&_, _||_}
+use mathlib.Core.Bool.{Bool, true, false, true≢false, _||_}
 use mathlib.Core.List.{List, [], _∷_}
 use native.Mathlib.Omega.{arith}
 use native.Mathlib.Nat.{suc-mul, mul-le-mul-right}
-use borrow.Author.Tests.{eq-eqb, ne-eqb, eqb-true, eqb-false}
+use borrow.Author.Tests.{eq-eqb, ne-eqb, eqb-true}
 use lib.Dec.{eqb}
 use lib.ListN.{length}
 use Rattle.text.specs.Test.{elem, every}
@@ -19,6 +19,7 @@ use Rattle.rows.proofs.Order.{by-bytes, first-below, first-same}
 use Rattle.source.proofs.Digits.{value-split, digit-again}
 use Rattle.layout.specs.Layout.{ref}
 use Rattle.carried.specs.Used.{Rises}
+use Rattle.carried.proofs.Rows.{or-true}
 
 -- ---- digits
 
@@ -82,9 +83,11 @@ elem-behind r x xs n e = rw (ne-eqb r x n) at e
 elem-first : (x : ℕ) (xs : List ℕ) → elem x (x ∷ xs) ≡ true
 elem-first x xs = rw (eq-eqb x x refl)
 
+pub or-left : (s t : Bool) → s ≡ true → s || t ≡ true
+or-left s t e = ap (λ b. b || t) e
+
 pub or-right : (s t : Bool) → t ≡ true → s || t ≡ true
-or-right true t e = refl
-or-right false t e = e
+or-right s t e = ap (λ b. s || b) e ∙ or-true s
 
 abbrev Within : List ℕ → List ℕ → Type 0
 Within xs ys = (r : ℕ) → elem r xs ≡ true → elem r ys ≡ true

@@ -3,7 +3,7 @@
 -- Assumes nothing.
 use Prim.Native.Nat.{ℕ, zero, suc, _+_, _-_, _≤_, _<_}
 use mathlib.Core.Path.{_≡_, refl, sym, ap, ap₂, _∙_}
-use mathlib.Core.Bool.{Bool, true, false, cond, _&&_, _||_}
+use mathlib.Core.Bool.{Bool, true, false, cond, _||_}
 use mathlib.Core.List.{List, [], _∷_}
 use mathlib.Core.Option.{some}
 use mathlib.Core.Logic.{⊎-elim}
@@ -118,6 +118,9 @@ module _ (rec : List ℕ) (h : Headed rec) where
       ∙ sym (h .whole)
 
   -- tables have types 1 to 5
+  front-above : 0 < value (part rec 0 9)
+  front-above = omega (arith, front-ref, h .type-low)
+
   front-below : value (part rec 0 9) < 600_000_000
   front-below = omega (arith, front-ref, eight rec 1, h .type-high)
 
@@ -128,6 +131,9 @@ module _ (table : List ℕ) (t : Accepted tableFormat table) where
     pub headed-at : Headed (recordAt 169 table i)
     headed-at =
         headed (recordAt 169 table i) (record-length 169 table i (omega arith)) (t .each i low high .well-formed)
+
+    pub ref-above : 0 < refAt table i
+    ref-above = front-above (recordAt 169 table i) headed-at
 
     pub ref-below : refAt table i < 600_000_000
     ref-below = front-below (recordAt 169 table i) headed-at
@@ -196,4 +202,5 @@ module _ (table : List ℕ) (t : Accepted tableFormat table) where
         ≡ rowBytesAt table i
     unfolding rowBytesAt
     own-entry =
-        rw own-texts (ap (λ k. k ∷ textsBytes (textsOf (recordAt 169 table i))) (front-kind (recordAt 169 table i) (headed-at i low high)))
+        let rec = recordAt 169 table i in
+        rw own-texts (ap (λ k. k ∷ textsBytes (textsOf rec)) (front-kind rec (headed-at i low high)))

@@ -21,7 +21,7 @@ use Rattle.keys.specs.Keys.{rowFor}
 use Rattle.meaning.proofs.Fields.{Key, row-key}
 
 -- type and key of a record, apart
-pub type-first : (rec : List ℕ) → getD rec 0 0 ≡ getD (part rec 0 9) 0 0
+type-first : (rec : List ℕ) → getD rec 0 0 ≡ getD (part rec 0 9) 0 0
 type-first [] = refl
 type-first (x ∷ xs) = refl
 
