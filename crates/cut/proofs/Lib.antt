@@ -1,3 +1,9 @@
+pub mod Orders
+pub mod Refs
+pub mod Marked
+pub mod Keys
+pub mod Offsets
+pub mod Rows
 pub mod Organisations
 pub mod Points
 pub mod Pack

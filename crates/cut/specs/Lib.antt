@@ -1,2 +1,3 @@
 pub mod Started
+pub mod Refs
 pub mod Half

@@ -11,7 +11,7 @@ use lib.Dec.{ltb, eqb}
 use Rattle.record.specs.Ends.{order, above}
 
 -- the three ways in which two bytes stand
-by-bytes : {P : Type 0} (x y : ℕ) → (x < y → P) → (x ≡ y → P) → (y < x → P) → P
+pub by-bytes : {P : Type 0} (x y : ℕ) → (x < y → P) → (x ≡ y → P) → (y < x → P) → P
 by-bytes {P} x y below equal over = by-tests (ltb x y) (ltb y x) refl refl
   where
     by-tests : (s t : Bool) → ltb x y ≡ s → ltb y x ≡ t → P

@@ -64,7 +64,7 @@ one-passes bytes rec at e = by-test (elem (getD rec at 0) bytes) (sym (one-byte 
     by-test false e = absurd (omega arith)
 
 -- a field of eight bytes says at most 99,999,999
-eight : (rec : List ℕ) (start : ℕ) → value (part rec start (start + 8)) ≤ 99_999_999
+pub eight : (rec : List ℕ) (start : ℕ) → value (part rec start (start + 8)) ≤ 99_999_999
 eight rec start =
     let s = part rec start (start + 8) in
     omega (arith, digits-below 8 s (omega arith) (omega (arith, part-bound rec start (start + 8))))

@@ -19,7 +19,7 @@ shifted v d p rest =
     rw (add-mul (v * 10) d p, mul-assoc v 10 p, mul-comm 10 p, add-assoc (v * (p * 10)) (d * p) rest)
 
 -- what stands before counts in whole powers
-value-split : (s : List ℕ) (v : ℕ) → valueFrom v s ≡ v * 10 ^ length s + valueFrom 0 s
+pub value-split : (s : List ℕ) (v : ℕ) → valueFrom v s ≡ v * 10 ^ length s + valueFrom 0 s
 value-split [] v = rw (pow-zero 10) (omega arith)
 value-split (x ∷ xs) v =
     let d = digitValue x in
@@ -29,7 +29,7 @@ value-split (x ∷ xs) v =
     ∙ rw (pow-suc 10 (length xs), value-split xs (0 * 10 + d), (let z : 0 * 10 + d ≡ d = omega arith in z)))
 
 -- the digit that a byte is
-digit-again : (x : ℕ) → digit x ≡ true → 48 + digitValue x ≡ x
+pub digit-again : (x : ℕ) → digit x ≡ true → 48 + digitValue x ≡ x
 unfolding digitValue
 digit-again x e = simp e (omega (arith, range-low 48 57 x e))
 

@@ -1,0 +1,206 @@
+-- The records of an accepted table file: what their rows stand for rises, each finds itself by its own key, and its entry
+-- in a pack is its row.
+-- Assumes nothing.
+use Prim.Native.Nat.{ℕ, zero, suc, _+_, _-_, _≤_, _<_}
+use mathlib.Core.Path.{_≡_, refl, sym, ap, ap₂, _∙_}
+use mathlib.Core.Bool.{Bool, true, false, cond, _||_}
+use mathlib.Core.List.{List, [], _∷_}
+use mathlib.Core.Option.{some}
+use mathlib.Core.Logic.{⊎-elim}
+use native.Mathlib.Omega.{arith}
+use native.Mathlib.Nat.{eq-or-lt-of-le}
+use borrow.Author.Tests.{ne-eqb, eqb-true, le-leb, ltb-true, ltb-false}
+use lib.Dec.{eqb, ltb}
+use lib.ListN.{length, getD}
+use Rattle.text.specs.Test.{within, elem, every, only}
+use Rattle.text.specs.Digits.{digit, digitsFault, value}
+use Rattle.text.specs.Text.{part}
+use Rattle.text.proofs.Tests.{and-left, and-right, range-low, range-high}
+use Rattle.text.proofs.Values.{value-whole}
+use Rattle.record.specs.Parts.{recordAt}
+use Rattle.record.specs.Ends.{order}
+use Rattle.faults.specs.Fields.{keyFault}
+use Rattle.faults.specs.Table.{tableFault}
+use Rattle.files.specs.Formats.{tableFormat}
+use Rattle.files.proofs.Accepted.{Accepted}
+use Rattle.rows.specs.Rows.{keyAt, lastOf, rowOf}
+use Rattle.rows.proofs.Last.{row-of-some, row-of-none}
+use Rattle.source.specs.Rows.{digitsOf, textsOf, textsAt, tableLookup}
+use Rattle.source.proofs.Digits.{digits-again}
+use Rattle.meaning.proofs.Records.{part-length, record-length}
+use Rattle.meaning.proofs.Fields.{table-passes, digits-pass}
+use Rattle.layout.specs.Layout.{ref, kindOf, keyOf, textsOr, entry, textsBytes, entryBytes}
+use Rattle.marks.specs.Rows.{rowBytesAt}
+use Rattle.sound.proofs.Addresses.{one-passes, eight}
+use Rattle.carried.proofs.Used.{ref-kind, ref-key}
+use Rattle.carried.proofs.Rows.{and-both}
+use Rattle.cut.specs.Refs.{refAt}
+use Rattle.cut.proofs.Orders.{digits-rise, nine-digits}
+
+-- ---- one record
+
+-- one of some bytes that are all in a range
+elem-within : (low high b : ℕ) (bytes : List ℕ) → every (within low high) bytes ≡ true → elem b bytes ≡ true
+    → within low high b ≡ true
+elem-within low high b [] all e = let z : _≡_ {A = ℕ} 0 1 = cc in absurd (omega arith)
+elem-within low high b (x ∷ xs) all e =
+    by-test (eqb b x) refl e
+    (elem-within low high b xs (and-right (within low high x) (every (within low high) xs) all))
+  where
+    by-test : (t : Bool) → eqb b x ≡ t → t || elem b xs ≡ true → (elem b xs ≡ true → within low high b ≡ true)
+        → within low high b ≡ true
+    by-test true q e later =
+        ap (within low high) (eqb-true b x q) ∙ and-left (within low high x) (every (within low high) xs) all
+    by-test false q e later = later e
+
+-- a table key is of digits
+key-digits : (s : List ℕ) → keyFault s ≡ 0 → every digit s ≡ true
+unfolding keyFault
+key-digits s e = by-test (only 48 s) e
+  where
+    by-test : (t : Bool) → cond t 1 (digitsFault s) ≡ 0 → every digit s ≡ true
+    by-test true e = absurd (omega arith)
+    by-test false e = digits-pass s e
+
+nine-first : (rec : List ℕ) → (length rec ≡ 0 → ⊥) → part rec 0 9 ≡ getD rec 0 0 ∷ part rec 1 9
+nine-first [] n = absurd (n refl)
+nine-first (x ∷ xs) n = refl
+
+-- type and key at a record's front
+pub record Headed (rec : List ℕ) : Type 0 where
+  pub type-low : 49 ≤ getD rec 0 0
+  pub type-high : getD rec 0 0 ≤ 53
+  pub digits : every digit (part rec 1 9) ≡ true
+  pub size : length (part rec 1 9) ≡ 8
+  pub whole : part rec 0 9 ≡ getD rec 0 0 ∷ part rec 1 9
+
+headed : (rec : List ℕ) → length rec ≡ 169 → tableFault rec ≡ 0 → Headed rec
+headed rec long e =
+    let head = table-passes rec e .0 in
+    let bytes : List ℕ = 49 ∷ 50 ∷ 51 ∷ 52 ∷ 53 ∷ [] in
+    let type = elem-within 49 53 (getD rec 0 0) bytes refl (one-passes bytes rec 0 (head .0)) in
+    record {
+      type-low = range-low 49 53 (getD rec 0 0) type;
+      type-high = range-high 49 53 (getD rec 0 0) type;
+      digits = key-digits (part rec 1 9) (head .1 .0);
+      size = omega (arith, part-length rec 1 9 (omega arith) (omega arith));
+      whole = nine-first rec (λ z. omega arith);
+    }
+
+module _ (rec : List ℕ) (h : Headed rec) where
+  type-digit : digit (getD rec 0 0) ≡ true
+  type-digit =
+      and-both (le-leb 48 (getD rec 0 0) (omega (arith, h .type-low)))
+      (le-leb (getD rec 0 0) 57 (omega (arith, h .type-high)))
+
+  all-digits : every digit (part rec 0 9) ≡ true
+  all-digits = rw (h .whole) (and-both type-digit (h .digits))
+
+  nine : length (part rec 0 9) ≡ 9
+  nine = rw (h .whole) (ap suc (h .size))
+
+  front-ref : value (part rec 0 9) ≡ ref (getD rec 0 0 - 48) (value (part rec 1 9))
+  front-ref = rw (h .whole) (nine-digits (getD rec 0 0) (part rec 1 9) type-digit (h .size))
+
+  front-kind : kindOf (value (part rec 0 9)) ≡ getD rec 0 0 - 48
+  front-kind = ap kindOf front-ref ∙ ref-kind (getD rec 0 0 - 48) (value (part rec 1 9)) (eight rec 1)
+
+  front-key : keyOf (value (part rec 0 9)) ≡ value (part rec 1 9)
+  front-key = ap keyOf front-ref ∙ ref-key (getD rec 0 0 - 48) (value (part rec 1 9)) (eight rec 1)
+
+  -- the number written out again is the front
+  front-again : (48 + kindOf (value (part rec 0 9))) ∷ digitsOf 8 (keyOf (value (part rec 0 9))) ≡ part rec 0 9
+  front-again =
+      let type : 48 + kindOf (value (part rec 0 9)) ≡ getD rec 0 0 = omega (arith, front-kind, h .type-low) in
+      ap₂ _∷_ type
+      (ap (digitsOf 8) front-key
+      ∙ (rw (h .size) at (digits-again (part rec 1 9) (omega (arith, h .size)) (h .digits))))
+      ∙ sym (h .whole)
+
+  -- tables have types 1 to 5
+  front-above : 0 < value (part rec 0 9)
+  front-above = omega (arith, front-ref, h .type-low)
+
+  front-below : value (part rec 0 9) < 600_000_000
+  front-below = omega (arith, front-ref, eight rec 1, h .type-high)
+
+-- ---- the records of a file
+
+module _ (table : List ℕ) (t : Accepted tableFormat table) where
+  module _ (i : ℕ) (low : 1 ≤ i) (high : i < lastOf table) where
+    pub headed-at : Headed (recordAt 169 table i)
+    headed-at =
+        headed (recordAt 169 table i) (record-length 169 table i (omega arith)) (t .each i low high .well-formed)
+
+    pub ref-above : 0 < refAt table i
+    ref-above = front-above (recordAt 169 table i) headed-at
+
+    pub ref-below : refAt table i < 600_000_000
+    ref-below = front-below (recordAt 169 table i) headed-at
+
+    above-last : (eqb i 1 ≡ true → ⊥) → order (keyAt table i) (keyAt table (i - 1)) ≡ 2
+    above-last n = by-test (eqb i 1) refl (t .each i low high .rising)
+      where
+        by-test : (b : Bool) → eqb i 1 ≡ b → b || eqb (order (keyAt table i) (keyAt table (i - 1))) 2 ≡ true
+            → order (keyAt table i) (keyAt table (i - 1)) ≡ 2
+        by-test true q e = absurd (n q)
+        by-test false q e = eqb-true (order (keyAt table i) (keyAt table (i - 1))) 2 e
+
+  ref-next : (i : ℕ) → 1 ≤ i → suc i < lastOf table → refAt table i < refAt table (suc i)
+  ref-next i low high =
+      let this = headed-at i low (omega arith) in
+      let next = headed-at (suc i) (omega arith) high in
+      let a = keyAt table (suc i) in
+      let b = keyAt table i in
+      let m = nine (recordAt 169 table i) this in
+      let n = nine (recordAt 169 table (suc i)) next in
+      let back : suc i - 1 ≡ i = omega arith in
+      let up : order a b ≡ 2 =
+      rw back at (above-last (suc i) (omega arith) high (λ q. omega (arith, eqb-true (suc i) 1 q))) in
+      rw (value-whole a (omega (arith, n)), value-whole b (omega (arith, m)))
+      (digits-rise a b (n ∙ sym m) (all-digits (recordAt 169 table (suc i)) next)
+      (all-digits (recordAt 169 table i) this) up)
+
+  -- "each record but the first of them is above the one before"
+  pub refs-rise : (i j : ℕ) → 1 ≤ i → i < j → j < lastOf table → refAt table i < refAt table j
+  refs-rise i zero low up high = absurd (omega arith)
+  refs-rise i (suc j) low up high =
+      let next = ref-next j (omega arith) high in
+      ⊎-elim (λ (e : i ≡ j). rw e next)
+      (λ (h : i < j). omega (arith, refs-rise i j low h (omega arith)))
+      (eq-or-lt-of-le (let z : i ≤ j = omega arith in z))
+
+  -- so a number stands for one record
+  pub ref-once : (i j : ℕ) → 1 ≤ i → i < lastOf table → 1 ≤ j → j < lastOf table → refAt table i ≡ refAt table j → i ≡ j
+  ref-once i j low high low′ high′ e = by-tests (ltb i j) (ltb j i) refl refl
+    where
+      by-tests : (s u : Bool) → ltb i j ≡ s → ltb j i ≡ u → i ≡ j
+      by-tests true u p q = absurd (omega (arith, refs-rise i j low (ltb-true i j p) high′))
+      by-tests false true p q = absurd (omega (arith, refs-rise j i low′ (ltb-true j i q) high))
+      by-tests false false p q = omega (arith, ltb-false i j p, ltb-false j i q)
+
+  module _ (i : ℕ) (low : 1 ≤ i) (high : i < lastOf table) where
+    -- a record is what its key finds
+    own-row : rowOf table (keyAt table i) ≡ i
+    own-row = by-row (rowOf table (keyAt table i)) refl
+      where
+        by-row : (r : ℕ) → rowOf table (keyAt table i) ≡ r → r ≡ i
+        by-row zero e = absurd (row-of-none table (keyAt table i) e i low high refl)
+        by-row (suc p) e =
+            let r = row-of-some table (keyAt table i) p e in
+            ref-once (suc p) i (r .0) (r .1) low high (ap value (r .2))
+
+    own-texts : tableLookup table (kindOf (refAt table i)) (keyOf (refAt table i)) ≡ some (textsOf (recordAt 169 table i))
+    unfolding tableLookup
+    own-texts =
+        ap (λ (s : List ℕ). textsAt table (rowOf table s)) (front-again (recordAt 169 table i) (headed-at i low high))
+        ∙ (ap (textsAt table) own-row ∙ rw (ne-eqb i 0 (λ z. omega arith)))
+
+    -- its entry is its row
+    pub own-entry :
+        entryBytes (entry (refAt table i) (textsOr (tableLookup table (kindOf (refAt table i)) (keyOf (refAt table i)))))
+        ≡ rowBytesAt table i
+    unfolding rowBytesAt
+    own-entry =
+        let rec = recordAt 169 table i in
+        rw own-texts (ap (λ k. k ∷ textsBytes (textsOf rec)) (front-kind rec (headed-at i low high)))
