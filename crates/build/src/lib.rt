@@ -1,1 +1,68 @@
 // Building the pack of an outward code from a pair of files.
+use files::Verdict;
+use refusal::Answer;
+use refusal::Reason;
+ghost use mathlib.Core.Path.{_≡_};
+ghost use Rattle.source.specs.Rows.{tableLookup};
+ghost use Rattle.label.specs.Label.{roomAnswer, roomMemory};
+ghost use Rattle.layout.specs.Layout.{packOf};
+ghost use Rattle.layout.specs.Cutting.{cutAnswer, cutMemory};
+ghost use Rattle.build.specs.Build.{liveIn, buildAnswer, buildMemory};
+ghost use Rattle.build.specs.Ready.{Judged, Marked};
+
+// The bytes of a point and of the trailer.
+const POINT: usize = 57;
+
+const TRAILER: usize = 21;
+
+// The most records of a table file.
+const RECORDS: usize = 20000;
+
+// The pack, where it fits: how many bytes it has is known before the first is written.
+fn write_if_room(table: &[u8], points: &[u8], code: &[u8], starts: &mut [u32], out: &mut [u8]) -> Answer
+    requires { ⌜ Marked (now table) (now points) (now code) (now starts) ⌝ }
+    ensures { λ r. ⌜ (r ≡ roomAnswer (packOf (tableLookup (now (table .entry))) (liveIn (now (table .entry)) (now (points .entry)) (now (code .entry))) (now (code .entry))) (now (out .entry))) × (now (out .exit) ≡ roomMemory (packOf (tableLookup (now (table .entry))) (liveIn (now (table .entry)) (now (points .entry)) (now (code .entry))) (now (code .entry))) (now (out .entry))) ⌝ }
+{
+    let of_table = marks::place_rows(table, starts);
+    let of_points = marks::organisations_in(points, code);
+    let count = views::count_wanted(points, code);
+    let needed = of_table.bytes + of_points.bytes + POINT * count + TRAILER;
+    if out.len() < needed {
+        return Answer::Refused {
+            file: 0,
+            reason: Reason::Room { needed },
+        };
+    }
+    let rows = of_table.rows + of_points.rows;
+    Answer::Value(emit::inner::write_pack(table, points, starts, code, rows, count, out))
+}
+
+// The pack of a code from files that are accepted.
+fn cut(table: &[u8], points: &[u8], code: &[u8], out: &mut [u8]) -> Answer
+    requires { ⌜ Judged (now table) (now points) (now code) ⌝ }
+    ensures { λ r. ⌜ (r ≡ cutAnswer (tableLookup (now (table .entry))) (liveIn (now (table .entry)) (now (points .entry)) (now (code .entry))) (now (code .entry)) (now (out .entry))) × (now (out .exit) ≡ cutMemory (tableLookup (now (table .entry))) (liveIn (now (table .entry)) (now (points .entry)) (now (code .entry))) (now (code .entry)) (now (out .entry))) ⌝ }
+{
+    let mut starts = [0u32; RECORDS];
+    match marks::mark_views(table, points, code, &mut starts) {
+        Verdict::Fine => write_if_room(table, points, code, &mut starts, out),
+        Verdict::Bad(reason) => Answer::Refused { file: 0, reason },
+    }
+}
+
+// The pack of a code, for any bytes given as files and code.
+pub fn build_pack(table: &[u8], points: &[u8], code: &[u8], out: &mut [u8]) -> Answer
+    ensures { λ r. ⌜ (r ≡ buildAnswer (now (table .entry)) (now (points .entry)) (now (code .entry)) (now (out .entry))) × (now (out .exit) ≡ buildMemory (now (table .entry)) (now (points .entry)) (now (code .entry)) (now (out .entry))) ⌝ }
+{
+    match pair::check_pair(table, points) {
+        Answer::Value(_) => {
+            if postcode::outward_fault(code) != 0 {
+                return Answer::Refused {
+                    file: 0,
+                    reason: Reason::BadCode,
+                };
+            }
+            cut(table, points, code, out)
+        }
+        Answer::Refused { file, reason } => Answer::Refused { file, reason },
+    }
+}

@@ -1,21 +1,32 @@
 -- The bytes of a pack as a builder writes them, from the starts of the rows and the places of the views.
 -- Assumes nothing.
-use Prim.Native.Nat.{ℕ, _+_, _-_, _*_}
+use Prim.Native.Nat.{ℕ, _+_, _-_}
 use mathlib.Core.Bool.{cond}
 use mathlib.Core.List.{List, [], _∷_, _++_}
 use lib.Dec.{eqb}
 use lib.ListN.{length, getD}
 use Rattle.text.specs.Digits.{value}
-use Rattle.text.specs.Text.{part}
+use Rattle.text.specs.Text.{part, textIn}
 use Rattle.record.specs.Parts.{recordAt}
 use Rattle.files.specs.Formats.{needed}
 use Rattle.views.specs.Views.{wantedIn}
 use Rattle.rows.specs.Rows.{lastOf}
 use Rattle.keys.specs.Keys.{says, rowFor}
 use Rattle.layout.specs.Numbers.{bytesOf, absent}
-use Rattle.layout.specs.Layout.{newest, trailerBytes}
+use Rattle.layout.specs.Layout.{newest, textsBytes, trailerBytes}
 use Rattle.marks.specs.Places.{organisationAt, organisationsAt, organisationCount}
 use Rattle.marks.specs.Rows.{countTo, rowsFrom}
+
+-- "each a length byte and its bytes"
+abbrev pub sized : List ℕ → List ℕ
+sized t = length t ∷ t
+
+-- the texts of a locality, and the row of an organisation from its record
+abbrev pub localityTexts : List ℕ → List (List ℕ)
+localityTexts rec = textIn rec 69 99 ∷ textIn rec 99 134 ∷ textIn rec 134 169 ∷ []
+
+abbrev pub followerTexts : List ℕ → List ℕ
+followerTexts rec = 6 ∷ textsBytes (textIn rec 42 102 ∷ textIn rec 102 162 ∷ [])
 
 -- the offset of the row that a key refers to; a record that has a row has its start, plus 1
 abbrev pub keyOffset : List ℕ → List ℕ → List ℕ → ℕ → ℕ → ℕ
@@ -40,19 +51,22 @@ abbrev pub organisationOffset : List ℕ → ℕ → ℕ
 organisationOffset rec at = cond (eqb (needed rec) 0) absent at
 
 -- "postcode 7, postcode type 1, address key 4, organisation key 4, building number 2, concatenation 1, PO box 6"
-abbrev pub plainIn : List ℕ → List ℕ
-plainIn rec =
-    part rec 14 21
-    ++ (part rec 23 24
-    ++ (bytesOf 4 (value (part rec 24 32))
-    ++ (bytesOf 4 (value (part rec 32 40)) ++ (bytesOf 2 (value (part rec 82 86)) ++ part rec 106 113))))
+abbrev pub numbersIn : List ℕ → List ℕ
+numbersIn rec =
+    bytesOf 4 (value (part rec 24 32))
+    ++ (bytesOf 4 (value (part rec 32 40)) ++ (bytesOf 2 (value (part rec 82 86)) ++ part rec 106 113))
 
--- the point of the view at a place, its organisation's row standing at `at` if it has one
+abbrev pub plainIn : List ℕ → List ℕ
+plainIn rec = part rec 14 21 ++ (part rec 23 24 ++ numbersIn rec)
+
+-- the point of a view, from its record; its organisation's row stands at `at` if it has one
+abbrev pub pointOf : List ℕ → List ℕ → List ℕ → ℕ → List ℕ
+pointOf table starts rec at =
+    plainIn rec ++ (keyOffsets table starts rec ++ bytesOf 4 (organisationOffset rec at))
+
+-- the same of the view at a place
 unfoldable pub pointAt : List ℕ → List ℕ → List ℕ → ℕ → ℕ → List ℕ
-pointAt table points starts at place =
-    plainIn (recordAt 168 points place)
-    ++ (keyOffsets table starts (recordAt 168 points place)
-    ++ bytesOf 4 (organisationOffset (recordAt 168 points place) at))
+pointAt table points starts at place = pointOf table starts (recordAt 168 points place) at
 
 -- the points of the views at these places, the organisations' rows standing from `at` on
 abbrev pub pointsAt : List ℕ → List ℕ → List ℕ → ℕ → List ℕ → List ℕ
@@ -64,6 +78,10 @@ pointsAt table points starts at (place ∷ places) =
 -- the rows of the table that have a start
 abbrev pub tableRows : List ℕ → List ℕ → List ℕ
 tableRows table starts = rowsFrom table starts (lastOf table - 1) 1
+
+-- the last fields of a trailer: "outward 4, pack length 4, edition 1"
+abbrev pub trailerEnd : List ℕ → ℕ → List ℕ
+trailerEnd code bytes = code ++ (bytesOf 4 bytes ++ (newest ∷ []))
 
 -- the whole pack for a code
 unfoldable pub packAt : List ℕ → List ℕ → List ℕ → List ℕ → List ℕ

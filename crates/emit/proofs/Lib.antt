@@ -1,0 +1,5 @@
+pub mod Going
+pub mod Numbers
+pub mod Texts
+pub mod Places
+pub mod Pack
