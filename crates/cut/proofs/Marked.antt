@@ -14,7 +14,7 @@ use Rattle.text.proofs.Tests.{or-false}
 use Rattle.record.specs.Parts.{recordAt}
 use Rattle.rows.specs.Rows.{lastOf}
 use Rattle.marks.specs.Places.{rowsOf, refersTo, markRow, markRows, markPlaces}
-use Rattle.marks.specs.Rows.{rowBytesAt, isMarked, bytesTo}
+use Rattle.marks.specs.Rows.{rowBytesAt, isMarked, bytesTo, countTo}
 use Rattle.marks.specs.Placed.{Placed}
 
 -- ---- marks
@@ -86,11 +86,17 @@ module _ (table marks starts : List ℕ) (p : Placed table marks starts) where
         by-test true n = rw (ne-eqb (suc n) 0 (λ z. omega arith))
         by-test false n = refl
 
-  bytes-same : (n : ℕ) → n < lastOf table → bytesTo table starts n ≡ bytesTo table marks n
+  pub bytes-same : (n : ℕ) → n < lastOf table → bytesTo table starts n ≡ bytesTo table marks n
   bytes-same zero h = refl
   bytes-same (suc n) h =
       rw (start-marked (suc n) (omega arith) h)
       (ap (λ m. m + cond (isMarked marks (suc n)) (length (rowBytesAt table (suc n))) 0) (bytes-same n (omega arith)))
+
+  pub count-same : (n : ℕ) → n < lastOf table → countTo starts n ≡ countTo marks n
+  count-same zero h = refl
+  count-same (suc n) h =
+      rw (start-marked (suc n) (omega arith) h)
+      (ap (λ m. m + cond (isMarked marks (suc n)) 1 0) (count-same n (omega arith)))
 
   -- its row stands behind those of the records before it that have one
   pub start-is : (i : ℕ) → 1 ≤ i → i < lastOf table → isMarked starts i ≡ true

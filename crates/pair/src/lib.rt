@@ -9,8 +9,8 @@ ghost use Rattle.files.specs.Formats.{tableFormat, pointFormat};
 ghost use Rattle.listing.specs.Listing.{after};
 ghost use Rattle.pair.specs.Pair.{viewAnswer, viewMemory, codeAnswer, codeMemory};
 
-// Whether both files are accepted: the number of records of the table file, or the first refusal.
-fn check_pair(table: &[u8], points: &[u8]) -> Answer
+// Whether both files are accepted: the number of records of the point file, or the first refusal.
+pub fn check_pair(table: &[u8], points: &[u8]) -> Answer
     ensures { λ r. ⌜ r ≡ after (checked tableFormat (now (table .entry))) (checked pointFormat (now (points .entry))) ⌝ }
 {
     match files::check_table(table) {

@@ -1,0 +1,238 @@
+-- Laws of building: what the code has counted is the length of the pack, and what it writes is the pack.
+-- Assumes nothing.
+use Prim.Native.Nat.{ℕ, zero, suc, _+_, _*_, _-_, _/_, _≤_, _<_}
+use mathlib.Core.Path.{_≡_, refl, sym, ap, subst, _∙_}
+use mathlib.Core.Bool.{Bool, true, false, cond}
+use mathlib.Core.List.{List, [], _∷_, _++_}
+use native.Mathlib.Omega.{arith}
+use native.Mathlib.Nat.{zero-add, add-zero}
+use borrow.Author.Tests.{eq-eqb, ne-eqb, le-leb, lt-leb, leb-true}
+use lib.Dec.{eqb, leb}
+use lib.ListN.{length, getD, drop, length-append}
+use Rattle.text.proofs.Tests.{and-left, and-right}
+use Rattle.postcode.specs.Outward.{outwardFault}
+use Rattle.refusal.specs.declared.Reason.{Reason}
+use Rattle.refusal.specs.declared.Reason.the-variants.{Room, BadCode}
+use Rattle.refusal.specs.declared.Answer.{Answer}
+use Rattle.refusal.specs.declared.Answer.the-variants.{Value, Refused}
+use Rattle.files.specs.declared.check.Verdict.the-variants.{Fine, Bad}
+use Rattle.files.specs.Check.{checked}
+use Rattle.files.specs.Formats.{tableFormat, pointFormat}
+use Rattle.files.proofs.Laws.{at-least-two, within-limit}
+use Rattle.files.proofs.Accepted.{Accepted}
+use Rattle.views.specs.Views.{wantedIn}
+use Rattle.views.specs.Views as Views
+use Rattle.rows.specs.Rows.{lastOf}
+use Rattle.address.specs.Address.{Address}
+use Rattle.source.specs.Rows.{tableLookup}
+use Rattle.label.specs.Label.{roomAnswer, roomMemory}
+use Rattle.label.specs.Put.{Wrote}
+use Rattle.layout.specs.Layout.{entriesOf, entriesBytes, organisationEntries, packOf}
+use Rattle.layout.specs.Cutting.{firstBad, cutAnswer, cutMemory}
+use Rattle.layout.specs.Sound.{Sound}
+use Rattle.carried.proofs.Carried.{pack-long}
+use Rattle.sound.specs.Packed.{packed, viewsAt}
+use Rattle.sound.proofs.Packed.{packed-live, packed-views, views-length}
+use Rattle.sound.proofs.Refused.{first-bad}
+use Rattle.sound.proofs.Sound.{pair-sound}
+use Rattle.marks.specs.Places.{firstRefused, markPlaces, organisationsAt, organisationCount}
+use Rattle.marks.specs.Rows.{rowBytesAt, isMarked, bytesTo, countTo, rowsFrom}
+use Rattle.marks.specs.Placed.{Placed}
+use Rattle.emit.specs.Emit.{tableRows, packAt}
+use Rattle.emit.specs.Ready.{Ready}
+use Rattle.cut.specs.Started.{Started}
+use Rattle.cut.specs.Half.{usedRows, TableHalf}
+use Rattle.cut.proofs.Marked.{bytes-same, count-same}
+use Rattle.cut.proofs.Rows.{rows-bytes, rows-count, key-offsets, no-table-row}
+use Rattle.cut.proofs.Organisations.{entries-join, numbers-rise, organisations-bytes}
+use Rattle.cut.proofs.Pack.{pack-is}
+use Rattle.listing.specs.Listing.{after}
+use Rattle.pair.specs.Pair.{pairAnswer, pairMemory}
+use Rattle.pair.proofs.Laws.{Says, pair-says, table-accepted, points-accepted}
+use Rattle.build.specs.Build.{liveIn, codeCut, codeCutMemory, buildAnswer, buildMemory}
+use Rattle.build.specs.Ready.{Judged, Marked}
+
+-- the bytes of the marked rows, counted and written
+rows-long : (table marks : List ℕ) (k n : ℕ)
+    → length (rowsFrom table marks k (suc n)) + bytesTo table marks n ≡ bytesTo table marks (n + k)
+rows-long table marks zero n = rw (zero-add, add-zero)
+rows-long table marks (suc k) n = by-test (isMarked marks (suc n)) (rows-long table marks k (suc n))
+  where
+    whole : bytesTo table marks (suc n + k) ≡ bytesTo table marks (n + suc k)
+    whole = ap (bytesTo table marks) {x = suc n + k} {y = n + suc k} (omega arith)
+
+    by-test : (t : Bool)
+        → length (rowsFrom table marks k (suc (suc n)))
+        + (bytesTo table marks n + cond t (length (rowBytesAt table (suc n))) 0)
+        ≡ bytesTo table marks (suc n + k)
+        → length (cond t (rowBytesAt table (suc n)) [] ++ rowsFrom table marks k (suc (suc n))) + bytesTo table marks n
+        ≡ bytesTo table marks (n + suc k)
+    by-test true e =
+        omega (arith, e, whole, length-append (rowBytesAt table (suc n)) (rowsFrom table marks k (suc (suc n))))
+    by-test false e = omega (arith, e, whole)
+
+-- an accepted file has 2 to 20,000 records
+pub table-small : (table : List ℕ) → Accepted tableFormat table → lastOf table ≤ 19_999
+table-small table a = omega (arith, within-limit tableFormat table (a .is-whole))
+
+pub points-small : (points : List ℕ) → Accepted pointFormat points → Views.lastOf points ≤ 19_999
+points-small points a = omega (arith, within-limit pointFormat points (a .is-whole))
+
+-- a builder that has placed its rows
+module _ (table points code marks starts : List ℕ) (m : Marked table points code marks)
+    (p : Placed table marks starts) where
+  started : Started table points code (m .fresh) starts
+  started =
+      record {
+        of-table = m .judged .of-table;
+        of-points = m .judged .of-points;
+        of-code = m .judged .of-code;
+        none-refused = m .none-refused;
+        no-marks = m .no-marks;
+        long = omega (arith, m .long, table-small table (m .judged .of-table));
+        placed = subst (λ (l : List ℕ). Placed table l starts) (m .marked) p;
+      }
+
+  half : TableHalf table points code starts
+  half =
+      record {
+        rows-bytes = rows-bytes started;
+        rows-count = rows-count started;
+        key-offsets = key-offsets started;
+        no-six = λ r es h. no-table-row started r h es;
+      }
+
+  abbrev views : List Address
+  views = liveIn table points code
+
+  abbrev pack : List ℕ
+  pack = packOf (tableLookup table) views code
+
+  live : views ≡ packed points code
+  live = packed-live table points code
+
+  pub written : packAt table points starts code ≡ pack
+  written =
+      sym (pack-is table points code (m .fresh) starts started half)
+      ∙ ap (λ (v : List Address). packOf (tableLookup table) v code) (sym live)
+
+  fine : firstBad (tableLookup table) (packed points code) ≡ Fine
+  fine =
+      first-bad table points code (m .judged .of-table) (m .judged .of-points) (m .judged .of-code) ∙ m .none-refused
+
+  sound : Sound (tableLookup table) (packed points code) code
+  sound = pair-sound table points code (m .judged .of-table) (m .judged .of-points) (m .judged .of-code) fine
+
+  of-table-rows : length (tableRows table starts) ≡ bytesTo table marks (lastOf table - 1)
+  of-table-rows =
+      let from : 0 + (lastOf table - 1) ≡ lastOf table - 1 = omega arith in
+      omega (
+        arith,
+        rows-long table starts (lastOf table - 1) 0,
+        ap (bytesTo table starts) from,
+        bytes-same table marks starts p (lastOf table - 1)
+            (omega (arith, at-least-two tableFormat table (m .judged .of-table .is-whole))),
+      )
+
+  of-organisations : length (entriesBytes (organisationEntries (packed points code)))
+      ≡ length (organisationsAt points (wantedIn code points))
+  of-organisations =
+      ap (λ (v : List Address). length (entriesBytes (organisationEntries v)))
+      (packed-views points code (m .judged .of-code))
+      ∙ ap length
+      (organisations-bytes points 0 (wantedIn code points) (numbers-rise points code (m .judged .of-points)))
+
+  of-points : length (packed points code) ≡ length (wantedIn code points)
+  of-points =
+      ap length (packed-views points code (m .judged .of-code)) ∙ views-length points (wantedIn code points)
+
+  pub counted : length pack
+      ≡ bytesTo table marks (lastOf table - 1) + length (organisationsAt points (wantedIn code points))
+      + 57 * length (wantedIn code points) + 21
+  unfolding entriesOf
+  counted =
+      ap (λ (v : List Address). length (packOf (tableLookup table) v code)) live
+      ∙ omega (
+        arith,
+        pack-long (tableLookup table) (packed points code) code sound,
+        ap length (entries-join (usedRows table points code) (organisationEntries (packed points code))),
+        length-append (entriesBytes (usedRows table points code)) (entriesBytes (organisationEntries (packed points code))),
+        ap length (rows-bytes started),
+        of-table-rows,
+        of-organisations,
+        of-points,
+      )
+
+  -- so that no sum is too large
+  pub small : length pack < 4_294_967_295
+  small = omega (arith, ap (λ (v : List Address). length (packOf (tableLookup table) v code)) live, sound .small)
+
+  -- so many rows
+  pub rows-counted : countTo marks (lastOf table - 1) ≡ countTo starts (lastOf table - 1)
+  rows-counted = sym (count-same table marks starts p (lastOf table - 1)
+      (omega (arith, at-least-two tableFormat table (m .judged .of-table .is-whole))))
+
+-- a text that fits, and one that does not
+module _ (text out : List ℕ) where
+  pub fits-answer : length text ≤ length out → roomAnswer text out ≡ Value (length text)
+  unfolding roomAnswer
+  fits-answer h = simp (le-leb (length text) (length out) h)
+
+  pub fits-memory : length text ≤ length out → roomMemory text out ≡ text ++ drop (length text) out
+  unfolding roomMemory
+  fits-memory h = simp (le-leb (length text) (length out) h)
+
+  pub short-answer : length out < length text → roomAnswer text out ≡ Refused 0 (Room (length text))
+  unfolding roomAnswer
+  short-answer h = simp (lt-leb (length text) (length out) h)
+
+  pub short-memory : length out < length text → roomMemory text out ≡ out
+  unfolding roomMemory
+  short-memory h = simp (lt-leb (length text) (length out) h)
+
+-- the first refusal of the packed views, or the pack
+module _ (table points code out : List ℕ) (j : Judged table points code) where
+  verdict-is : firstBad (tableLookup table) (liveIn table points code)
+      ≡ firstRefused table points (wantedIn code points)
+  verdict-is =
+      ap (firstBad (tableLookup table)) (packed-live table points code)
+      ∙ first-bad table points code (j .of-table) (j .of-points) (j .of-code)
+
+  pub none-bad : firstRefused table points (wantedIn code points) ≡ Fine
+      → Says (roomAnswer (packOf (tableLookup table) (liveIn table points code) code) out)
+      (roomMemory (packOf (tableLookup table) (liveIn table points code) code) out)
+      (cutAnswer (tableLookup table) (liveIn table points code) code out)
+      (cutMemory (tableLookup table) (liveIn table points code) code out)
+  unfolding cutAnswer cutMemory
+  none-bad e = record { answer-is = simp (verdict-is ∙ e); memory-is = simp (verdict-is ∙ e) }
+
+  pub one-bad : (why : Reason) → firstRefused table points (wantedIn code points) ≡ Bad why
+      → Says (Refused 0 why) out (cutAnswer (tableLookup table) (liveIn table points code) code out)
+      (cutMemory (tableLookup table) (liveIn table points code) code out)
+  unfolding cutAnswer cutMemory
+  one-bad why e = record { answer-is = simp (verdict-is ∙ e); memory-is = simp (verdict-is ∙ e) }
+
+-- a code is tested where both files are accepted
+module _ (table points code out : List ℕ) (n : ℕ)
+    (e : after (checked tableFormat table) (checked pointFormat points) ≡ Value n) where
+  pub judged : outwardFault code ≡ 0 → Judged table points code
+  judged clean =
+      record { of-table = table-accepted table points n e; of-points = points-accepted table points n e; of-code = clean }
+
+  pub bad-code : (outwardFault code ≡ 0 → ⊥)
+      → Says (Refused 0 BadCode) out (buildAnswer table points code out) (buildMemory table points code out)
+  unfolding buildAnswer buildMemory codeCut codeCutMemory
+  bad-code fault =
+      let test = ne-eqb (outwardFault code) 0 fault in
+      let says = pair-says table points n e (codeCut table points code out) (codeCutMemory table points code out) out in
+      record { answer-is = says .answer-is ∙ simp test; memory-is = says .memory-is ∙ simp test }
+
+  pub good-code : outwardFault code ≡ 0
+      → Says (cutAnswer (tableLookup table) (liveIn table points code) code out)
+      (cutMemory (tableLookup table) (liveIn table points code) code out) (buildAnswer table points code out)
+      (buildMemory table points code out)
+  unfolding buildAnswer buildMemory codeCut codeCutMemory
+  good-code clean =
+      let test = eq-eqb (outwardFault code) 0 clean in
+      let says = pair-says table points n e (codeCut table points code out) (codeCutMemory table points code out) out in
+      record { answer-is = says .answer-is ∙ simp test; memory-is = says .memory-is ∙ simp test }
