@@ -1,12 +1,10 @@
 // Numbers and texts at places of a pack.
+use crate::kinds::PackPoint;
 ghost use mathlib.Core.Path.{_≡_};
 ghost use Prim.Native.Nat.{_+_, _*_, _^_, _≤_, _<_};
 ghost use lib.ListN.{length};
 ghost use Rattle.layout.specs.Numbers.{numberFrom, numberAt};
-ghost use Rattle.layout.specs.Opening.{fromBack, textEnd, textPlace, offsetOfPoint, given};
-
-// The offset that refers to no row.
-pub const ABSENT: usize = 4294967295;
+ghost use Rattle.layout.specs.Opening.{fromBack, textEnd, textPlace, offsetOfPoint};
 
 // What so few bytes say, the most significant first.
 fn number_in(s: &[u8]) -> usize
@@ -65,5 +63,5 @@ pub fn offset_of(pack: &[u8], at: usize, n: usize) -> usize
     requires { ⌜ (at + 57 ≤ length (now pack)) × (n ≤ 7) ⌝ }
     ensures { λ r. ⌜ (r ≡ offsetOfPoint (now (pack .entry)) at n) × (r < 4294967296) ⌝ }
 {
-    number_at(pack, at + 25 + 4 * n, 4)
+    number_at(pack, at + PackPoint::OFFSETS + 4 * n, 4)
 }

@@ -1,18 +1,19 @@
 // Opening any bytes as a pack.
 pub mod inner;
+mod kinds;
 mod points;
 mod rows;
 mod starts;
 
 use inner::trailer_number;
+pub use kinds::PackPoint;
+pub use kinds::PackTrailer;
 use points::points_good;
 use refusal::Answer;
 use refusal::Reason;
 use rows::rows_good;
 use starts::keep_starts;
 ghost use mathlib.Core.Path.{_≡_};
-ghost use Prim.Native.Nat.{_<_};
-ghost use lib.ListN.{length};
 ghost use Rattle.refusal.specs.declared.Reason.the-variants.{BadPack};
 ghost use Rattle.refusal.specs.declared.Answer.the-variants.{Refused};
 ghost use Rattle.layout.specs.Opening.{trailerGood, allPointsGood, opened};
@@ -26,15 +27,20 @@ fn trailer_good(pack: &[u8]) -> bool
     ensures { λ r. ⌜ r ≡ trailerGood (now (pack .entry)) ⌝ }
 {
     let n = pack.len();
-    if n < 21 {
+    if n < PackTrailer::WIDTH {
         return false;
     }
-    let edition = record::byte_of(pack, n - 1);
-    let said = trailer_number(pack, 5);
-    let fault = postcode::outward_fault(record::part_of(pack, n - 9, n - 5));
-    let start = trailer_number(pack, 17);
-    let count = trailer_number(pack, 13);
-    (edition == 1) & ((said == n) & ((fault == 0) & (start + 57 * count + 21 == n)))
+    let edition = record::byte_of(pack, n - PackTrailer::EDITION);
+    let said = trailer_number(pack, PackTrailer::LENGTH);
+    let fault = postcode::outward_fault(record::part_of(
+        pack,
+        n - PackTrailer::OUTWARD,
+        n - PackTrailer::LENGTH,
+    ));
+    let start = trailer_number(pack, PackTrailer::START);
+    let count = trailer_number(pack, PackTrailer::POINTS);
+    let end = start + PackPoint::WIDTH * count + PackTrailer::WIDTH;
+    (edition == 1) & ((said == n) & ((fault == 0) & (end == n)))
 }
 
 // Step 3: whether the points are good, the rows being so.
@@ -64,13 +70,13 @@ pub fn open_pack(pack: &[u8]) -> Answer
     if !trailer_good(pack) {
         return bad_pack(1);
     }
-    let start = trailer_number(pack, 17);
+    let start = trailer_number(pack, PackTrailer::START);
     let rows = &pack[..start];
-    if !rows_good(rows, trailer_number(pack, 21)) {
+    if !rows_good(rows, trailer_number(pack, PackTrailer::ROWS)) {
         return bad_pack(2);
     }
     if !all_points_good(pack, rows) {
         return bad_pack(3);
     }
-    Answer::Value(trailer_number(pack, 13))
+    Answer::Value(trailer_number(pack, PackTrailer::POINTS))
 }

@@ -1,8 +1,9 @@
 // The points of a pack whose trailer and rows are good.
-use crate::inner::ABSENT;
 use crate::inner::number_at;
 use crate::inner::offset_of;
 use crate::inner::trailer_number;
+use crate::kinds::PackPoint;
+use crate::kinds::PackTrailer;
 use crate::rows::text_empty;
 use crate::starts::offset_good;
 ghost use mathlib.Core.Path.{_≡_};
@@ -19,7 +20,7 @@ fn is_given(pack: &[u8], at: usize, n: usize) -> bool
     requires { ⌜ (at + 57 ≤ length (now pack)) × (n ≤ 7) ⌝ }
     ensures { λ r. ⌜ r ≡ given (now (pack .entry)) at n ⌝ }
 {
-    offset_of(pack, at, n) != ABSENT
+    offset_of(pack, at, n) != PackPoint::ABSENT
 }
 
 // Whether each offset is absent or the start of a row of its type.
@@ -44,9 +45,13 @@ fn postcode_good(pack: &[u8], at: usize) -> bool
     ensures { λ r. ⌜ r ≡ postcodeGood (now (pack .entry)) at ⌝ }
 {
     let n = pack.len();
-    let code = record::part_of(pack, n - 9, n - 5);
-    let order = record::order_of(record::part_of(pack, at, at + 4), code);
-    let fault = postcode::inward_fault(record::part_of(pack, at + 4, at + 7));
+    let code = record::part_of(pack, n - PackTrailer::OUTWARD, n - PackTrailer::LENGTH);
+    let order = record::order_of(record::part_of(pack, at, at + PackPoint::INWARD), code);
+    let fault = postcode::inward_fault(record::part_of(
+        pack,
+        at + PackPoint::INWARD,
+        at + PackPoint::TYPE,
+    ));
     (order == 0) & (fault == 0)
 }
 
@@ -55,12 +60,16 @@ fn plain_good(pack: &[u8], at: usize) -> bool
     requires { ⌜ at + 57 ≤ length (now pack) ⌝ }
     ensures { λ r. ⌜ r ≡ plainGood (now (pack .entry)) at ⌝ }
 {
-    let kind = record::byte_of(pack, at + 7);
-    let address = number_at(pack, at + 8, 4);
-    let organisation = number_at(pack, at + 12, 4);
-    let number = number_at(pack, at + 16, 2);
-    let mark = record::byte_of(pack, at + 18);
-    let fault = text::text_fault(record::part_of(pack, at + 19, at + 25));
+    let kind = record::byte_of(pack, at + PackPoint::TYPE);
+    let address = number_at(pack, at + PackPoint::ADDRESS_KEY, 4);
+    let organisation = number_at(pack, at + PackPoint::ORGANISATION_KEY, 4);
+    let number = number_at(pack, at + PackPoint::NUMBER, 2);
+    let mark = record::byte_of(pack, at + PackPoint::CONCATENATION);
+    let fault = text::text_fault(record::part_of(
+        pack,
+        at + PackPoint::PO_BOX,
+        at + PackPoint::OFFSETS,
+    ));
     ((kind == b'S') | (kind == b'L'))
         & ((address <= 99999999)
             & ((organisation <= 99999999)
@@ -74,7 +83,7 @@ fn allowed_mix(pack: &[u8], at: usize) -> bool
 {
     let sub = is_given(pack, at, 6);
     let name = is_given(pack, at, 5);
-    let number = number_at(pack, at + 16, 2) != 0;
+    let number = number_at(pack, at + PackPoint::NUMBER, 2) != 0;
     let street = is_given(pack, at, 1);
     let descriptor = is_given(pack, at, 2);
     let dependent = is_given(pack, at, 3);
@@ -89,10 +98,10 @@ fn organisation_good(pack: &[u8], rows: &[u8], at: usize) -> bool
     ensures { λ r. ⌜ r ≡ organisationGood (now (pack .entry)) at ⌝ }
 {
     let given = is_given(pack, at, 7);
-    if record::byte_of(pack, at + 7) == b'L' {
+    if record::byte_of(pack, at + PackPoint::TYPE) == b'L' {
         return given;
     }
-    if number_at(pack, at + 12, 4) == 0 {
+    if number_at(pack, at + PackPoint::ORGANISATION_KEY, 4) == 0 {
         return !given;
     }
     given & !text_empty(rows, offset_of(pack, at, 7), 0)
@@ -117,14 +126,14 @@ pub fn points_good(pack: &[u8], rows: &[u8], width: usize, starts: &[u32]) -> bo
     requires { ⌜ Sized (now pack) × Ready (now pack) (now rows) width (now starts) ⌝ }
     ensures { λ r. ⌜ r ≡ allPointsGood (now (pack .entry)) ⌝ }
 {
-    let count = trailer_number(pack, 13);
-    let mut at = trailer_number(pack, 17);
+    let count = trailer_number(pack, PackTrailer::POINTS);
+    let mut at = trailer_number(pack, PackTrailer::START);
     let mut i = 0;
     while i < count {
         if !point_good(pack, rows, width, starts, at) {
             return false;
         }
-        at += 57;
+        at += PackPoint::WIDTH;
         i += 1;
     }
     true

@@ -1,6 +1,6 @@
 // Whether an offset is the start of a row, told by a short walk: the row area is cut in stretches of one width, and the first
 // row start at or behind the beginning of each is kept.
-use crate::inner::ABSENT;
+use crate::kinds::PackPoint;
 use crate::rows::row_end;
 ghost use mathlib.Core.Path.{_≡_};
 ghost use mathlib.Core.Bool.{true};
@@ -56,5 +56,5 @@ pub fn offset_good(rows: &[u8], width: usize, starts: &[u32], kind: u8, o: usize
 {
     let found = is_start(rows, width, starts, o);
     let same = record::byte_of(rows, o) == kind;
-    (o == ABSENT) | (found & same)
+    (o == PackPoint::ABSENT) | (found & same)
 }

@@ -1,6 +1,9 @@
 // Labels asked of a pack.
 mod places;
 
+use open::PackPoint;
+use open::PackTrailer;
+use open::inner::trailer_number;
 use places::spans_at;
 use refusal::Answer;
 use refusal::Reason;
@@ -16,8 +19,8 @@ fn point_label<'a>(pack: &'a [u8], k: usize, out: &mut [u8]) -> Answer
     requires { ⌜ Sized (now pack) × ((1 ≤ k) × (k ≤ pointCount (now pack))) ⌝ }
     ensures { λ r. ⌜ (r ≡ roomAnswer (labelOf (elementsAt (now (pack .entry)) (pointPlace (now (pack .entry)) k))) (now (out .entry))) × (now (out .exit) ≡ roomMemory (labelOf (elementsAt (now (pack .entry)) (pointPlace (now (pack .entry)) k))) (now (out .entry))) ⌝ }
 {
-    let start = open::inner::trailer_number(pack, 17);
-    let at = start + 57 * (k - 1);
+    let start = trailer_number(pack, PackTrailer::START);
+    let at = start + PackPoint::WIDTH * (k - 1);
     let rows = &pack[..start];
     print::print_label(rows, pack, spans_at(pack, rows, at), out)
 }

@@ -1,7 +1,7 @@
 // Where the elements of a point stand in its pack: the texts of rows in the row area, the rest in the pack.
 use label::Span;
 use label::Spans;
-use open::inner::ABSENT;
+use open::PackPoint;
 use open::inner::number_at;
 use open::inner::offset_of;
 use open::inner::text_place;
@@ -20,7 +20,7 @@ fn offset_span(pack: &[u8], rows: &[u8], at: usize, i: usize, n: usize) -> Span
     ensures { λ r. ⌜ textIn2 (now (rows .entry)) (now (pack .entry)) r ≡ offsetText (now (pack .entry)) at i n ⌝ }
 {
     let o = offset_of(pack, at, i);
-    if o == ABSENT {
+    if o == PackPoint::ABSENT {
         return Span {
             first: true,
             at: 0,
@@ -56,11 +56,11 @@ pub fn spans_at(pack: &[u8], rows: &[u8], at: usize) -> Spans
     Spans {
         organisation: offset_span(pack, rows, at, 7, 0),
         department: offset_span(pack, rows, at, 7, 1),
-        po_box: field_span(pack, at + 19, at + 25),
+        po_box: field_span(pack, at + PackPoint::PO_BOX, at + PackPoint::OFFSETS),
         sub_building: offset_span(pack, rows, at, 6, 0),
         building: offset_span(pack, rows, at, 5, 0),
-        number: number_at(pack, at + 16, 2) as u16,
-        concatenation: record::byte_of(pack, at + 18) == b'Y',
+        number: number_at(pack, at + PackPoint::NUMBER, 2) as u16,
+        concatenation: record::byte_of(pack, at + PackPoint::CONCATENATION) == b'Y',
         dependent: offset_span(pack, rows, at, 3, 0),
         dependent_descriptor: offset_span(pack, rows, at, 4, 0),
         thoroughfare: offset_span(pack, rows, at, 1, 0),
@@ -68,10 +68,10 @@ pub fn spans_at(pack: &[u8], rows: &[u8], at: usize) -> Spans
         double_locality: offset_span(pack, rows, at, 0, 2),
         dependent_locality: offset_span(pack, rows, at, 0, 1),
         town: offset_span(pack, rows, at, 0, 0),
-        outward: field_span(pack, at, at + 4),
+        outward: field_span(pack, at, at + PackPoint::INWARD),
         inward: Span {
             first: false,
-            at: at + 4,
+            at: at + PackPoint::INWARD,
             len: 3,
         },
     }

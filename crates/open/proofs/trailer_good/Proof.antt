@@ -35,14 +35,14 @@ trailer-number-requires-2 c κs = search needs
 trailer-number-requires-3 : tie.Need-trailer-number-requires-3
 trailer-number-requires-3 c κs = search needs
 
-mul-result : tie.Need-mul-result
-mul-result c = search needs
+mul-end : tie.Need-mul-end
+mul-end c = search needs
 
-add-result : tie.Need-add-result
-add-result c = search needs
+add-end : tie.Need-add-end
+add-end c = search needs
 
-add-result-2 : tie.Need-add-result-2
-add-result-2 c = search needs
+add-end-2 : tie.Need-add-end-2
+add-end-2 c = search needs
 
 returns-2 : tie.Need-returns-2
 returns-2 c =
@@ -76,7 +76,7 @@ trailer-good-spec =
     outward-fault-requires
     trailer-number-requires-2
     trailer-number-requires-3
-    mul-result
-    add-result
-    add-result-2
+    mul-end
+    add-end
+    add-end-2
     returns-2)
