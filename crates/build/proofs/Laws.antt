@@ -8,7 +8,7 @@ use native.Mathlib.Omega.{arith}
 use native.Mathlib.Nat.{zero-add, add-zero}
 use borrow.Author.Tests.{eq-eqb, ne-eqb, le-leb, lt-leb, leb-true}
 use lib.Dec.{eqb, leb}
-use lib.ListN.{length, getD, drop, length-append}
+use lib.ListN.{length, getD, drop, set, replicate, length-append, length-set, length-replicate}
 use Rattle.text.proofs.Tests.{and-left, and-right}
 use Rattle.postcode.specs.Outward.{outwardFault}
 use Rattle.refusal.specs.declared.Reason.{Reason}
@@ -17,10 +17,11 @@ use Rattle.refusal.specs.declared.Answer.{Answer}
 use Rattle.refusal.specs.declared.Answer.the-variants.{Value, Refused}
 use Rattle.files.specs.declared.check.Verdict.the-variants.{Fine, Bad}
 use Rattle.files.specs.Check.{checked}
-use Rattle.files.specs.Formats.{tableFormat, pointFormat}
+use Rattle.files.specs.Formats.{tableFormat, pointFormat, needed}
 use Rattle.files.proofs.Laws.{at-least-two, within-limit}
 use Rattle.files.proofs.Accepted.{Accepted}
-use Rattle.views.specs.Views.{wantedIn}
+use Rattle.record.specs.Parts.{recordAt}
+use Rattle.views.specs.Views.{wantedIn, wantedCount}
 use Rattle.views.specs.Views as Views
 use Rattle.rows.specs.Rows.{lastOf}
 use Rattle.address.specs.Address.{Address}
@@ -35,7 +36,7 @@ use Rattle.sound.specs.Packed.{packed, viewsAt}
 use Rattle.sound.proofs.Packed.{packed-live, packed-views, views-length}
 use Rattle.sound.proofs.Refused.{first-bad}
 use Rattle.sound.proofs.Sound.{pair-sound}
-use Rattle.marks.specs.Places.{firstRefused, markPlaces, organisationsAt, organisationCount}
+use Rattle.marks.specs.Places.{firstRefused, rowsOf, markRow, markRows, markPlaces, organisationsAt, organisationCount}
 use Rattle.marks.specs.Rows.{rowBytesAt, isMarked, bytesTo, countTo, rowsFrom}
 use Rattle.marks.specs.Placed.{Placed}
 use Rattle.emit.specs.Emit.{tableRows, packAt}
@@ -77,6 +78,72 @@ table-small table a = omega (arith, within-limit tableFormat table (a .is-whole)
 
 pub points-small : (points : List ℕ) → Accepted pointFormat points → Views.lastOf points ≤ 19_999
 points-small points a = omega (arith, within-limit pointFormat points (a .is-whole))
+
+-- marking keeps how many marks there are
+rows-keep : (rows marks : List ℕ) → length (markRows rows marks) ≡ length marks
+rows-keep [] marks = refl
+rows-keep (row ∷ rows) marks = rows-keep rows (markRow row marks) ∙ by-test (eqb row 0)
+  where
+    by-test : (t : Bool) → length (cond t marks (set marks row 1)) ≡ length marks
+    by-test true = refl
+    by-test false = length-set marks row 1
+
+places-keep : (table points places marks : List ℕ) → length (markPlaces table points places marks) ≡ length marks
+places-keep table points [] marks = refl
+places-keep table points (place ∷ places) marks =
+    places-keep table points places (markRows (rowsOf table (recordAt 168 points place)) marks)
+    ∙ rows-keep (rowsOf table (recordAt 168 points place)) marks
+
+pub marked-long : (table points code marks : List ℕ) → Marked table points code marks → length marks ≡ 20_000
+marked-long table points code marks m =
+    ap length (m .marked) ∙ (places-keep table points (wantedIn code points) (m .fresh) ∙ m .long)
+
+pub count-of : (code points : List ℕ) → wantedCount code points ≡ length (wantedIn code points)
+unfolding wantedCount
+count-of code points = refl
+
+-- a fresh array of marks, of any length
+no-mark : (k i : ℕ) → getD (replicate {A = ℕ} k 0) i 0 ≡ 0
+no-mark zero i = refl
+no-mark (suc k) zero = refl
+no-mark (suc k) (suc i) = no-mark k i
+
+pub fresh-long : (k : ℕ) (table : List ℕ) → Accepted tableFormat table → 20_000 ≤ k
+    → lastOf table ≤ length (replicate {A = ℕ} k 0)
+fresh-long k table a h = rw (length-replicate {A = ℕ} k 0) (omega (arith, table-small table a))
+
+pub fresh-marked : (k : ℕ) (table points code marks : List ℕ) → k ≡ 20_000 → Judged table points code
+    → firstRefused table points (wantedIn code points) ≡ Fine
+    → marks ≡ markPlaces table points (wantedIn code points) (replicate {A = ℕ} k 0)
+    → Marked table points code marks
+fresh-marked k table points code marks e j fine is =
+    record {
+      judged = j;
+      none-refused = fine;
+      fresh = replicate {A = ℕ} k 0;
+      no-marks = no-mark k;
+      long = length-replicate {A = ℕ} k 0 ∙ e;
+      marked = is;
+    }
+
+-- no more rows than records, and no more organisations than views
+count-within : (marks : List ℕ) (n : ℕ) → countTo marks n ≤ n
+count-within marks zero = omega arith
+count-within marks (suc n) = by-test (isMarked marks (suc n)) (count-within marks n)
+  where
+    by-test : (t : Bool) → countTo marks n ≤ n → countTo marks n + cond t 1 0 ≤ suc n
+    by-test true h = omega (arith, h)
+    by-test false h = omega (arith, h)
+
+organisations-within : (points places : List ℕ) → organisationCount points places ≤ length places
+organisations-within points [] = omega arith
+organisations-within points (place ∷ places) =
+    by-test (eqb (needed (recordAt 168 points place)) 0) (organisations-within points places)
+  where
+    by-test : (t : Bool) → organisationCount points places ≤ length places
+        → cond t (organisationCount points places) (suc (organisationCount points places)) ≤ suc (length places)
+    by-test true h = omega (arith, h)
+    by-test false h = omega (arith, h)
 
 -- a builder that has placed its rows
 module _ (table points code marks starts : List ℕ) (m : Marked table points code marks)
@@ -168,6 +235,17 @@ module _ (table points code marks starts : List ℕ) (m : Marked table points co
   small = omega (arith, ap (λ (v : List Address). length (packOf (tableLookup table) v code)) live, sound .small)
 
   -- so many rows
+  pub rows-small : countTo marks (lastOf table - 1) + organisationCount points (wantedIn code points) < 4_294_967_295
+  rows-small =
+      omega (
+        arith,
+        counted,
+        small,
+        table-small table (m .judged .of-table),
+        count-within marks (lastOf table - 1),
+        organisations-within points (wantedIn code points),
+      )
+
   pub rows-counted : countTo marks (lastOf table - 1) ≡ countTo starts (lastOf table - 1)
   rows-counted = sym (count-same table marks starts p (lastOf table - 1)
       (omega (arith, at-least-two tableFormat table (m .judged .of-table .is-whole))))

@@ -19,7 +19,13 @@ const TRAILER: usize = 21;
 const RECORDS: usize = 20000;
 
 // The pack, where it fits: how many bytes it has is known before the first is written.
-fn write_if_room(table: &[u8], points: &[u8], code: &[u8], starts: &mut [u32], out: &mut [u8]) -> Answer
+fn write_if_room(
+    table: &[u8],
+    points: &[u8],
+    code: &[u8],
+    starts: &mut [u32],
+    out: &mut [u8],
+) -> Answer
     requires { ⌜ Marked (now table) (now points) (now code) (now starts) ⌝ }
     ensures { λ r. ⌜ (r ≡ roomAnswer (packOf (tableLookup (now (table .entry))) (liveIn (now (table .entry)) (now (points .entry)) (now (code .entry))) (now (code .entry))) (now (out .entry))) × (now (out .exit) ≡ roomMemory (packOf (tableLookup (now (table .entry))) (liveIn (now (table .entry)) (now (points .entry)) (now (code .entry))) (now (code .entry))) (now (out .entry))) ⌝ }
 {
