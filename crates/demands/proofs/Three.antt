@@ -247,6 +247,10 @@ module _ (table points code out : List ℕ) where
   pub built-then : (n : ℕ) → buildAnswer table points code out ≡ Value n → Buildable table points code out
   built-then n e = cut-value n e .buildable
 
+  -- a pack is no longer than the buffer that it was built in
+  pub built-long : (n : ℕ) → buildAnswer table points code out ≡ Value n → n ≤ length out
+  built-long n e = let c = cut-value n e in omega (arith, c .long, c .buildable .room)
+
   pub then-built : Buildable table points code out → buildAnswer table points code out ≡ Value (length pack)
   unfolding buildAnswer codeCut cutAnswer
   then-built b =

@@ -5,6 +5,9 @@ ghost use Rattle.refusal.specs.Packed.{packed};
 ghost use Rattle.files.specs.Check.{checked};
 ghost use Rattle.files.specs.Formats.{tableFormat, pointFormat};
 ghost use Rattle.pair.specs.Pair.{viewAnswer, viewMemory, codeAnswer, codeMemory};
+ghost use Rattle.layout.specs.Opening.{opened};
+ghost use Rattle.layout.specs.Points.{packAnswer, packMemory};
+ghost use Rattle.build.specs.Build.{buildAnswer, buildMemory};
 ghost use Rattle.listing.specs.Listing.{viewsAnswer, letterAnswer, liveAnswer};
 
 // How many records a table file has.
@@ -67,4 +70,28 @@ pub extern "C" fn ttw_code_label<'a>(
     ensures { λ r. ⌜ (r ≡ packed (codeAnswer (now (table .entry)) (now (points .entry)) (now (code .entry)) k (now (out .entry)))) × (now (out .exit) ≡ codeMemory (now (table .entry)) (now (points .entry)) (now (code .entry)) k (now (out .entry))) ⌝ }
 {
     refusal::packed_answer(pair::label_in_code(table, points, code, k as usize, out)) as u64
+}
+
+// The pack of an outward code, cut from both files into `out`.
+#[no_mangle]
+pub extern "C" fn ttw_build(table: &[u8], points: &[u8], code: &[u8], out: &mut [u8]) -> u64
+    ensures { λ r. ⌜ (r ≡ packed (buildAnswer (now (table .entry)) (now (points .entry)) (now (code .entry)) (now (out .entry)))) × (now (out .exit) ≡ buildMemory (now (table .entry)) (now (points .entry)) (now (code .entry)) (now (out .entry))) ⌝ }
+{
+    refusal::packed_answer(build::build_pack(table, points, code, out)) as u64
+}
+
+// How many points a pack has.
+#[no_mangle]
+pub extern "C" fn ttw_pack(pack: &[u8]) -> u64
+    ensures { λ r. ⌜ r ≡ packed (opened (now (pack .entry))) ⌝ }
+{
+    refusal::packed_answer(open::open_pack(pack)) as u64
+}
+
+// The label of point k of a pack, printed into `out`.
+#[no_mangle]
+pub extern "C" fn ttw_pack_label<'a>(pack: &'a [u8], k: u64, out: &mut [u8]) -> u64
+    ensures { λ r. ⌜ (r ≡ packed (packAnswer (now (pack .entry)) k (now (out .entry)))) × (now (out .exit) ≡ packMemory (now (pack .entry)) k (now (out .entry))) ⌝ }
+{
+    refusal::packed_answer(pack::label_of_point(pack, k as usize, out)) as u64
 }
