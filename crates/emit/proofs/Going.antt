@@ -50,7 +50,8 @@ module _ {whole o x : List ℕ} {s i : ℕ} where
   going-end g = put-as (sym (append-nil (g .done)) ∙ sym (g .left)) (g .put)
 
 -- three pieces, one behind the other
-module _ {p o x : List ℕ} {at i : ℕ} (q r : List ℕ) (h : at + length (p ++ (q ++ r)) ≤ length o) (v : Put p o at i x) where
+module _ {p o x : List ℕ} {at i : ℕ} (q r : List ℕ) (h : at + length (p ++ (q ++ r)) ≤ length o)
+    (v : Put p o at i x) where
   pub room-second : i + length q ≤ length x
   room-second = room-first q r x i (room-after (q ++ r) v h)
 

@@ -2,7 +2,6 @@
 -- Assumes nothing.
 use Prim.Native.Nat.{ℕ, suc, _+_, _-_, _≤_, _<_}
 use mathlib.Core.Path.{_≡_, ap, _∙_}
-use mathlib.Core.Bool.{cond}
 use mathlib.Core.List.{List, [], _++_}
 use native.Mathlib.Omega.{arith}
 use native.Mathlib.Numerals.{add-one}
@@ -13,20 +12,18 @@ use Rattle.files.specs.Formats.{needed}
 use Rattle.views.specs.Views.{wantedIn, nextWanted, placesFrom, lastOf}
 use Rattle.views.proofs.Laws.{places-start, places-step, places-end}
 use Rattle.rows.specs.Rows as table-rows
-use Rattle.marks.specs.Rows.{isMarked, rowBytesAt, rowsFrom}
+use Rattle.marks.specs.Rows.{rowBytesAt, rowsFrom}
 use Rattle.marks.specs.Places.{organisationAt, organisationsAt}
-use Rattle.emit.specs.Emit.{followerTexts, pointOf, pointAt, pointsAt}
+use Rattle.emit.specs.Emit.{rowBytes, usedAt, followerTexts, pointOf, pointAt, pointsAt}
 
 -- the row of a record, where it has a start
-abbrev pub usedAt : List ℕ → List ℕ → ℕ → List ℕ
-usedAt table starts i = cond (isMarked starts i) (rowBytesAt table i) []
-
 pub used-none : (table starts : List ℕ) (i : ℕ) → getD starts i 0 ≡ 0 → [] ≡ usedAt table starts i
 used-none table starts i e = simp (eq-eqb (getD starts i 0) 0 e)
 
-pub used-some : (table starts : List ℕ) (i : ℕ) → (getD starts i 0 ≡ 0 → ⊥)
-    → rowBytesAt table i ≡ usedAt table starts i
-used-some table starts i n = simp (ne-eqb (getD starts i 0) 0 n)
+pub used-some : (table starts rec : List ℕ) (i : ℕ) → (getD starts i 0 ≡ 0 → ⊥) → rec ≡ recordAt 169 table i
+    → rowBytes rec ≡ usedAt table starts i
+unfolding rowBytesAt
+used-some table starts rec i n e = ap rowBytes e ∙ simp (ne-eqb (getD starts i 0) 0 n)
 
 -- the rows from record i on
 abbrev pub rowsLeft : List ℕ → List ℕ → ℕ → List ℕ

@@ -1,6 +1,6 @@
 -- The texts of a row, by the record's type.
 -- Assumes nothing.
-use Prim.Native.Nat.{ℕ, _+_, _-_}
+use Prim.Native.Nat.{ℕ, _+_}
 use mathlib.Core.Path.{_≡_, refl, sym, ap, _∙_}
 use mathlib.Core.Bool.{Bool, true, false, cond}
 use mathlib.Core.List.{List, [], _∷_, _++_, append-nil}
@@ -9,10 +9,9 @@ use borrow.Author.Tests.{eq-eqb, ne-eqb}
 use lib.Dec.{eqb}
 use lib.ListN.{length, getD, length-append}
 use Rattle.text.specs.Text.{textIn}
-use Rattle.record.specs.Parts.{recordAt}
 use Rattle.source.specs.Rows.{textsOf}
 use Rattle.layout.specs.Layout.{textsBytes}
-use Rattle.marks.specs.Rows.{textEnd, rowBytesAt}
+use Rattle.marks.specs.Rows.{textEnd}
 use Rattle.emit.specs.Emit.{sized, localityTexts, followerTexts}
 
 -- the last text of a row
@@ -22,7 +21,8 @@ texts-last t = ap (length t ∷_) (sym (append-nil t))
 pub texts-of-locality : (rec : List ℕ) → getD rec 0 0 ≡ 49 → textsOf rec ≡ localityTexts rec
 texts-of-locality rec e = simp (eq-eqb (getD rec 0 0) 49 e)
 
-pub texts-of-other : (rec : List ℕ) → (getD rec 0 0 ≡ 49 → ⊥) → textsOf rec ≡ textIn rec 24 (textEnd (getD rec 0 0)) ∷ []
+pub texts-of-other : (rec : List ℕ) → (getD rec 0 0 ≡ 49 → ⊥)
+    → textsOf rec ≡ textIn rec 24 (textEnd (getD rec 0 0)) ∷ []
 texts-of-other rec n =
     simp (ne-eqb (getD rec 0 0) 49 n)
     (by-type (eqb (getD rec 0 0) 50) (eqb (getD rec 0 0) 51) (eqb (getD rec 0 0) 52))
@@ -46,14 +46,6 @@ other-bytes rec kind end e n t =
     texts-last (textIn rec 24 end)
     ∙ (ap (λ (z : ℕ). textsBytes (textIn rec 24 z ∷ [])) (t ∙ ap textEnd e)
     ∙ ap textsBytes (sym (texts-of-other rec (λ (k : getD rec 0 0 ≡ 49). n (e ∙ k)))))
-
--- the row of a record, from its type and its texts
-pub row-is : (table rec : List ℕ) (i kind byte : ℕ) → rec ≡ recordAt 169 table i → kind ≡ getD rec 0 0 → byte ≡ kind - 48
-    → byte ∷ textsBytes (textsOf rec) ≡ rowBytesAt table i
-unfolding rowBytesAt
-row-is table rec i kind byte r k b =
-    ap (λ (z : ℕ). z ∷ textsBytes (textsOf rec)) (b ∙ ap (λ (z : ℕ). z - 48) k)
-    ∙ ap (λ (z : List ℕ). (getD z 0 0 - 48) ∷ textsBytes (textsOf z)) r
 
 -- how long the row of an organisation is
 pub follower-length : (rec : List ℕ)

@@ -11,22 +11,30 @@ use Rattle.record.specs.Parts.{recordAt}
 use Rattle.files.specs.Formats.{needed}
 use Rattle.views.specs.Views.{wantedIn}
 use Rattle.rows.specs.Rows.{lastOf}
+use Rattle.source.specs.Rows.{textsOf}
 use Rattle.keys.specs.Keys.{says, rowFor}
 use Rattle.layout.specs.Numbers.{bytesOf, absent}
 use Rattle.layout.specs.Layout.{newest, textsBytes, trailerBytes}
 use Rattle.marks.specs.Places.{organisationAt, organisationsAt, organisationCount}
-use Rattle.marks.specs.Rows.{countTo, rowsFrom}
+use Rattle.marks.specs.Rows.{isMarked, rowBytesAt, countTo, rowsFrom}
 
 -- "each a length byte and its bytes"
 abbrev pub sized : List ℕ → List ℕ
 sized t = length t ∷ t
 
--- the texts of a locality, and the row of an organisation from its record
+-- two texts, of which the second begins where the first ends
+abbrev pub twoTexts : List ℕ → (start middle end : ℕ) → List (List ℕ)
+twoTexts rec start middle end = textIn rec start middle ∷ textIn rec middle end ∷ []
+
+-- the row of a table record; the texts of a locality; the row of an organisation
+abbrev pub rowBytes : List ℕ → List ℕ
+rowBytes rec = (getD rec 0 0 - 48) ∷ textsBytes (textsOf rec)
+
 abbrev pub localityTexts : List ℕ → List (List ℕ)
-localityTexts rec = textIn rec 69 99 ∷ textIn rec 99 134 ∷ textIn rec 134 169 ∷ []
+localityTexts rec = textIn rec 69 99 ∷ twoTexts rec 99 134 169
 
 abbrev pub followerTexts : List ℕ → List ℕ
-followerTexts rec = 6 ∷ textsBytes (textIn rec 42 102 ∷ textIn rec 102 162 ∷ [])
+followerTexts rec = 6 ∷ textsBytes (twoTexts rec 42 102 162)
 
 -- the offset of the row that a key refers to; a record that has a row has its start, plus 1
 abbrev pub keyOffset : List ℕ → List ℕ → List ℕ → ℕ → ℕ → ℕ
@@ -50,12 +58,13 @@ keyOffsets table starts rec =
 abbrev pub organisationOffset : List ℕ → ℕ → ℕ
 organisationOffset rec at = cond (eqb (needed rec) 0) absent at
 
--- "postcode 7, postcode type 1, address key 4, organisation key 4, building number 2, concatenation 1, PO box 6"
+-- "address key 4, organisation key 4, building number 2, concatenation 1, PO box 6"
 abbrev pub numbersIn : List ℕ → List ℕ
 numbersIn rec =
     bytesOf 4 (value (part rec 24 32))
     ++ (bytesOf 4 (value (part rec 32 40)) ++ (bytesOf 2 (value (part rec 82 86)) ++ part rec 106 113))
 
+-- "postcode 7, postcode type 1", and these
 abbrev pub plainIn : List ℕ → List ℕ
 plainIn rec = part rec 14 21 ++ (part rec 23 24 ++ numbersIn rec)
 
@@ -74,6 +83,10 @@ pointsAt table points starts at [] = []
 pointsAt table points starts at (place ∷ places) =
     pointAt table points starts at place
     ++ pointsAt table points starts (at + length (organisationAt points place)) places
+
+-- the row of a record that has a start
+abbrev pub usedAt : List ℕ → List ℕ → ℕ → List ℕ
+usedAt table starts i = cond (isMarked starts i) (rowBytesAt table i) []
 
 -- the rows of the table that have a start
 abbrev pub tableRows : List ℕ → List ℕ → List ℕ

@@ -1,6 +1,6 @@
 // The rows of the organisations.
 use crate::pieces::byte_at;
-use crate::pieces::text_at;
+use crate::pieces::two_texts_at;
 use record::Organisation;
 ghost use Prim.Native.Nat.{_+_, _<_, _≤_};
 ghost use lib.ListN.{length};
@@ -15,12 +15,12 @@ fn follower_at(rec: &[u8], at: usize, out: &mut [u8]) -> usize
     ensures { λ r. ⌜ Put (followerTexts (now (rec .entry))) (now (out .entry)) at r (now (out .exit)) ⌝ }
 {
     let i = byte_at(6, at, out);
-    let j = text_at(rec, Organisation::NAME, Organisation::DEPARTMENT, i, out);
-    text_at(
+    two_texts_at(
         rec,
+        Organisation::NAME,
         Organisation::DEPARTMENT,
         Organisation::DEPARTMENT_END,
-        j,
+        i,
         out,
     )
 }

@@ -4,8 +4,9 @@ ghost use Prim.Native.Nat.{_+_, _-_, _≤_};
 ghost use lib.ListN.{length};
 ghost use Rattle.text.specs.Text.{part, textIn};
 ghost use Rattle.label.specs.Put.{Wrote, Put};
+ghost use Rattle.layout.specs.Layout.{textsBytes};
 ghost use Rattle.layout.specs.Numbers.{bytesOf};
-ghost use Rattle.emit.specs.Emit.{sized};
+ghost use Rattle.emit.specs.Emit.{sized, twoTexts};
 
 // Bytes at the front of what is lent.
 fn put_bytes(t: &[u8], out: &mut [u8]) -> usize
@@ -78,4 +79,20 @@ pub fn text_at(rec: &[u8], start: usize, end: usize, at: usize, out: &mut [u8]) 
 {
     let t = text::read_text(rec, start, end);
     sized_at(t, at, out)
+}
+
+// Two texts, of which the second begins where the first ends.
+pub fn two_texts_at(
+    rec: &[u8],
+    start: usize,
+    middle: usize,
+    end: usize,
+    at: usize,
+    out: &mut [u8],
+) -> usize
+    requires { ⌜ ((middle - start ≤ 255) × (end - middle ≤ 255)) × (at + length (textsBytes (twoTexts (now rec) start middle end)) ≤ length (now out)) ⌝ }
+    ensures { λ r. ⌜ Put (textsBytes (twoTexts (now (rec .entry)) start middle end)) (now (out .entry)) at r (now (out .exit)) ⌝ }
+{
+    let i = text_at(rec, start, middle, at, out);
+    text_at(rec, middle, end, i, out)
 }

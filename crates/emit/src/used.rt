@@ -1,19 +1,17 @@
 // The rows of the table file that have a start.
 use crate::pieces::byte_at;
 use crate::pieces::text_at;
+use crate::pieces::two_texts_at;
 use crate::starts::above;
 use crate::starts::start_of;
 use record::Locality;
 use record::Table;
-ghost use mathlib.Core.Bool.{cond};
-ghost use mathlib.Core.List.{[]};
 ghost use Prim.Native.Nat.{_+_, _≤_};
 ghost use lib.ListN.{length};
 ghost use Rattle.source.specs.Rows.{textsOf};
 ghost use Rattle.label.specs.Put.{Put};
 ghost use Rattle.layout.specs.Layout.{textsBytes};
-ghost use Rattle.marks.specs.Rows.{isMarked, rowBytesAt};
-ghost use Rattle.emit.specs.Emit.{localityTexts, tableRows};
+ghost use Rattle.emit.specs.Emit.{rowBytes, localityTexts, usedAt, tableRows};
 
 // The three texts of a locality.
 fn locality_at(rec: &[u8], at: usize, out: &mut [u8]) -> usize
@@ -21,8 +19,14 @@ fn locality_at(rec: &[u8], at: usize, out: &mut [u8]) -> usize
     ensures { λ r. ⌜ Put (textsBytes (localityTexts (now (rec .entry)))) (now (out .entry)) at r (now (out .exit)) ⌝ }
 {
     let i = text_at(rec, Locality::TOWN, Locality::DEPENDENT, at, out);
-    let j = text_at(rec, Locality::DEPENDENT, Locality::DOUBLE, i, out);
-    text_at(rec, Locality::DOUBLE, Locality::END, j, out)
+    two_texts_at(
+        rec,
+        Locality::DEPENDENT,
+        Locality::DOUBLE,
+        Locality::END,
+        i,
+        out,
+    )
 }
 
 // The texts of a record, by its type.
@@ -37,26 +41,25 @@ fn texts_at(rec: &[u8], at: usize, out: &mut [u8]) -> usize
     text_at(rec, Table::TEXT, marks::text_end(kind), at, out)
 }
 
-// The row of record `i`.
-fn row_at(table: &[u8], i: usize, at: usize, out: &mut [u8]) -> usize
-    requires { ⌜ at + length (rowBytesAt (now table) i) ≤ length (now out) ⌝ }
-    ensures { λ r. ⌜ Put (rowBytesAt (now (table .entry)) i) (now (out .entry)) at r (now (out .exit)) ⌝ }
+// The row of a record.
+fn row_at(rec: &[u8], at: usize, out: &mut [u8]) -> usize
+    requires { ⌜ at + length (rowBytes (now rec)) ≤ length (now out) ⌝ }
+    ensures { λ r. ⌜ Put (rowBytes (now (rec .entry))) (now (out .entry)) at r (now (out .exit)) ⌝ }
 {
-    let rec = record::table_record(table, i);
     let kind = record::byte_of(rec, Table::TYPE);
-    let j = byte_at(above(kind as usize, 48) as u8, at, out);
-    texts_at(rec, j, out)
+    let i = byte_at(above(kind as usize, 48) as u8, at, out);
+    texts_at(rec, i, out)
 }
 
-// The same where the record has a start.
+// The row of record `i`, where it has a start.
 fn used_at(table: &[u8], starts: &[u32], i: usize, at: usize, out: &mut [u8]) -> usize
-    requires { ⌜ at + length (cond (isMarked (now starts) i) (rowBytesAt (now table) i) []) ≤ length (now out) ⌝ }
-    ensures { λ r. ⌜ Put (cond (isMarked (now (starts .entry)) i) (rowBytesAt (now (table .entry)) i) []) (now (out .entry)) at r (now (out .exit)) ⌝ }
+    requires { ⌜ at + length (usedAt (now table) (now starts) i) ≤ length (now out) ⌝ }
+    ensures { λ r. ⌜ Put (usedAt (now (table .entry)) (now (starts .entry)) i) (now (out .entry)) at r (now (out .exit)) ⌝ }
 {
     if start_of(starts, i) == 0 {
         return at;
     }
-    row_at(table, i, at, out)
+    row_at(record::table_record(table, i), at, out)
 }
 
 // All rows of the table file that have a start.

@@ -16,12 +16,12 @@ use Rattle.address.specs.Address.{Lookup, Address, Elements}
 use Rattle.address.specs.Resolve.{Resolved, elements, refused, forbidden, missing, elementsOf, resolve}
 use Rattle.source.specs.Rows.{tableLookup}
 use Rattle.source.specs.Addresses.{addressAt}
-use Rattle.label.specs.Label.{labelOf, roomAnswer, roomMemory}
+use Rattle.label.specs.Label.{labelOf, roomAnswer, roomMemory, resolvedAnswer, resolvedMemory}
 use Rattle.label.specs.Widths.{Fits}
 use Rattle.label.proofs.Bounds.{at-most-499}
 use Rattle.meaning.proofs.Fits as meaning
 use Rattle.meaning.proofs.Meant.{address-fits}
-use Rattle.pair.specs.Pair.{resolvedAnswer, resolvedMemory, resolvedAt, placeAnswer, placeMemory, ViewPlace}
+use Rattle.pair.specs.Pair.{resolvedAt, placeAnswer, placeMemory, ViewPlace}
 use Rattle.report.specs.Report.{refusedLine, resolvedText, viewText}
 
 -- what an answer and a buffer say of a text: it stands in front of the buffer, or it is the refusal's line

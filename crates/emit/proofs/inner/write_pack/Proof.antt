@@ -77,7 +77,8 @@ trailer-at-requires c κs =
     let code = a .code .now in
     let g = after-points (s .pre) (c₁ .rows-at .ensures) (c₂ .organisations-at .ensures) (c₃ .points-at .ensures) in
     let left = going-left g (pack-room (s .pre)) in
-    let room = going-left (after-organisations (s .pre) (c₁ .rows-at .ensures) (c₂ .organisations-at .ensures)) (pack-room (s .pre)) in
+    let room =
+    going-left (after-organisations (s .pre) (c₁ .rows-at .ensures) (c₂ .organisations-at .ensures)) (pack-room (s .pre)) in
     (omega (arith, room, s .pre .of-points, count-bound code points, s .good), left)
 
 same-length : tie.Need-same-length

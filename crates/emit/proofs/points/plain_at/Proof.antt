@@ -39,7 +39,8 @@ returns c =
     let c₁ = c₂ .before .before .before .before in
     let s = c₁ .before .before .before .before in
     let rec = s .args .rec .now in
-    put-three (part rec 23 24) (numbersIn rec) (s .pre) (c₁ .part-at .ensures) (c₂ .part-at2 .ensures) (c₃ .numbers-at .ensures)
+    put-three (part rec 23 24) (numbersIn rec) (s .pre) (c₁ .part-at .ensures) (c₂ .part-at2 .ensures)
+    (c₃ .numbers-at .ensures)
 
 pub plain-at-spec : {M : Type 1} → statement M
 plain-at-spec =

@@ -36,7 +36,8 @@ returns c =
     let c₂ = c₃ .before .before .before .before in
     let c₁ = c₂ .before .before .before .before in
     let s = c₁ .before .before .before .before in
-    put-three (bytesOf 4 (s .args .bytes)) (newest ∷ []) (s .pre) (c₁ .bytes-at .ensures) (c₂ .word-at .ensures) (c₃ .byte-at .ensures)
+    put-three (bytesOf 4 (s .args .bytes)) (newest ∷ []) (s .pre) (c₁ .bytes-at .ensures) (c₂ .word-at .ensures)
+    (c₃ .byte-at .ensures)
 
 pub trailer-end-at-spec : {M : Type 1} → statement M
 trailer-end-at-spec =

@@ -5,8 +5,8 @@ use Prim.Native.Nat.{_+_, _-_}
 use mathlib.Core.Path.{_≡_, refl, _∙_}
 use native.Mathlib.Omega.{arith}
 use lib.ListN.{length}
-use Rattle.emit.specs.Emit.{tableRows}
-use Rattle.emit.proofs.Places.{usedAt, rowsLeft, rows-step, rows-end}
+use Rattle.emit.specs.Emit.{usedAt, tableRows}
+use Rattle.emit.proofs.Places.{rowsLeft, rows-step, rows-end}
 use Rattle.emit.proofs.Going.{Going, going-start, going-as, going-room, going-step, going-end}
 use Rattle.emit.proofs.used.rows_at.Statement.{statement}
 use Rattle.emit.proofs.used.rows_at.Tie as tie
@@ -34,7 +34,8 @@ used-at-requires c κs =
     let table = s .args .table .now in
     let starts = s .args .starts .now in
     let step = rows-step table starts (l .loop .i) (omega (arith, f .last-of .ensures)) in
-    going-room (usedAt table starts (l .loop .i)) (rowsLeft table starts (l .loop .i + 1)) (going-as step (l .loop .inv .1)) (s .pre)
+    going-room (usedAt table starts (l .loop .i)) (rowsLeft table starts (l .loop .i + 1))
+    (going-as step (l .loop .inv .1)) (s .pre)
 
 add-i : tie.Need-add-i Inv-loop μ-loop
 add-i c = search needs
@@ -64,7 +65,8 @@ returns c =
     let f = l .before in
     let a = f .before .before .before .before .args in
     going-end
-    (going-as (rows-end (a .table .now) (a .starts .now) (l .loop .i) (omega (arith, f .last-of .ensures))) (l .loop .inv .1))
+    (going-as (rows-end (a .table .now) (a .starts .now) (l .loop .i) (omega (arith, f .last-of .ensures)))
+    (l .loop .inv .1))
 
 pub rows-at-spec : {M : Type 1} → statement M
 rows-at-spec =

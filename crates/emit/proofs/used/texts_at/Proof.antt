@@ -26,7 +26,8 @@ returns c =
     let c₂ = c₁ .before .before in
     let c₃ = c₂ .before in
     let s = c₃ .before .before .before in
-    put-as (locality-bytes (s .args .rec .now) (c₃ .byte-of .result) (c₃ .byte-of .ensures) (c₂ .if1 .taken)) (c₁ .locality-at .ensures)
+    put-as (locality-bytes (s .args .rec .now) (c₃ .byte-of .result) (c₃ .byte-of .ensures) (c₂ .if1 .taken))
+    (c₁ .locality-at .ensures)
 
 text-end-requires : tie.Need-text-end-requires
 text-end-requires c κs = search needs
@@ -38,7 +39,9 @@ text-at-requires c κs =
     let c₃ = c₂ .before in
     let s = c₃ .before .before .before in
     let end = c₁ .text-end in
-    let same = other-bytes (s .args .rec .now) (c₃ .byte-of .result) (end .result) (c₃ .byte-of .ensures) (c₂ .if1 .left) (end .ensures .0) in
+    let kind = c₃ .byte-of in
+    let same =
+    other-bytes (s .args .rec .now) (kind .result) (end .result) (kind .ensures) (c₂ .if1 .left) (end .ensures .0) in
     (omega (arith, end .ensures .1 .1), room-as (s .args .out .now) (s .args .at) same (s .pre))
 
 same-length-2 : tie.Need-same-length-2
@@ -52,7 +55,9 @@ returns-2 c =
     let c₄ = c₃ .before in
     let s = c₄ .before .before .before in
     let end = c₂ .text-end in
-    put-as (other-bytes (s .args .rec .now) (c₄ .byte-of .result) (end .result) (c₄ .byte-of .ensures) (c₃ .if1 .left) (end .ensures .0)) (c₁ .text-at .ensures)
+    let kind = c₄ .byte-of in
+    put-as (other-bytes (s .args .rec .now) (kind .result) (end .result) (kind .ensures) (c₃ .if1 .left) (end .ensures .0))
+    (c₁ .text-at .ensures)
 
 pub texts-at-spec : {M : Type 1} → statement M
 texts-at-spec =
