@@ -5,7 +5,7 @@
 use paper::make::{exact_pair, Pair, Rng};
 use std::hint::black_box;
 use std::time::{Duration, Instant};
-use trials::calls;
+use ttw::calls;
 
 /// Records of each file.
 const SIZES: [usize; 3] = [1_000, 5_000, 20_000];
