@@ -1,0 +1,52 @@
+//! What the calls are asked about.
+
+use paper::make::{exact_pair, full_draft, PackDraft, Pair, Rng};
+use ttw::ask;
+
+/// The outward code that most views of the files have.
+pub const CODE: &[u8] = b"AB1 ";
+
+/// A pair of files, and the pack of its commonest code.
+pub struct Input {
+    pub pair: Pair,
+    pub pack: Vec<u8>,
+    /// The last view, and the last point of the pack.
+    pub last_view: u64,
+    pub last_point: u64,
+}
+
+impl Input {
+    /// Files of so many records each.
+    pub fn new(records: usize) -> Input {
+        let pair = exact_pair(&mut Rng::new(8), records, records);
+        let pack = ask::build(&pair.table, &pair.points, CODE, 0).expect("a pack");
+        let last_point = ask::pack(&pack).expect("it opens");
+        Input {
+            last_view: pair.views.len() as u64,
+            last_point,
+            pair,
+            pack,
+        }
+    }
+}
+
+/// A pack of that many localities and points, all of whose offsets point at the
+/// last rows: the hardest to open for a program that walks from the start.
+pub fn far_pack(count: usize) -> Vec<u8> {
+    let PackDraft {
+        rows,
+        points,
+        outward,
+    } = full_draft();
+    let locality = &rows[1];
+    let others = [2, 4, 6, 7, 8].map(|row| rows[row].clone());
+    let mut point = points[0].clone();
+    point.rows = [0, 1, 2, 1, 2, 3, 4, 5].map(|row| Some(count - 1 + row));
+    let mut draft = PackDraft {
+        rows: vec![locality.clone(); count],
+        points: vec![point; count],
+        outward,
+    };
+    draft.rows.extend(others);
+    draft.bytes()
+}
