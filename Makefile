@@ -41,4 +41,5 @@ fuzz: library
 	@cd host && $(CARGO) run --release --package ttw-fuzz -- --seconds $(SECONDS) --seed $(SEED)
 
 annotate: library
-	@cd host && $(CARGO) run --package ttw-annotate
+	@rt staticlib leaves >/dev/null
+	@cd host && $(CARGO) run --package ttw-trials --bin annotate

@@ -1,6 +1,6 @@
 //! What the calls are asked about.
 
-use paper::make::{exact_pair, full_draft, PackDraft, Pair, Rng};
+use paper::make::{exact_pair, full_draft, PackDraft, Pair, Rng, View};
 use ttw::ask;
 
 /// The outward code that most views of the files have.
@@ -49,4 +49,19 @@ pub fn far_pack(count: usize) -> Vec<u8> {
     };
     draft.rows.extend(others);
     draft.bytes()
+}
+
+/// A pair of 20,000 records whose views have 2,000 codes by turns: A9 to A99,
+/// B9 and so on.
+pub fn pair_of_many_codes() -> Pair {
+    let letters = b"ABCDEFGHIJKLMNOPRSTUWY";
+    let codes: Vec<String> = (0..2_000)
+        .map(|n| format!("{}{}", char::from(letters[n / 91]), 9 + n % 91))
+        .collect();
+    let Pair { rows, views, .. } = exact_pair(&mut Rng::new(8), 20_000, 20_000);
+    let coded = |(n, view): (usize, View)| View {
+        outward: codes[n % codes.len()].clone(),
+        ..view
+    };
+    Pair::new(rows, views.into_iter().enumerate().map(coded).collect())
 }

@@ -7,7 +7,8 @@ mod input;
 mod sqlite;
 
 use asked::{Call, Question};
-use input::{far_pack, Input};
+use input::{far_pack, pair_of_many_codes, Input};
+use std::collections::BTreeSet;
 use std::hint::black_box;
 use std::time::Instant;
 
@@ -116,6 +117,32 @@ fn print_far_pack() {
     );
 }
 
+/// What `ttw pack --all` asks of the library: which codes are live, and the
+/// pack of each.
+fn print_every_code() {
+    let pair = pair_of_many_codes();
+    let codes: BTreeSet<String> = pair
+        .views
+        .iter()
+        .map(|view| format!("{:<4}", view.outward))
+        .collect();
+    let mut bytes = 0;
+    let seconds = timed(|| {
+        let live = codes
+            .iter()
+            .filter(|code| ttw::ask::live(&pair.points, code.as_bytes()) != Ok(0));
+        for code in live {
+            let pack = ttw::ask::build(&pair.table, &pair.points, code.as_bytes(), 1 << 16);
+            bytes += pack.expect("a pack").len();
+        }
+        bytes as u64
+    });
+    println!(
+        "\nevery code of 20,000 records of each file, on one core: {} codes, {bytes} bytes, {seconds:.1} s",
+        codes.len()
+    );
+}
+
 fn print_sizes(inputs: &[Input]) {
     println!("\nbytes of the pack, and of the same rows in SQLite:");
     for (records, input) in SIZES.iter().zip(inputs) {
@@ -145,5 +172,6 @@ fn main() {
          {MOST_PASSES:.1}. A figure over its bar is marked !."
     );
     print_far_pack();
+    print_every_code();
     print_sizes(&inputs);
 }

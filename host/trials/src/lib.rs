@@ -1,5 +1,6 @@
 //! Trials of the proved libraries against `ttw-paper`. The exported calls come from `ttw`, the leaves from here.
 
 pub mod agree;
+pub mod annotated;
 pub mod leaves;
 pub mod samples;

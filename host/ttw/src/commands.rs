@@ -6,11 +6,11 @@ use crate::order::in_order;
 use crate::pair::Pair;
 use crate::progress::Progress;
 use crate::stop::{tell, Ended, Outcome, Stop};
-use crate::words::words;
 use std::io::{self, BufWriter, StdoutLock, Write};
 use std::path::Path;
 use std::slice;
 use ttw::ask::{self, Refusal};
+use ttw::words::words;
 
 /// Room that most packs fit into.
 const LIKELY_PACK: usize = 1 << 16;

@@ -9,7 +9,6 @@ mod order;
 mod pair;
 mod progress;
 mod stop;
-mod words;
 
 use arguments::Arguments;
 use std::ffi::OsString;

@@ -2,10 +2,10 @@
 
 use crate::files::read_changes;
 use crate::stop::Stop;
-use crate::words::words;
 use std::collections::BTreeSet;
 use std::path::PathBuf;
 use ttw::ask::{self, Refusal};
+use ttw::words::words;
 
 /// Bytes of a point record, and where its outward code stands.
 const POINT_RECORD: usize = 168;

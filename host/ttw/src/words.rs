@@ -1,7 +1,7 @@
 //! Refusals in plain words. The number in brackets is the one under which
 //! docs/REFUSALS.md says what to do.
 
-use ttw::ask::Refusal;
+use crate::ask::Refusal;
 
 /// A refusal as one line. `subject` is what was asked about, as `view 3`; a
 /// refusal of a file names the file instead.

@@ -110,6 +110,11 @@ impl Run {
 }
 
 pub fn run(command: &mut Command) -> Run {
+    // Under `make test`, a `make` that is run here would take itself for a part
+    // of that one and say where it works.
+    for name in ["MAKEFLAGS", "MAKELEVEL", "MFLAGS"] {
+        command.env_remove(name);
+    }
     let Output {
         status,
         stdout,
