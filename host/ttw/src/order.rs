@@ -1,7 +1,7 @@
 //! Many questions asked on all cores, their answers taken in order.
 
 use std::num::NonZero;
-use std::thread;
+use std::thread::{self, Builder};
 
 /// How many questions a core takes at a time.
 const AT_A_TIME: usize = 4;
@@ -22,16 +22,24 @@ pub fn in_order<Q: Sync, A: Send, E>(
     Ok(())
 }
 
-/// The answers to a batch, a thread for each part of it.
+/// The answers to a batch, a thread for each part of it. Where the system gives
+/// no more threads, the part is asked here.
 fn answers<Q: Sync, A: Send>(batch: &[Q], ask: &(impl Fn(&Q) -> A + Sync)) -> Vec<A> {
     thread::scope(|scope| {
         let asked: Vec<_> = batch
             .chunks(AT_A_TIME)
-            .map(|part| scope.spawn(move || part.iter().map(ask).collect::<Vec<A>>()))
+            .map(|part| {
+                let work = move || part.iter().map(ask).collect::<Vec<A>>();
+                let thread = Builder::new().spawn_scoped(scope, work);
+                thread.map_err(|_| work())
+            })
             .collect();
         asked
             .into_iter()
-            .flat_map(|part| part.join().expect("a question does not panic"))
+            .flat_map(|part| match part {
+                Ok(thread) => thread.join().expect("a question does not panic"),
+                Err(answers) => answers,
+            })
             .collect()
     })
 }
