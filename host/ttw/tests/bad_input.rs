@@ -6,7 +6,7 @@ use paper::make::{damaged_packs, exact_pair, worked_pair, Pair, Rng, TableRow, V
 use std::fs;
 use std::process::{Command, Stdio};
 use std::time::{Duration, Instant};
-use support::{Folder, TTW};
+use support::{is_installed, Folder, TTW};
 
 fn worked() -> Folder {
     Folder::with_pair(&worked_pair())
@@ -206,55 +206,57 @@ fn damaged_packs_name_the_step() {
     }
 }
 
+/// Wrong usage, and what is told about it.
+const MISUSES: [(&[&str], &str); 16] = [
+    (&[], "no command is given; see: ttw help"),
+    (&["chekc"], "there is no command \"chekc\"; see: ttw help"),
+    (&["help", "me"], "there is no help on \"me\"; see: ttw help"),
+    (
+        &["check"],
+        "check takes files: 2, given: 0; see: ttw help check",
+    ),
+    (
+        &["show", "a", "b"],
+        "show takes files: 1, given: 2; see: ttw help show",
+    ),
+    (
+        &["check", "--all", "a", "b"],
+        "there is no option --all here",
+    ),
+    (&["labels", "a", "b", "--nth", "1"], "--nth needs --code"),
+    (&["labels", "a", "b", "--view"], "--view needs a value"),
+    (
+        &["labels", "a", "b", "--view", "x"],
+        "--view takes a whole number, not \"x\"",
+    ),
+    (
+        &["labels", "a", "b", "--view", "-1"],
+        "--view takes a whole number, not \"-1\"",
+    ),
+    (
+        &["labels", "a", "b", "--view=1", "--view=2"],
+        "--view is given twice",
+    ),
+    (
+        &["labels", "a", "b", "--view", "1", "--code", "AB1"],
+        "--view stands alone, without --code and --nth",
+    ),
+    (&["pack", "a", "b", "--all"], "pack needs --out FOLDER"),
+    (
+        &["pack", "a", "b", "--out", "c"],
+        "pack needs either --code or --all",
+    ),
+    (
+        &["pack", "a", "b", "--out", "c", "--all", "--code", "AB1"],
+        "pack needs either --code or --all",
+    ),
+    (&["show", "a", "--help=1"], "--help takes no value"),
+];
+
 #[test]
 fn wrong_usage() {
     let folder = worked();
-    let cases: [(&[&str], &str); 16] = [
-        (&[], "no command is given; see: ttw help"),
-        (&["chekc"], "there is no command \"chekc\"; see: ttw help"),
-        (&["help", "me"], "there is no help on \"me\"; see: ttw help"),
-        (
-            &["check"],
-            "check takes files: 2, given: 0; see: ttw help check",
-        ),
-        (
-            &["show", "a", "b"],
-            "show takes files: 1, given: 2; see: ttw help show",
-        ),
-        (
-            &["check", "--all", "a", "b"],
-            "there is no option --all here",
-        ),
-        (&["labels", "a", "b", "--nth", "1"], "--nth needs --code"),
-        (&["labels", "a", "b", "--view"], "--view needs a value"),
-        (
-            &["labels", "a", "b", "--view", "x"],
-            "--view takes a whole number, not \"x\"",
-        ),
-        (
-            &["labels", "a", "b", "--view", "-1"],
-            "--view takes a whole number, not \"-1\"",
-        ),
-        (
-            &["labels", "a", "b", "--view=1", "--view=2"],
-            "--view is given twice",
-        ),
-        (
-            &["labels", "a", "b", "--view", "1", "--code", "AB1"],
-            "--view stands alone, without --code and --nth",
-        ),
-        (&["pack", "a", "b", "--all"], "pack needs --out FOLDER"),
-        (
-            &["pack", "a", "b", "--out", "c"],
-            "pack needs either --code or --all",
-        ),
-        (
-            &["pack", "a", "b", "--out", "c", "--all", "--code", "AB1"],
-            "pack needs either --code or --all",
-        ),
-        (&["show", "a", "--help=1"], "--help takes no value"),
-    ];
-    for (arguments, told) in cases {
+    for (arguments, told) in MISUSES {
         folder.ttw(arguments).only_tells(2, &format!("ttw: {told}"));
     }
 }
@@ -312,7 +314,8 @@ fn a_full_output_for_labels() {
 
 #[test]
 fn output_that_nobody_reads() {
-    let pair = exact_pair(&mut Rng::new(71), 300, 300);
+    // More than a pipe holds, so that the writer has to meet its closed end.
+    let pair = exact_pair(&mut Rng::new(71), 300, 3_000);
     let folder = Folder::with_pair(&pair);
     let run = folder.shell("\"$TTW\" labels changes1 changes2 | head -n 1; echo ${PIPESTATUS[0]}");
     assert_eq!(run.told, "");
@@ -377,7 +380,8 @@ fn a_folder_that_cannot_be_made() {
     );
 }
 
-/// A pair with a view in each of many codes.
+/// A pair with a view in each of many codes, and with enough rows that a run
+/// takes a while.
 fn pair_of_many_codes() -> Pair {
     let codes = (b'A'..=b'H').flat_map(|letter| (10..90).map(move |n| (letter, n)));
     let views = codes
@@ -389,7 +393,8 @@ fn pair_of_many_codes() -> Pair {
             ..View::default()
         })
         .collect();
-    Pair::new(vec![TableRow::locality(1, "HARTWELL BAY", "", "")], views)
+    let rows = (1..3_000).map(|key| TableRow::locality(key, "HARTWELL BAY", "", ""));
+    Pair::new(rows.collect(), views)
 }
 
 /// How many packs of the folder are no longer the older ones.
@@ -438,6 +443,9 @@ fn progress_is_for_a_terminal_alone() {
         .shell(&format!("\"$TTW\" {pack}"))
         .told
         .contains("of 9"));
+    if !is_installed("script") {
+        return; // There is no other terminal to try it on.
+    }
     let on_terminal = folder.shell(&format!(
         "script -qec '\"$TTW\" {pack}' /dev/null </dev/null"
     ));

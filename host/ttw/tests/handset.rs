@@ -6,7 +6,7 @@ mod support;
 use paper::make::{damaged_packs, worked_pair};
 use std::path::{Path, PathBuf};
 use std::process::Command;
-use support::{root, run, Folder, Run};
+use support::{is_installed, root, run, Folder, Run};
 
 const LABEL: &str = "ATTIC FLAT\n110-114 QUARRY LANE\nHARTWELL BAY\nAB1 9ZZ\n";
 
@@ -108,11 +108,6 @@ fn the_example_prints_labels_and_says_refusals() {
             .current_dir(&folder.0));
         misused.only_tells(2, "usage: handset PACK [NUMBER]");
     }
-}
-
-fn is_installed(program: &str) -> bool {
-    let found = |folder: PathBuf| folder.join(program).is_file();
-    std::env::var_os("PATH").is_some_and(|path| std::env::split_paths(&path).any(found))
 }
 
 fn under_valgrind(program: &Path) -> Command {

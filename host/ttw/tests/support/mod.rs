@@ -109,6 +109,12 @@ impl Run {
     }
 }
 
+/// Whether a program is on the path.
+pub fn is_installed(program: &str) -> bool {
+    let found = |folder: PathBuf| folder.join(program).is_file();
+    std::env::var_os("PATH").is_some_and(|path| std::env::split_paths(&path).any(found))
+}
+
 pub fn run(command: &mut Command) -> Run {
     // Under `make test`, a `make` that is run here would take itself for a part
     // of that one and say where it works.
