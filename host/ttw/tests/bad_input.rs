@@ -6,7 +6,7 @@ use paper::make::{damaged_packs, exact_pair, worked_pair, Pair, Rng, TableRow, V
 use std::fs;
 use std::process::{Command, Stdio};
 use std::time::{Duration, Instant};
-use support::{is_installed, Folder, TTW};
+use support::{is_installed, Folder, Run, TTW};
 
 fn worked() -> Folder {
     Folder::with_pair(&worked_pair())
@@ -50,6 +50,38 @@ fn a_file_that_cannot_be_read() {
         .ttw(&["check", "changes1", "/proc/self/mem"])
         .only_tells(2, told);
     folder.ttw(&["show", "/proc/self/mem"]).only_tells(2, told);
+}
+
+/// Runs `ttw` as someone who may read and write only what anybody may; none
+/// where this test may not become someone else.
+fn as_nobody(folder: &Folder, arguments: &str) -> Option<Run> {
+    let plain = folder.shell("test $(id -u) != 0").status == Some(0);
+    if !plain && !is_installed("setpriv") {
+        return None;
+    }
+    let nobody = "setpriv --reuid=65534 --regid=65534 --clear-groups";
+    let become_nobody = if plain { "" } else { nobody };
+    let line = format!("cp \"$TTW\" ttw; chmod 755 ttw; {become_nobody} ./ttw {arguments}");
+    Some(folder.shell(&line))
+}
+
+#[test]
+fn files_and_folders_of_someone_else() {
+    let folder = worked();
+    folder.put("AB1.pack", b"older");
+    fs::create_dir(folder.0.join("packs")).expect("a folder");
+    folder
+        .shell("chmod 755 .; chmod 555 packs; chmod 000 AB1.pack")
+        .prints("");
+    if let Some(run) = as_nobody(&folder, "show AB1.pack") {
+        let denied = "Permission denied (os error 13)";
+        run.only_tells(2, &format!("ttw: cannot read AB1.pack: {denied}"));
+        let pack = "pack changes1 changes2 --all --out packs";
+        let run = as_nobody(&folder, pack).expect("as before");
+        let told = format!("ttw: cannot write packs/AB1.pack: {denied}");
+        run.only_tells(2, &format!("packs written: 0, codes refused: 0\n{told}"));
+        assert!(folder.names("packs").is_empty());
+    }
 }
 
 #[test]
