@@ -6,6 +6,9 @@ use ttw::ask;
 /// The outward code that most views of the files have.
 pub const CODE: &[u8] = b"AB1 ";
 
+/// The bytes of a fresh label buffer.
+pub const LABEL: usize = 499;
+
 /// A pair of files, and the pack of its commonest code.
 pub struct Input {
     pub pair: Pair,

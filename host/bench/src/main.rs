@@ -163,7 +163,7 @@ fn main() {
         print!(" {records:>9} {:>9}", "plain");
     }
     println!(" {:>6} {:>6} {:>6}", "ratio", "growth", "passes");
-    for call in asked::all() {
+    for call in asked::CALLS {
         print_call(&call, &inputs);
     }
     println!(

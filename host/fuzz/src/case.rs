@@ -79,9 +79,10 @@ fn number_of(rng: &mut Rng) -> u64 {
 /// Asks every call about the case, its slices flush at either end.
 pub fn run(case: &Case, reached: &mut Reached) {
     for flush in Flush::BOTH {
-        let mut lent = Lent::new(case, flush);
+        let lent = Lent::new(case, flush);
         lent.ask_reading_calls(case, reached);
-        lent.ask_writing_calls(case, reached);
+        lent.ask_labels(case, reached);
+        lent.ask_build(case, reached);
     }
 }
 
@@ -134,8 +135,8 @@ impl Lent {
         same("pack", calls::pack(pack), count(paper::open(&case.pack)));
     }
 
-    /// The calls that write into a lent buffer.
-    fn ask_writing_calls(&mut self, case: &Case, reached: &mut Reached) {
+    /// The calls that print a label.
+    fn ask_labels(&self, case: &Case, reached: &mut Reached) {
         let (table, points) = (self.table.bytes(), self.points.bytes());
         let (pack, code) = (self.pack.bytes(), self.code.bytes());
         let Case {
@@ -162,14 +163,20 @@ impl Lent {
             &|out| calls::pack_label(pack, k, out),
             &|out| paper::pack_label(&case.pack, k, out),
         );
-        let build = |out: &mut [u8]| calls::build(table, points, code, out);
+    }
+
+    /// Building, with some room, with just enough, and with a byte less.
+    fn ask_build(&self, case: &Case, reached: &mut Reached) {
+        let (table, points) = (self.table.bytes(), self.points.bytes());
+        let code = self.code.bytes();
+        let ours = |out: &mut [u8]| calls::build(table, points, code, out);
         let plain = |out: &mut [u8]| paper::build(&case.table, &case.points, &case.code, out);
-        let needed = written("build", room, &build, &plain);
-        // The pack's own length, and one byte less.
-        if needed >> 56 == 10 {
-            let needed = needed as u32 as usize;
-            written("build", needed, &build, &plain);
-            written("build", needed - 1, &build, &plain);
+        let mut build = |room| written("build", self.flush, room, &ours, &plain, reached);
+        let answer = build(case.room);
+        if answer >> 56 == 10 {
+            let needed = answer as u32 as usize;
+            build(needed);
+            build(needed - 1);
         }
     }
 }
