@@ -1,10 +1,21 @@
 # Two commands do everything: `make run` and `make test`.
-.PHONY: help run test bench
+.PHONY: help run test bench fuzz annotate ttw install library
+
+# Where `make install` puts things; how long and from which seed `make fuzz` runs.
+PREFIX = /usr/local
+SECONDS = 60
+SEED = 1
+
+CARGO = cargo --offline --quiet
 
 help:
-	@echo 'make run    print the labels of the sample files'
-	@echo 'make test   prove every crate, try the must-fail edits, run the host tests'
-	@echo 'make bench  time each call beside a plain compiled version'
+	@echo 'make run       print the labels of the sample files'
+	@echo 'make test      prove every crate, try the must-fail edits, run the host tests'
+	@echo 'make ttw       build the command ttw: host/target/release/ttw'
+	@echo 'make install   copy library, header, pkg-config file and ttw below PREFIX=/usr/local'
+	@echo 'make bench     time each call beside a plain compiled version'
+	@echo 'make fuzz      try the calls on mutated input for SECONDS=60 from SEED=1'
+	@echo 'make annotate  print the pack of docs/PACK.md byte by byte'
 
 run:
 	@rt check labels >/dev/null
@@ -13,7 +24,22 @@ run:
 test:
 	@scripts/test
 
-bench:
-	@rt staticlib leaves >/dev/null
+# The proved library, for all that links it.
+library:
 	@rt staticlib ttwibonal >/dev/null
-	@cargo run --offline --quiet --release --manifest-path host/Cargo.toml --package ttw-bench
+
+ttw: library
+	@cd host && $(CARGO) build --release --package ttw
+
+install: ttw
+	@scripts/install '$(PREFIX)'
+
+bench: library
+	@cd host && $(CARGO) run --release --package ttw-bench
+
+fuzz: library
+	@cd host && $(CARGO) run --release --package ttw-fuzz -- --seconds $(SECONDS) --seed $(SEED)
+
+annotate: library
+	@rt staticlib leaves >/dev/null
+	@cd host && $(CARGO) run --package ttw-trials --bin annotate

@@ -1,9 +1,12 @@
-/* Ttwibonal: reads Royal Mail's Changes files and answers about them.
+/* Ttwibonal: reads Royal Mail's Changes files, prints labels and cuts packs for handsets.
  *
  * A slice is a pointer and a length; a length of 0 takes any pointer that is not null. Every call may be made with any
  * bytes and any numbers, and has nothing to check beforehand. Nothing is kept between calls and nothing is shared, so
- * calls may run on several threads at once. No call writes into the slices that it only reads. A call on files takes less
- * than 512 bytes of stack, a label call less than 2,048.
+ * calls may run on several threads at once, on the same slices too where they only read them. No call writes into the
+ * slices that it only reads, asks the system for memory, or opens a file.
+ *
+ * Stack: a call on files takes less than 512 bytes, a label from files less than 2,048, opening a pack or a label from a
+ * pack less than 80 KiB, building a pack less than 128 KiB. A thread that is to build needs its stack sized for that.
  *
  * Each call answers one number. Take it apart with the macros below and never compare whole words: later calls fill bits
  * that are 0 today.
@@ -80,6 +83,33 @@ uint64_t ttw_label(const uint8_t *table, size_t table_len, const uint8_t *points
 /* The label of the k-th live view in an outward code, k counted from 1 in file order: how many bytes were written. */
 uint64_t ttw_code_label(const uint8_t *table, size_t table_len, const uint8_t *points, size_t points_len,
                         const uint8_t *code, size_t code_len, uint64_t k, uint8_t *out, size_t out_len);
+
+/* Packs. A pack holds the labels of the live views in one outward code, and needs no file beside it: its k-th point has
+ * the label that ttw_code_label gives for the k-th live view of the files that it was built from.
+ *
+ *     uint64_t answer = ttw_pack_label(pack, pack_len, 1, label, sizeof label);
+ *     if (TTW_REFUSAL(answer) == 0)
+ *         fwrite(label, 1, TTW_VALUE(answer), stdout);
+ */
+
+/* The pack of an outward code, written into `out`: how many bytes were written. The code is 4 bytes, padded with spaces;
+ * one with no live view gives a pack of 21 bytes. A refused call leaves all of `out` as it was, an accepted one
+ * everything behind the pack.
+ * Refusals, in this order: the table file's (file 1), the point file's (file 2), 12 the code is malformed, then
+ *   8 or 9 as for labels, of the first live view in the code that has one; the second detail is the view's number
+ *  10 `out` is shorter than the pack (the bytes needed: lend no bytes to learn how many)
+ */
+uint64_t ttw_build(const uint8_t *table, size_t table_len, const uint8_t *points, size_t points_len,
+                   const uint8_t *code, size_t code_len, uint8_t *out, size_t out_len);
+
+/* How many points a pack has. Refusal: 11, these bytes are no pack (the first step that fails: 1 trailer, 2 rows,
+ * 3 points). */
+uint64_t ttw_pack(const uint8_t *pack, size_t pack_len);
+
+/* The label of the k-th point of a pack, k counted from 1, printed into `out` as by the label calls: how many bytes were
+ * written. Refusals, in this order: 11 as above, 7 no such point, 10 `out` is shorter than the label (the bytes
+ * needed). */
+uint64_t ttw_pack_label(const uint8_t *pack, size_t pack_len, uint64_t k, uint8_t *out, size_t out_len);
 
 #ifdef __cplusplus
 }

@@ -1,11 +1,16 @@
-//! Times each call of the proved library beside the same call of the second
-//! program, on the same files and in the same run, and beside one bare pass
-//! over the bytes. The times are medians in microseconds.
+//! Times each exported call beside the same call of the second program, on the
+//! same input and in the same run, and prints one table. Then the pack's size
+//! beside a database of the same rows.
 
-use paper::make::{exact_pair, Pair, Rng};
+mod asked;
+mod input;
+mod sqlite;
+
+use asked::{Call, Question};
+use input::{far_pack, pair_of_many_codes, Input};
+use std::collections::BTreeSet;
 use std::hint::black_box;
-use std::time::{Duration, Instant};
-use trials::calls;
+use std::time::Instant;
 
 /// Records of each file.
 const SIZES: [usize; 3] = [1_000, 5_000, 20_000];
@@ -13,102 +18,18 @@ const SIZES: [usize; 3] = [1_000, 5_000, 20_000];
 /// How often a call is timed.
 const RUNS: usize = 41;
 
-/// The outward code that most views of the files have.
-const CODE: &[u8] = b"AB1 ";
+/// The bars at 20,000 records: how many times the plain version a call may
+/// take, how many times its own time at 5,000, how many bare passes a check.
+const MOST_RATIO: f64 = 1.0;
+const MOST_GROWTH: f64 = 5.0;
+const MOST_PASSES: f64 = 6.0;
 
-/// The bytes of a fresh label buffer.
-const LABEL: usize = 499;
-
-/// What is asked of a file; it answers one number.
-type Question = Box<dyn Fn(&[u8]) -> u64>;
-
-/// A call of the library and of the second program on one file. The answers
-/// have to be the same.
-struct Call<'a> {
-    name: &'static str,
-    file: &'a [u8],
-    library: Question,
-    plain: Question,
-}
-
-/// Every call, on the files of a pair.
-fn calls_on(pair: &Pair) -> Vec<Call<'_>> {
-    let last = pair.views.len() as u64;
-    let points_call = |name, library, plain| Call {
-        name,
-        file: &pair.points,
-        library,
-        plain,
-    };
-    [
-        Call {
-            name: "ttw_table",
-            file: &pair.table,
-            library: Box::new(calls::table),
-            plain: Box::new(|table| answer(paper::check_table(table))),
-        },
-        points_call(
-            "ttw_points",
-            Box::new(calls::points),
-            Box::new(|points| answer(paper::check_points(points))),
-        ),
-        points_call(
-            "ttw_views",
-            Box::new(calls::views),
-            Box::new(|points| answer(paper::views(points))),
-        ),
-        points_call(
-            "ttw_letter",
-            Box::new(move |points| calls::letter(points, last)),
-            Box::new(move |points| answer(paper::letter(points, last).map(usize::from))),
-        ),
-        points_call(
-            "ttw_live",
-            Box::new(|points| calls::live(points, CODE)),
-            Box::new(|points| answer(paper::live(points, CODE))),
-        ),
-    ]
-    .into_iter()
-    .chain(label_calls(pair))
-    .collect()
-}
-
-/// The label calls, for the last view and for the first live view of the code.
-fn label_calls(pair: &Pair) -> [Call<'_>; 2] {
-    let last = pair.views.len() as u64;
-    let table = || pair.table.clone();
-    let (ours, theirs, ours_in_code, theirs_in_code) = (table(), table(), table(), table());
-    [
-        Call {
-            name: "ttw_label",
-            file: &pair.points,
-            library: Box::new(move |points| calls::label(&ours, points, last, &mut [0; LABEL])),
-            plain: Box::new(move |points| {
-                answer(paper::label(&theirs, points, last, &mut [0; LABEL]))
-            }),
-        },
-        Call {
-            name: "ttw_code_label",
-            file: &pair.points,
-            library: Box::new(move |points| {
-                calls::code_label(&ours_in_code, points, CODE, 1, &mut [0; LABEL])
-            }),
-            plain: Box::new(move |points| {
-                answer(paper::code_label(
-                    &theirs_in_code,
-                    points,
-                    CODE,
-                    1,
-                    &mut [0; LABEL],
-                ))
-            }),
-        },
-    ]
-}
-
-/// The second program's answer as the one number that the library answers.
-fn answer(answer: Result<usize, paper::Refusal>) -> u64 {
-    paper::packed(answer.map(|value| value as u64))
+/// Microseconds of the library, of the plain version and of one bare pass.
+#[derive(Clone, Copy)]
+struct Times {
+    library: f64,
+    plain: f64,
+    bare: Option<f64>,
 }
 
 /// One bare pass over the bytes: their sum in one byte.
@@ -119,49 +40,138 @@ fn bare_pass(bytes: &[u8]) -> u64 {
     u64::from(sum)
 }
 
-/// How long something takes on a file.
-fn timed(file: &[u8], work: impl Fn(&[u8]) -> u64) -> Duration {
-    let start = Instant::now();
-    black_box(work(black_box(file)));
-    start.elapsed()
-}
-
 /// The median in microseconds.
-fn median(mut times: Vec<Duration>) -> f64 {
-    times.sort();
-    times[times.len() / 2].as_secs_f64() * 1e6
+fn median(mut times: Vec<f64>) -> f64 {
+    times.sort_by(f64::total_cmp);
+    times[times.len() / 2] * 1e6
 }
 
-/// Times a call's two sides and the bare pass by turns, so that whatever else
-/// the machine does falls on all of them, and prints the line.
-fn print_times(call: &Call, records: usize) {
-    let file = call.file;
-    assert_eq!((call.library)(file), (call.plain)(file), "{}", call.name);
+/// How many seconds something takes.
+fn timed(work: impl FnOnce() -> u64) -> f64 {
+    let start = Instant::now();
+    black_box(work());
+    start.elapsed().as_secs_f64()
+}
+
+/// Times both sides by turns, so that whatever else the machine does falls on
+/// both of them.
+fn times(call: &Call, input: &Input) -> Times {
+    let mut room = vec![0; input.pack.len()];
+    let mut ask = |question: Question| question(black_box(input), &mut room);
+    assert_eq!(ask(call.library), ask(call.plain), "{}", call.name);
     let (mut library, mut plain, mut bare) = (Vec::new(), Vec::new(), Vec::new());
     for _ in 0..RUNS {
-        library.push(timed(file, &call.library));
-        plain.push(timed(file, &call.plain));
-        bare.push(timed(file, bare_pass));
+        library.push(timed(|| ask(call.library)));
+        plain.push(timed(|| ask(call.plain)));
+        if let Some(file) = call.file {
+            bare.push(timed(|| bare_pass(black_box(file(input)))));
+        }
     }
-    let (library, plain, bare) = (median(library), median(plain), median(bare));
+    Times {
+        library: median(library),
+        plain: median(plain),
+        bare: call.file.map(|_| median(bare)),
+    }
+}
+
+/// A figure, marked where it is over its bar.
+fn barred(figure: f64, bar: f64) -> String {
+    let mark = if figure > bar { "!" } else { "" };
+    format!("{figure:.2}{mark}")
+}
+
+fn print_call(call: &Call, inputs: &[Input]) {
+    let times: Vec<Times> = inputs.iter().map(|input| times(call, input)).collect();
+    let last = times[times.len() - 1];
+    let growth = last.library / times[times.len() - 2].library;
+    let passes = last.bare.map_or(String::new(), |bare| {
+        barred(last.library / bare, MOST_PASSES)
+    });
+    print!("{:<15}", call.name);
+    for Times { library, plain, .. } in times {
+        print!(" {library:>9.1} {plain:>9.1}");
+    }
     println!(
-        "{:<14} {records:>7} {library:>11.1} {plain:>9.1} {:>6.2} {bare:>8.1} {:>7.1}",
-        call.name,
-        library / plain,
-        library / bare
+        " {:>6} {:>6} {passes:>6}",
+        barred(last.library / last.plain, MOST_RATIO),
+        barred(growth, MOST_GROWTH),
     );
+}
+
+/// Opening where every offset points at the last rows.
+fn print_far_pack() {
+    let pack = far_pack(16_000);
+    assert_eq!(ttw::ask::pack(&pack), Ok(16_000));
+    let (mut library, mut plain) = (Vec::new(), Vec::new());
+    for _ in 0..RUNS {
+        library.push(timed(|| ttw::calls::pack(black_box(&pack))));
+        plain.push(timed(|| {
+            paper::packed(paper::open(black_box(&pack)).map(|points| points as u64))
+        }));
+    }
+    let (library, plain) = (median(library), median(plain));
+    println!(
+        "\nttw_pack, 16,000 points that all point at the last of 16,005 rows: \
+         {library:.1} beside {plain:.1}, ratio {}",
+        barred(library / plain, MOST_RATIO)
+    );
+}
+
+/// What `ttw pack --all` asks of the library: which codes are live, and the
+/// pack of each.
+fn print_every_code() {
+    let pair = pair_of_many_codes();
+    let codes: BTreeSet<String> = pair
+        .views
+        .iter()
+        .map(|view| format!("{:<4}", view.outward))
+        .collect();
+    let mut bytes = 0;
+    let seconds = timed(|| {
+        let live = codes
+            .iter()
+            .filter(|code| ttw::ask::live(&pair.points, code.as_bytes()) != Ok(0));
+        for code in live {
+            let pack = ttw::ask::build(&pair.table, &pair.points, code.as_bytes(), 1 << 16);
+            bytes += pack.expect("a pack").len();
+        }
+        bytes as u64
+    });
+    println!(
+        "\nevery code of 20,000 records of each file, on one core: {} codes, {bytes} bytes, {seconds:.1} s",
+        codes.len()
+    );
+}
+
+fn print_sizes(inputs: &[Input]) {
+    println!("\nbytes of the pack, and of the same rows in SQLite:");
+    for (records, input) in SIZES.iter().zip(inputs) {
+        let database = sqlite::size(&input.pair)
+            .map_or("sqlite3 is not installed".to_string(), |size| {
+                size.to_string()
+            });
+        let (points, pack) = (input.last_point, input.pack.len());
+        println!("{records:>6} records, {points:>5} points {pack:>9} {database:>9}");
+    }
 }
 
 fn main() {
-    println!(
-        "{:<14} {:>7} {:>11} {:>9} {:>6} {:>8} {:>7}",
-        "call", "records", "library µs", "plain µs", "ratio", "bare µs", "passes"
-    );
+    let inputs: Vec<Input> = SIZES.into_iter().map(Input::new).collect();
+    println!("microseconds, library and plain version, at so many records of each file:\n");
+    print!("{:<15}", "call");
     for records in SIZES {
-        let pair = exact_pair(&mut Rng::new(8), records, records);
-        for call in calls_on(&pair) {
-            print_times(&call, records);
-        }
+        print!(" {records:>9} {:>9}", "plain");
     }
-    println!("\nratio: library / plain; bare: a wrapping sum of the bytes; passes: library / bare");
+    println!(" {:>6} {:>6} {:>6}", "ratio", "growth", "passes");
+    for call in asked::CALLS {
+        print_call(&call, &inputs);
+    }
+    println!(
+        "\nAt the largest size. ratio: library / plain, bar {MOST_RATIO:.1}. growth: from 5,000 to 20,000 \
+         records, bar {MOST_GROWTH:.1}.\npasses: library / one sum of the file's bytes, bar \
+         {MOST_PASSES:.1}. A figure over its bar is marked !."
+    );
+    print_far_pack();
+    print_every_code();
+    print_sizes(&inputs);
 }

@@ -1,9 +1,9 @@
 //! Each call of the library asked beside the second program. An answer is
 //! handed back only where both give it and the lent bytes are as they were.
 
-use crate::calls;
 use paper::{packed, Refusal};
 use std::hint::black_box;
+use ttw::calls;
 
 /// How many bytes of a file are shown where the answers differ.
 const SHOWN: usize = 8_000;

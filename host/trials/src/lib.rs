@@ -1,6 +1,6 @@
-//! Safe wrappers over the proved static libraries, for the trials against `ttw-paper`.
+//! Trials of the proved libraries against `ttw-paper`. The exported calls come from `ttw`, the leaves from here.
 
 pub mod agree;
-pub mod calls;
+pub mod annotated;
 pub mod leaves;
 pub mod samples;

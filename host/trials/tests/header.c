@@ -54,6 +54,35 @@ static void say_codes(const uint8_t *points, size_t length)
     say("live in AB1 without padding", ttw_live(points, length, codes[0], 3));
 }
 
+static void say_label(const char *what, const uint8_t *label, uint64_t answer)
+{
+    say(what, answer);
+    if (TTW_REFUSAL(answer) == 0)
+        fwrite(label, 1, (size_t)TTW_VALUE(answer), stdout);
+}
+
+/* A label from the files and from the pack that is built from them, with room and without. */
+static void say_labels(const uint8_t *table, size_t table_length, const uint8_t *points, size_t points_length)
+{
+    const uint8_t code[4] = {'A', 'B', '1', ' '};
+    uint8_t label[499];
+    uint8_t pack[ROOM];
+    uint64_t built;
+
+    say_label("label 1", label, ttw_label(table, table_length, points, points_length, 1, label, sizeof label));
+    say("label 2", ttw_label(table, table_length, points, points_length, 2, label, sizeof label));
+    say_label("label 1 in AB1", label,
+              ttw_code_label(table, table_length, points, points_length, code, sizeof code, 1, label, sizeof label));
+    say("pack without room", ttw_build(table, table_length, points, points_length, code, sizeof code, pack, 0));
+    built = ttw_build(table, table_length, points, points_length, code, sizeof code, pack, sizeof pack);
+    say("pack", built);
+    say("points in the pack", ttw_pack(pack, (size_t)TTW_VALUE(built)));
+    say_label("point 1", label, ttw_pack_label(pack, (size_t)TTW_VALUE(built), 1, label, sizeof label));
+    say("point 1 without room", ttw_pack_label(pack, (size_t)TTW_VALUE(built), 1, label, 1));
+    say("point 2", ttw_pack_label(pack, (size_t)TTW_VALUE(built), 2, label, sizeof label));
+    say("pack without its last byte", ttw_pack(pack, (size_t)TTW_VALUE(built) - 1));
+}
+
 int main(int argc, char **argv)
 {
     static uint8_t table[ROOM];
@@ -66,6 +95,7 @@ int main(int argc, char **argv)
     say("views", ttw_views(points, points_length));
     say_letters(points, points_length);
     say_codes(points, points_length);
+    say_labels(table, table_length, points, points_length);
     say("empty table", ttw_table(table, 0));
     table[0] = 'X';
     say("table with another header", ttw_table(table, table_length));

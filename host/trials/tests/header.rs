@@ -17,6 +17,28 @@ live in AB1: 1
 live in DN55: 0
 live in QA1: refused 12, file 0, second 0, detail 0
 live in AB1 without padding: refused 12, file 0, second 0, detail 0
+label 1: 52
+ATTIC FLAT
+110-114 QUARRY LANE
+HARTWELL BAY
+AB1 9ZZ
+label 2: refused 9, file 0, second 0, detail 6
+label 1 in AB1: 52
+ATTIC FLAT
+110-114 QUARRY LANE
+HARTWELL BAY
+AB1 9ZZ
+pack without room: refused 10, file 0, second 0, detail 129
+pack: 129
+points in the pack: 1
+point 1: 52
+ATTIC FLAT
+110-114 QUARRY LANE
+HARTWELL BAY
+AB1 9ZZ
+point 1 without room: refused 10, file 0, second 0, detail 52
+point 2: refused 7, file 0, second 0, detail 0
+pack without its last byte: refused 11, file 0, second 0, detail 1
 empty table: refused 1, file 1, second 0, detail 0
 table with another header: refused 2, file 1, second 0, detail 1
 points with another letter: refused 4, file 2, second 0, detail 3

@@ -28,6 +28,24 @@ extern "C" {
         out: *mut u8,
         out_len: usize,
     ) -> u64;
+    fn ttw_build(
+        table: *const u8,
+        table_len: usize,
+        points: *const u8,
+        points_len: usize,
+        code: *const u8,
+        code_len: usize,
+        out: *mut u8,
+        out_len: usize,
+    ) -> u64;
+    fn ttw_pack(pack: *const u8, pack_len: usize) -> u64;
+    fn ttw_pack_label(
+        pack: *const u8,
+        pack_len: usize,
+        k: u64,
+        out: *mut u8,
+        out_len: usize,
+    ) -> u64;
 }
 
 /// How many records a table file has.
@@ -93,4 +111,33 @@ pub fn code_label(table: &[u8], points: &[u8], code: &[u8], k: u64, out: &mut [u
             out.len(),
         )
     }
+}
+
+/// The pack of an outward code, written into `out`.
+pub fn build(table: &[u8], points: &[u8], code: &[u8], out: &mut [u8]) -> u64 {
+    // SAFETY: as above.
+    unsafe {
+        ttw_build(
+            table.as_ptr(),
+            table.len(),
+            points.as_ptr(),
+            points.len(),
+            code.as_ptr(),
+            code.len(),
+            out.as_mut_ptr(),
+            out.len(),
+        )
+    }
+}
+
+/// How many points a pack has.
+pub fn pack(pack: &[u8]) -> u64 {
+    // SAFETY: as above.
+    unsafe { ttw_pack(pack.as_ptr(), pack.len()) }
+}
+
+/// The label of the k-th point of a pack, printed into `out`.
+pub fn pack_label(pack: &[u8], k: u64, out: &mut [u8]) -> u64 {
+    // SAFETY: as above.
+    unsafe { ttw_pack_label(pack.as_ptr(), pack.len(), k, out.as_mut_ptr(), out.len()) }
 }

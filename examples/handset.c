@@ -1,0 +1,125 @@
+/* What a handset does with a pack: loads it, prints the label of a point, or says why it cannot.
+ *
+ *     handset AB1.pack        how many points the pack has
+ *     handset AB1.pack 3      the label of point 3
+ *
+ * Exit status: 0 done, 1 refused, 2 could not. */
+#include "ttwibonal.h"
+
+#include <errno.h>
+#include <inttypes.h>
+#include <stdio.h>
+#include <stdlib.h>
+#include <string.h>
+
+/* The longest label. */
+#define LABEL 499
+/* No pack of a pair of files comes near this length. */
+#define LONGEST_PACK (64L << 20)
+
+enum { DONE = 0, REFUSED = 1, COULD_NOT = 2 };
+
+struct pack {
+    uint8_t *bytes;
+    size_t length;
+};
+
+/* Reads an open file. The library takes no null pointer, so an empty file gets a byte too. */
+static int read_pack(FILE *file, struct pack *pack)
+{
+    long length;
+
+    if (fseek(file, 0, SEEK_END) != 0 || (length = ftell(file)) < 0 || length > LONGEST_PACK)
+        return 0;
+    rewind(file);
+    pack->length = (size_t)length;
+    pack->bytes = malloc(pack->length + 1);
+    if (pack->bytes == NULL)
+        return 0;
+    return fread(pack->bytes, 1, pack->length, file) == pack->length;
+}
+
+static int load(const char *path, struct pack *pack)
+{
+    FILE *file;
+    int loaded;
+
+    errno = 0;
+    file = fopen(path, "rb");
+    if (file == NULL)
+        return 0;
+    loaded = read_pack(file, pack);
+    fclose(file);
+    return loaded;
+}
+
+/* The refusals that a handset can meet, in words for its screen. */
+static int say_refusal(uint64_t answer)
+{
+    static const char *const parts[] = {"pack", "end", "rows", "points"};
+
+    switch (TTW_REFUSAL(answer)) {
+    case 7:
+        puts("This pack has no point of that number.");
+        break;
+    case 11:
+        printf("This pack is damaged: its %s. Load it again.\n", parts[TTW_DETAIL(answer) & 3]);
+        break;
+    default:
+        printf("Refused with %" PRIu64 ".\n", TTW_REFUSAL(answer));
+    }
+    return REFUSED;
+}
+
+static int say_points(const struct pack *pack)
+{
+    uint64_t answer = ttw_pack(pack->bytes, pack->length);
+
+    if (TTW_REFUSAL(answer) != 0)
+        return say_refusal(answer);
+    printf("points: %" PRIu64 "\n", TTW_VALUE(answer));
+    return DONE;
+}
+
+static int say_label(const struct pack *pack, uint64_t k)
+{
+    uint8_t label[LABEL];
+    uint64_t answer = ttw_pack_label(pack->bytes, pack->length, k, label, sizeof label);
+
+    if (TTW_REFUSAL(answer) != 0)
+        return say_refusal(answer);
+    fwrite(label, 1, (size_t)TTW_VALUE(answer), stdout);
+    return DONE;
+}
+
+/* Whether a text is a number and nothing else. */
+static int read_number(const char *text, uint64_t *number)
+{
+    char *end;
+
+    errno = 0;
+    *number = strtoumax(text, &end, 10);
+    return errno == 0 && text[0] >= '0' && text[0] <= '9' && *end == '\0';
+}
+
+int main(int argc, char **argv)
+{
+    struct pack pack = {NULL, 0};
+    uint64_t k = 0;
+    int status;
+
+    if (argc < 2 || argc > 3 || (argc == 3 && !read_number(argv[2], &k))) {
+        fputs("usage: handset PACK [NUMBER]\n", stderr);
+        return COULD_NOT;
+    }
+    if (!load(argv[1], &pack)) {
+        const char *why = errno != 0 ? strerror(errno) : "no file of a pack's length";
+
+        fprintf(stderr, "handset: cannot load %s: %s\n", argv[1], why);
+        free(pack.bytes);
+        return COULD_NOT;
+    }
+    status = argc == 3 ? say_label(&pack, k) : say_points(&pack);
+    free(pack.bytes);
+    return fflush(stdout) == 0 ? status : COULD_NOT;
+}

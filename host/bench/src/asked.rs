@@ -1,0 +1,153 @@
+//! Every exported call, of the library and of the second program.
+
+use crate::input::Input;
+
+/// A call on an input; `room` is a buffer that holds the input's pack.
+pub type Question = fn(&Input, room: &mut [u8]) -> u64;
+
+/// A call and the same call of the second program. Their answers have to be
+/// the same.
+pub struct Call {
+    pub name: &'static str,
+    pub library: Question,
+    pub plain: Question,
+    /// The bytes that the call looks at, where it is one pass over a file.
+    pub file: Option<fn(&Input) -> &[u8]>,
+}
+
+const fn call(name: &'static str, library: Question, plain: Question) -> Call {
+    Call {
+        name,
+        library,
+        plain,
+        file: None,
+    }
+}
+
+/// Every call that the header declares, in its order.
+pub const CALLS: [Call; 10] = [
+    Call {
+        file: Some(|input| &input.pair.table),
+        ..call("ttw_table", library::table, plain::table)
+    },
+    Call {
+        file: Some(|input| &input.pair.points),
+        ..call("ttw_points", library::points, plain::points)
+    },
+    call("ttw_views", library::views, plain::views),
+    call("ttw_letter", library::letter, plain::letter),
+    call("ttw_live", library::live, plain::live),
+    call("ttw_label", library::label, plain::label),
+    call("ttw_code_label", library::code_label, plain::code_label),
+    call("ttw_build", library::build, plain::build),
+    call("ttw_pack", library::pack, plain::pack),
+    call("ttw_pack_label", library::pack_label, plain::pack_label),
+];
+
+/// The library's calls: letter and label of the last view, the label of the
+/// code's first live view, the pack of the code, the label of its last point.
+mod library {
+    use crate::input::{Input, CODE, LABEL};
+    use ttw::calls;
+
+    pub fn table(input: &Input, _: &mut [u8]) -> u64 {
+        calls::table(&input.pair.table)
+    }
+
+    pub fn points(input: &Input, _: &mut [u8]) -> u64 {
+        calls::points(&input.pair.points)
+    }
+
+    pub fn views(input: &Input, _: &mut [u8]) -> u64 {
+        calls::views(&input.pair.points)
+    }
+
+    pub fn letter(input: &Input, _: &mut [u8]) -> u64 {
+        calls::letter(&input.pair.points, input.last_view)
+    }
+
+    pub fn live(input: &Input, _: &mut [u8]) -> u64 {
+        calls::live(&input.pair.points, CODE)
+    }
+
+    pub fn label(input: &Input, _: &mut [u8]) -> u64 {
+        let (table, points) = (&input.pair.table, &input.pair.points);
+        calls::label(table, points, input.last_view, &mut [0; LABEL])
+    }
+
+    pub fn code_label(input: &Input, _: &mut [u8]) -> u64 {
+        let (table, points) = (&input.pair.table, &input.pair.points);
+        calls::code_label(table, points, CODE, 1, &mut [0; LABEL])
+    }
+
+    pub fn build(input: &Input, room: &mut [u8]) -> u64 {
+        calls::build(&input.pair.table, &input.pair.points, CODE, room)
+    }
+
+    pub fn pack(input: &Input, _: &mut [u8]) -> u64 {
+        calls::pack(&input.pack)
+    }
+
+    pub fn pack_label(input: &Input, _: &mut [u8]) -> u64 {
+        calls::pack_label(&input.pack, input.last_point, &mut [0; LABEL])
+    }
+}
+
+/// The same calls of the second program.
+mod plain {
+    use crate::input::{Input, CODE, LABEL};
+
+    /// An answer as the one number that the library answers.
+    fn answer(answer: Result<usize, paper::Refusal>) -> u64 {
+        paper::packed(answer.map(|value| value as u64))
+    }
+
+    pub fn table(input: &Input, _: &mut [u8]) -> u64 {
+        answer(paper::check_table(&input.pair.table))
+    }
+
+    pub fn points(input: &Input, _: &mut [u8]) -> u64 {
+        answer(paper::check_points(&input.pair.points))
+    }
+
+    pub fn views(input: &Input, _: &mut [u8]) -> u64 {
+        answer(paper::views(&input.pair.points))
+    }
+
+    pub fn letter(input: &Input, _: &mut [u8]) -> u64 {
+        answer(paper::letter(&input.pair.points, input.last_view).map(usize::from))
+    }
+
+    pub fn live(input: &Input, _: &mut [u8]) -> u64 {
+        answer(paper::live(&input.pair.points, CODE))
+    }
+
+    pub fn label(input: &Input, _: &mut [u8]) -> u64 {
+        let (table, points) = (&input.pair.table, &input.pair.points);
+        answer(paper::label(
+            table,
+            points,
+            input.last_view,
+            &mut [0; LABEL],
+        ))
+    }
+
+    pub fn code_label(input: &Input, _: &mut [u8]) -> u64 {
+        let (table, points) = (&input.pair.table, &input.pair.points);
+        answer(paper::code_label(table, points, CODE, 1, &mut [0; LABEL]))
+    }
+
+    pub fn build(input: &Input, room: &mut [u8]) -> u64 {
+        let (table, points) = (&input.pair.table, &input.pair.points);
+        answer(paper::build(table, points, CODE, room))
+    }
+
+    pub fn pack(input: &Input, _: &mut [u8]) -> u64 {
+        answer(paper::open(&input.pack))
+    }
+
+    pub fn pack_label(input: &Input, _: &mut [u8]) -> u64 {
+        let k = input.last_point;
+        answer(paper::pack_label(&input.pack, k, &mut [0; LABEL]))
+    }
+}

@@ -1,0 +1,70 @@
+//! What the calls are asked about.
+
+use paper::make::{exact_pair, full_draft, PackDraft, Pair, Rng, View};
+use ttw::ask;
+
+/// The outward code that most views of the files have.
+pub const CODE: &[u8] = b"AB1 ";
+
+/// The bytes of a fresh label buffer.
+pub const LABEL: usize = 499;
+
+/// A pair of files, and the pack of its commonest code.
+pub struct Input {
+    pub pair: Pair,
+    pub pack: Vec<u8>,
+    /// The last view, and the last point of the pack.
+    pub last_view: u64,
+    pub last_point: u64,
+}
+
+impl Input {
+    /// Files of so many records each.
+    pub fn new(records: usize) -> Input {
+        let pair = exact_pair(&mut Rng::new(8), records, records);
+        let pack = ask::build(&pair.table, &pair.points, CODE, 0).expect("a pack");
+        let last_point = ask::pack(&pack).expect("it opens");
+        Input {
+            last_view: pair.views.len() as u64,
+            last_point,
+            pair,
+            pack,
+        }
+    }
+}
+
+/// A pack of that many localities and points, all of whose offsets point at the
+/// last rows: the hardest to open for a program that walks from the start.
+pub fn far_pack(count: usize) -> Vec<u8> {
+    let PackDraft {
+        rows,
+        points,
+        outward,
+    } = full_draft();
+    let locality = &rows[1];
+    let others = [2, 4, 6, 7, 8].map(|row| rows[row].clone());
+    let mut point = points[0].clone();
+    point.rows = [0, 1, 2, 1, 2, 3, 4, 5].map(|row| Some(count - 1 + row));
+    let mut draft = PackDraft {
+        rows: vec![locality.clone(); count],
+        points: vec![point; count],
+        outward,
+    };
+    draft.rows.extend(others);
+    draft.bytes()
+}
+
+/// A pair of 20,000 records whose views have 2,000 codes by turns: A9 to A99,
+/// B9 and so on.
+pub fn pair_of_many_codes() -> Pair {
+    let letters = b"ABCDEFGHIJKLMNOPRSTUWY";
+    let codes: Vec<String> = (0..2_000)
+        .map(|n| format!("{}{}", char::from(letters[n / 91]), 9 + n % 91))
+        .collect();
+    let Pair { rows, views, .. } = exact_pair(&mut Rng::new(8), 20_000, 20_000);
+    let coded = |(n, view): (usize, View)| View {
+        outward: codes[n % codes.len()].clone(),
+        ..view
+    };
+    Pair::new(rows, views.into_iter().enumerate().map(coded).collect())
+}

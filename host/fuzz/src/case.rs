@@ -1,0 +1,214 @@
+//! One case: inputs from a seed and a number, and every call on them.
+
+use crate::edge::{Edge, Flush};
+use crate::mutate;
+use paper::make::{self, Rng};
+use paper::{packed, Refusal};
+use ttw::calls;
+
+/// What a case's calls were answered with: how often each refusal, 0 for a
+/// value.
+pub type Reached = [u64; 13];
+
+/// The inputs of a case.
+pub struct Case {
+    pub table: Vec<u8>,
+    pub points: Vec<u8>,
+    pub pack: Vec<u8>,
+    pub code: Vec<u8>,
+    pub number: u64,
+    pub room: usize,
+}
+
+/// The case of that number.
+pub fn make(seed: u64, number: u64) -> Case {
+    let mut rng = Rng::new(seed.wrapping_mul(0x9E37_79B9) ^ number.wrapping_mul(0xD129_0B26_11D3));
+    let most = *rng.pick(&[4, 12, 30, 60, 200]);
+    let pair = make::pair(&mut rng, most);
+    let code = code_of(&mut rng, &pair);
+    let mut pack = pack_of(&mut rng, &pair, &code);
+    let (mut table, mut points) = (pair.table, pair.points);
+    if rng.one_in(2) {
+        mutate::file(&mut rng, &mut table, 169);
+    }
+    if rng.one_in(2) {
+        mutate::file(&mut rng, &mut points, 168);
+    }
+    mutate::pack(&mut rng, &mut pack);
+    Case {
+        table,
+        points,
+        pack,
+        code,
+        number: number_of(&mut rng),
+        room: rng.below(600),
+    }
+}
+
+/// Mostly a code of the pair, sometimes another or a malformed one.
+fn code_of(rng: &mut Rng, pair: &make::Pair) -> Vec<u8> {
+    match rng.below(8) {
+        0 => make::bad_outward(rng),
+        1 => make::outward(rng),
+        _ if pair.views.is_empty() => b"AB1 ".to_vec(),
+        _ => make::padded(&rng.pick(&pair.views).outward, 4),
+    }
+}
+
+/// A pack that opens: built from the pair, or drafted by hand.
+fn pack_of(rng: &mut Rng, pair: &make::Pair, code: &[u8]) -> Vec<u8> {
+    let mut built = vec![0; pair.table.len() + pair.points.len()];
+    match paper::build(&pair.table, &pair.points, code, &mut built) {
+        Ok(length) if rng.one_in(2) => {
+            built.truncate(length);
+            built
+        }
+        _ => make::pack_draft(rng, 30).bytes(),
+    }
+}
+
+/// Mostly a low number, as of a view that there may be.
+fn number_of(rng: &mut Rng) -> u64 {
+    match rng.below(10) {
+        0 => u64::MAX - rng.below(2) as u64,
+        1 => 1 << (rng.below(64)),
+        _ => rng.below(12) as u64,
+    }
+}
+
+/// Asks every call about the case, its slices flush at either end.
+pub fn run(case: &Case, reached: &mut Reached) {
+    for flush in Flush::BOTH {
+        let lent = Lent::new(case, flush);
+        lent.ask_reading_calls(case, reached);
+        lent.ask_labels(case, reached);
+        lent.ask_build(case, reached);
+    }
+}
+
+/// A case's slices, lent at an edge.
+struct Lent {
+    flush: Flush,
+    table: Edge,
+    points: Edge,
+    pack: Edge,
+    code: Edge,
+}
+
+impl Lent {
+    fn new(case: &Case, flush: Flush) -> Lent {
+        Lent {
+            flush,
+            table: Edge::readable(&case.table, flush),
+            points: Edge::readable(&case.points, flush),
+            pack: Edge::readable(&case.pack, flush),
+            code: Edge::readable(&case.code, flush),
+        }
+    }
+
+    /// The calls that only read.
+    fn ask_reading_calls(&self, case: &Case, reached: &mut Reached) {
+        let (table, points) = (self.table.bytes(), self.points.bytes());
+        let (pack, code) = (self.pack.bytes(), self.code.bytes());
+        let count = |plain: Result<usize, Refusal>| plain.map(|value| value as u64);
+        let view = case.number;
+        let mut same = |call, ours, plain| same(call, ours, plain, reached);
+        same(
+            "table",
+            calls::table(table),
+            count(paper::check_table(&case.table)),
+        );
+        same(
+            "points",
+            calls::points(points),
+            count(paper::check_points(&case.points)),
+        );
+        same(
+            "views",
+            calls::views(points),
+            count(paper::views(&case.points)),
+        );
+        let letter = paper::letter(&case.points, view).map(u64::from);
+        same("letter", calls::letter(points, view), letter);
+        let live = count(paper::live(&case.points, &case.code));
+        same("live", calls::live(points, code), live);
+        same("pack", calls::pack(pack), count(paper::open(&case.pack)));
+    }
+
+    /// The calls that print a label.
+    fn ask_labels(&self, case: &Case, reached: &mut Reached) {
+        let (table, points) = (self.table.bytes(), self.points.bytes());
+        let (pack, code) = (self.pack.bytes(), self.code.bytes());
+        let Case {
+            number: k, room, ..
+        } = *case;
+        let mut written = |call, room, ours: &dyn Fn(&mut [u8]) -> u64, plain: &Plain| {
+            written(call, self.flush, room, ours, plain, reached)
+        };
+        written(
+            "label",
+            room,
+            &|out| calls::label(table, points, k, out),
+            &|out| paper::label(&case.table, &case.points, k, out),
+        );
+        written(
+            "code label",
+            room,
+            &|out| calls::code_label(table, points, code, k, out),
+            &|out| paper::code_label(&case.table, &case.points, &case.code, k, out),
+        );
+        written(
+            "pack label",
+            room,
+            &|out| calls::pack_label(pack, k, out),
+            &|out| paper::pack_label(&case.pack, k, out),
+        );
+    }
+
+    /// Building, with some room, with just enough, and with a byte less.
+    fn ask_build(&self, case: &Case, reached: &mut Reached) {
+        let (table, points) = (self.table.bytes(), self.points.bytes());
+        let code = self.code.bytes();
+        let ours = |out: &mut [u8]| calls::build(table, points, code, out);
+        let plain = |out: &mut [u8]| paper::build(&case.table, &case.points, &case.code, out);
+        let mut build = |room| written("build", self.flush, room, &ours, &plain, reached);
+        let answer = build(case.room);
+        if answer >> 56 == 10 {
+            let needed = answer as u32 as usize;
+            build(needed);
+            build(needed - 1);
+        }
+    }
+}
+
+/// A call of the second program that writes.
+type Plain<'a> = dyn Fn(&mut [u8]) -> Result<usize, Refusal> + 'a;
+
+/// Asks both programs to write into a buffer of telling bytes at an edge, and
+/// compares answer and buffer.
+fn written(
+    call: &str,
+    flush: Flush,
+    room: usize,
+    ours: &dyn Fn(&mut [u8]) -> u64,
+    plain: &Plain,
+    reached: &mut Reached,
+) -> u64 {
+    let fresh: Vec<u8> = (0..room).map(|i| (i * 7 + 1) as u8).collect();
+    let mut lent = Edge::writable(&fresh, flush);
+    let mut expected = fresh;
+    let answer = ours(lent.bytes_mut());
+    let plain = plain(&mut expected).map(|value| value as u64);
+    same(call, answer, plain, reached);
+    assert!(lent.bytes() == expected, "{call}: the buffers differ");
+    assert!(lent.is_clean_around(), "{call}: bytes beside the buffer");
+    answer
+}
+
+fn same(call: &str, answer: u64, plain: Result<u64, Refusal>, reached: &mut Reached) {
+    assert!(
+        answer == packed(plain),
+        "{call}: the library answers {answer:#x}, the second program {plain:?}"
+    );
+    reached[(answer >> 56) as usize] += 1;
+}

@@ -1,0 +1,102 @@
+//! A short run that ends, is repeatable and reaches every refusal; and that the
+//! edges and the trap would tell.
+
+use fuzz::edge::{Edge, Flush};
+use fuzz::trap;
+use std::hint::black_box;
+use std::process::{Command, Output};
+
+fn fuzz(arguments: &[&str]) -> Output {
+    let mut fuzz = Command::new(env!("CARGO_BIN_EXE_fuzz"));
+    fuzz.args(arguments).output().expect("the command starts")
+}
+
+#[test]
+fn two_thousand_cases_reach_every_refusal_and_repeat() {
+    let run = fuzz(&["--cases", "2000", "--seed", "7"]);
+    let out = String::from_utf8_lossy(&run.stdout).into_owned();
+    assert!(
+        run.status.success(),
+        "{}",
+        String::from_utf8_lossy(&run.stderr)
+    );
+    assert!(out.starts_with("cases: 2000, seed 7, all answered alike\n"));
+    assert_eq!(out.lines().count(), 14);
+    assert!(!out.lines().any(|line| line.ends_with(": 0")), "{out}");
+    let again = fuzz(&["--cases", "2000", "--seed", "7"]);
+    assert_eq!(again.stdout, run.stdout);
+    let other = fuzz(&["--cases", "2000", "--seed", "8"]);
+    assert_ne!(other.stdout, run.stdout);
+}
+
+#[test]
+fn a_run_keeps_to_its_time() {
+    let run = fuzz(&["--seconds", "1"]);
+    assert!(run.status.success());
+    assert!(!run.stdout.starts_with(b"cases: 0,"));
+}
+
+/// The name under which this program runs itself to touch what it may not.
+const TOUCH: &str = "TTW_FUZZ_TOUCH";
+
+/// Touches a byte beside or inside a slice, as the name says.
+fn touch(what: &str) {
+    trap::watch();
+    trap::at_case(4711);
+    let bytes = vec![7; 5000];
+    match what {
+        "behind" => {
+            let edge = Edge::readable(&bytes, Flush::AtEnd);
+            let end = edge.bytes().as_ptr_range().end;
+            // SAFETY: none; the process has to die of it.
+            black_box(unsafe { end.read_volatile() });
+        }
+        "before" => {
+            let edge = Edge::readable(&bytes, Flush::AtStart);
+            let before = edge.bytes().as_ptr().wrapping_sub(1);
+            // SAFETY: none; the process has to die of it.
+            black_box(unsafe { before.read_volatile() });
+        }
+        _ => {
+            let edge = Edge::readable(&bytes, Flush::AtEnd);
+            let inside = edge.bytes().as_ptr().cast_mut();
+            // SAFETY: none; the process has to die of it.
+            unsafe { inside.write_volatile(8) };
+        }
+    }
+}
+
+#[test]
+fn one_byte_outside_traps_and_so_does_a_write_into_what_is_read() {
+    if let Ok(what) = std::env::var(TOUCH) {
+        touch(&what);
+        return;
+    }
+    let this = std::env::current_exe().expect("this program");
+    for what in ["behind", "before", "inside"] {
+        let test = "one_byte_outside_traps_and_so_does_a_write_into_what_is_read";
+        let mut command = Command::new(&this);
+        let run = command
+            .args([test, "--exact", "--nocapture"])
+            .env(TOUCH, what);
+        let Output { status, stderr, .. } = run.output().expect("it starts");
+        assert_eq!(status.code(), Some(trap::TRAPPED), "{what}");
+        let told = "touched forbidden memory in case 00000000000000004711\n";
+        assert!(String::from_utf8_lossy(&stderr).contains(told), "{what}");
+    }
+}
+
+#[test]
+fn a_write_beside_a_buffer_is_seen() {
+    for flush in Flush::BOTH {
+        let mut edge = Edge::writable(&[1; 100], flush);
+        assert!(edge.is_clean_around());
+        let open_side = match flush {
+            Flush::AtEnd => edge.bytes_mut().as_mut_ptr().wrapping_sub(1),
+            Flush::AtStart => edge.bytes_mut().as_mut_ptr().wrapping_add(100),
+        };
+        // SAFETY: the byte is in the same page as the lent ones.
+        unsafe { open_side.write_volatile(0) };
+        assert!(!edge.is_clean_around());
+    }
+}

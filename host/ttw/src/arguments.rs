@@ -1,0 +1,131 @@
+//! What is given on the command line.
+
+use crate::stop::Stop;
+use std::ffi::{OsStr, OsString};
+use std::os::unix::ffi::OsStrExt;
+use std::path::PathBuf;
+
+/// An outward code as it was given.
+#[derive(Clone, Debug, PartialEq, Eq)]
+pub struct Code {
+    /// Padded with spaces to 4 bytes, as the library takes it. A longer code is
+    /// left as it is: to refuse it is the library's part.
+    pub padded: Vec<u8>,
+}
+
+impl Code {
+    pub fn new(given: &[u8]) -> Code {
+        let mut padded = given.to_vec();
+        if padded.len() < 4 {
+            padded.resize(4, b' ');
+        }
+        Code { padded }
+    }
+
+    /// The code without its padding, fit for a screen and a file name.
+    pub fn name(&self) -> String {
+        let text = String::from_utf8_lossy(&self.padded);
+        text.trim_end().escape_debug().to_string()
+    }
+}
+
+/// Files and options, each option at most once.
+#[derive(Default)]
+pub struct Arguments {
+    pub files: Vec<PathBuf>,
+    pub view: Option<u64>,
+    pub code: Option<Code>,
+    pub nth: Option<u64>,
+    pub all: bool,
+    pub out: Option<PathBuf>,
+    pub help: bool,
+    pub version: bool,
+}
+
+/// Reads the arguments behind a command's name; `options` are the ones that it
+/// takes.
+pub fn read(given: &[OsString], options: &[&str]) -> Result<Arguments, Stop> {
+    let mut arguments = Arguments::default();
+    let mut rest = given.iter();
+    while let Some(word) = rest.next() {
+        if word == "--" {
+            arguments.files.extend(rest.by_ref().map(PathBuf::from));
+        } else if word.as_bytes().starts_with(b"-") && word != "-" {
+            let (name, value) = split(word);
+            read_option(&mut arguments, &name, value, &mut rest, options)?;
+        } else {
+            arguments.files.push(PathBuf::from(word));
+        }
+    }
+    Ok(arguments)
+}
+
+/// `--name=value` in its two parts.
+fn split(word: &OsStr) -> (String, Option<OsString>) {
+    let bytes = word.as_bytes();
+    let (name, value) = match bytes.iter().position(|byte| *byte == b'=') {
+        Some(at) => (&bytes[..at], Some(OsStr::from_bytes(&bytes[at + 1..]))),
+        None => (bytes, None),
+    };
+    let name = String::from_utf8_lossy(name).into_owned();
+    (name, value.map(OsStr::to_os_string))
+}
+
+fn read_option<'a>(
+    arguments: &mut Arguments,
+    name: &str,
+    value: Option<OsString>,
+    rest: &mut impl Iterator<Item = &'a OsString>,
+    options: &[&str],
+) -> Result<(), Stop> {
+    let always = ["--help", "--version"].contains(&name);
+    if !always && !options.contains(&name) {
+        return Err(Stop::could_not(format!("there is no option {name} here")));
+    }
+    if always || name == "--all" {
+        if value.is_some() {
+            return Err(Stop::could_not(format!("{name} takes no value")));
+        }
+        return set_mark(arguments, name);
+    }
+    let value = value
+        .or_else(|| rest.next().cloned())
+        .ok_or_else(|| Stop::could_not(format!("{name} needs a value")))?;
+    set_value(arguments, name, &value)
+}
+
+fn set_mark(arguments: &mut Arguments, name: &str) -> Result<(), Stop> {
+    let mark = match name {
+        "--help" => &mut arguments.help,
+        "--version" => &mut arguments.version,
+        _ => &mut arguments.all,
+    };
+    *mark = true;
+    Ok(())
+}
+
+fn set_value(arguments: &mut Arguments, name: &str, value: &OsStr) -> Result<(), Stop> {
+    match name {
+        "--view" => once(&mut arguments.view, name, number(name, value)?),
+        "--nth" => once(&mut arguments.nth, name, number(name, value)?),
+        "--code" => once(&mut arguments.code, name, Code::new(value.as_bytes())),
+        _ => once(&mut arguments.out, name, PathBuf::from(value)),
+    }
+}
+
+/// Sets what was not set before.
+fn once<T>(place: &mut Option<T>, name: &str, value: T) -> Result<(), Stop> {
+    if place.replace(value).is_some() {
+        return Err(Stop::could_not(format!("{name} is given twice")));
+    }
+    Ok(())
+}
+
+fn number(name: &str, value: &OsStr) -> Result<u64, Stop> {
+    let text = value.to_string_lossy();
+    let digits = text.bytes().all(|byte| byte.is_ascii_digit());
+    text.parse()
+        .ok()
+        .filter(|_| digits)
+        .ok_or_else(|| Stop::could_not(format!("{name} takes a whole number, not {text:?}")))
+}

@@ -1,0 +1,109 @@
+//! The calls with their answers taken apart: a value, or a refusal.
+
+use crate::calls;
+
+/// The longest label.
+const LABEL: usize = 499;
+
+/// The refusal of a lent buffer that is too short; its detail is the bytes
+/// needed.
+const ROOM: u8 = 10;
+
+/// Why a call was refused.
+#[derive(Clone, Copy, Debug, PartialEq, Eq)]
+pub struct Refusal {
+    /// 1 to 12.
+    pub number: u8,
+    /// The file to blame: 1 the table file, 2 the point file, 0 no file.
+    pub file: u8,
+    /// The view, where building a pack is refused because of one.
+    pub view: u64,
+    /// The record, rule, field, step or bytes needed, by the number.
+    pub detail: u64,
+}
+
+/// What an answer's number says, bit by bit as the header's macros do.
+pub fn answer(number: u64) -> Result<u64, Refusal> {
+    let refusal = (number >> 56) as u8;
+    if refusal == 0 {
+        return Ok(number);
+    }
+    Err(Refusal {
+        number: refusal,
+        file: (number >> 52 & 0xF) as u8,
+        view: number >> 32 & 0xF_FFFF,
+        detail: number & 0xFFFF_FFFF,
+    })
+}
+
+/// How many records a table file has.
+pub fn table(table: &[u8]) -> Result<u64, Refusal> {
+    answer(calls::table(table))
+}
+
+/// How many records a point file has.
+pub fn points(points: &[u8]) -> Result<u64, Refusal> {
+    answer(calls::points(points))
+}
+
+/// How many views a point file has.
+pub fn views(points: &[u8]) -> Result<u64, Refusal> {
+    answer(calls::views(points))
+}
+
+/// The amendment letter of a view.
+pub fn letter(points: &[u8], view: u64) -> Result<char, Refusal> {
+    answer(calls::letter(points, view)).map(|letter| char::from(letter as u8))
+}
+
+/// How many live views an outward code has.
+pub fn live(points: &[u8], code: &[u8]) -> Result<u64, Refusal> {
+    answer(calls::live(points, code))
+}
+
+/// The label of a view.
+pub fn label(table: &[u8], points: &[u8], view: u64) -> Result<Vec<u8>, Refusal> {
+    printed(|out| calls::label(table, points, view, out))
+}
+
+/// The label of the k-th live view in a code.
+pub fn code_label(table: &[u8], points: &[u8], code: &[u8], k: u64) -> Result<Vec<u8>, Refusal> {
+    printed(|out| calls::code_label(table, points, code, k, out))
+}
+
+/// The pack of a code. Its length is learnt from the refusal of a buffer that
+/// is too short, so that no bound has to be known here; `likely` spares that
+/// round where it is long enough.
+pub fn build(table: &[u8], points: &[u8], code: &[u8], likely: usize) -> Result<Vec<u8>, Refusal> {
+    let mut out = vec![0; likely];
+    let mut built = answer(calls::build(table, points, code, &mut out));
+    if let Err(Refusal {
+        number: ROOM,
+        detail,
+        ..
+    }) = built
+    {
+        out.resize(detail as usize, 0);
+        built = answer(calls::build(table, points, code, &mut out));
+    }
+    out.truncate(built? as usize);
+    Ok(out)
+}
+
+/// How many points a pack has.
+pub fn pack(pack: &[u8]) -> Result<u64, Refusal> {
+    answer(calls::pack(pack))
+}
+
+/// The label of the k-th point of a pack.
+pub fn pack_label(pack: &[u8], k: u64) -> Result<Vec<u8>, Refusal> {
+    printed(|out| calls::pack_label(pack, k, out))
+}
+
+/// The label that a call prints into a fresh buffer.
+fn printed(call: impl FnOnce(&mut [u8]) -> u64) -> Result<Vec<u8>, Refusal> {
+    let mut out = vec![0; LABEL];
+    let length = answer(call(&mut out))?;
+    out.truncate(length as usize);
+    Ok(out)
+}

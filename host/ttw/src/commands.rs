@@ -1,0 +1,218 @@
+//! The five commands. What they answer comes from the library's calls.
+
+use crate::arguments::{Arguments, Code};
+use crate::files::{make_folder, read_pack, write_whole};
+use crate::order::in_order;
+use crate::pair::Pair;
+use crate::progress::Progress;
+use crate::stop::{tell, Ended, Outcome, Stop};
+use std::io::{self, BufWriter, StdoutLock, Write};
+use std::path::Path;
+use std::slice;
+use ttw::ask::{self, Refusal};
+use ttw::words::words;
+
+/// Room that most packs fit into.
+const LIKELY_PACK: usize = 1 << 16;
+
+fn output() -> BufWriter<StdoutLock<'static>> {
+    BufWriter::new(io::stdout().lock())
+}
+
+/// `ttw check`: how many records and views, or what is refused.
+pub fn check(given: &Arguments) -> Outcome {
+    let pair = Pair::read_accepted(&given.files)?;
+    let refused = |why| Stop::Refused(words(&why, "files"));
+    let table = ask::table(&pair.table).map_err(refused)?;
+    let points = ask::points(&pair.points).map_err(refused)?;
+    let views = ask::views(&pair.points).map_err(refused)?;
+    let mut out = output();
+    writeln!(out, "table: {table} records")?;
+    writeln!(out, "points: {points} records, {views} views")?;
+    out.flush()?;
+    Ok(Ended::Done)
+}
+
+/// `ttw codes`: each outward code with live views, and how many.
+pub fn codes(given: &Arguments) -> Outcome {
+    let pair = Pair::read_accepted(&given.files)?;
+    let mut out = output();
+    for (code, live) in live_codes(&pair)? {
+        writeln!(out, "{} {live}", code.name())?;
+    }
+    out.flush()?;
+    Ok(Ended::Done)
+}
+
+/// The codes with live views, rising.
+fn live_codes(pair: &Pair) -> Result<Vec<(Code, u64)>, Stop> {
+    let mut codes = Vec::new();
+    let ask = |code: &Vec<u8>| ask::live(&pair.points, code);
+    in_order(&pair.candidates(), ask, |code, live| {
+        let code = Code::new(code);
+        let live = live.map_err(|why| Stop::Refused(words(&why, &code.name())))?;
+        if live > 0 {
+            codes.push((code, live));
+        }
+        Ok::<(), Stop>(())
+    })?;
+    Ok(codes)
+}
+
+/// `ttw labels`: one label, those of a code, or all.
+pub fn labels(given: &Arguments) -> Outcome {
+    let (view, code, nth) = (given.view, given.code.as_ref(), given.nth);
+    if view.is_some() && (code.is_some() || nth.is_some()) {
+        let words = "--view stands alone, without --code and --nth";
+        return Err(Stop::could_not(words.to_string()));
+    }
+    if nth.is_some() && code.is_none() {
+        return Err(Stop::could_not("--nth needs --code".to_string()));
+    }
+    let Pair { table, points } = &Pair::read_accepted(&given.files)?;
+    match (view, code, nth) {
+        (Some(view), _, _) => print_one(&format!("view {view}"), ask::label(table, points, view)),
+        (None, Some(code), Some(k)) => print_one(
+            &format!("{} number {k}", code.name()),
+            ask::code_label(table, points, &code.padded, k),
+        ),
+        (None, Some(code), None) => labels_of_code(table, points, code),
+        (None, None, _) => labels_of_all(table, points),
+    }
+}
+
+/// A label alone, so that it can be sent on as it is.
+fn print_one(subject: &str, label: Result<Vec<u8>, Refusal>) -> Outcome {
+    let label = label.map_err(|why| Stop::Refused(words(&why, subject)))?;
+    let mut out = output();
+    out.write_all(&label)?;
+    out.flush()?;
+    Ok(Ended::Done)
+}
+
+fn labels_of_code(table: &[u8], points: &[u8], code: &Code) -> Outcome {
+    let name = code.name();
+    let live = ask::live(points, &code.padded)
+        .map_err(|why| Stop::Refused(words(&why, &format!("code {name}"))))?;
+    list(live, |k| Entry {
+        heading: format!("{name} number {k}"),
+        subject: format!("{name} number {k}"),
+        label: ask::code_label(table, points, &code.padded, k),
+    })
+}
+
+fn labels_of_all(table: &[u8], points: &[u8]) -> Outcome {
+    let views = ask::views(points).map_err(|why| Stop::Refused(words(&why, "files")))?;
+    list(views, |view| {
+        let letter = ask::letter(points, view).map_or(String::new(), |letter| format!(" {letter}"));
+        Entry {
+            heading: format!("view {view}{letter}"),
+            subject: format!("view {view}"),
+            label: ask::label(table, points, view),
+        }
+    })
+}
+
+/// One of many labels.
+struct Entry {
+    heading: String,
+    subject: String,
+    label: Result<Vec<u8>, Refusal>,
+}
+
+/// Prints the labels numbered from 1 under their headings; a refused one says
+/// why in its place, and the run goes on.
+fn list(count: u64, ask: impl Fn(u64) -> Entry + Sync) -> Outcome {
+    let numbers: Vec<u64> = (1..=count).collect();
+    let mut out = output();
+    let mut refused = 0;
+    in_order(
+        &numbers,
+        |number| ask(*number),
+        |_, entry| {
+            writeln!(out, "{}", entry.heading)?;
+            match entry.label {
+                Ok(label) => out.write_all(&label)?,
+                Err(why) => {
+                    refused += 1;
+                    writeln!(out, "refused: {}", words(&why, &entry.subject))?;
+                }
+            }
+            Ok::<(), Stop>(())
+        },
+    )?;
+    out.flush()?;
+    tell(&format!(
+        "labels printed: {}, refused: {refused}",
+        count - refused
+    ));
+    Ok(Ended::after(refused))
+}
+
+/// `ttw pack`: the pack of one code, or of every code with live views.
+pub fn pack(given: &Arguments) -> Outcome {
+    let Some(folder) = &given.out else {
+        return Err(Stop::could_not("pack needs --out FOLDER".to_string()));
+    };
+    match (&given.code, given.all) {
+        (Some(code), false) => {
+            let pair = Pair::read_accepted(&given.files)?;
+            cut(&pair, slice::from_ref(code), folder)
+        }
+        (None, true) => {
+            let pair = Pair::read_accepted(&given.files)?;
+            let codes: Vec<Code> = live_codes(&pair)?
+                .into_iter()
+                .map(|(code, _)| code)
+                .collect();
+            cut(&pair, &codes, folder)
+        }
+        _ => Err(Stop::could_not(
+            "pack needs either --code or --all".to_string(),
+        )),
+    }
+}
+
+/// Cuts the packs of these codes. A refused code is told and the others go on;
+/// a pack that cannot be written ends the run, since the next could not be
+/// written either.
+fn cut(pair: &Pair, codes: &[Code], folder: &Path) -> Outcome {
+    let mut progress = Progress::new(codes.len());
+    let (mut written, mut refused) = (0u64, 0u64);
+    let ask = |code: &Code| ask::build(&pair.table, &pair.points, &code.padded, LIKELY_PACK);
+    let ended = in_order(codes, ask, |code, pack| {
+        progress.step(&code.name());
+        match pack {
+            Ok(pack) => {
+                make_folder(folder)?;
+                write_whole(folder, &format!("{}.pack", code.name()), &pack)?;
+                written += 1;
+            }
+            Err(why) => {
+                refused += 1;
+                progress.clear();
+                tell(&words(&why, &format!("code {}", code.name())));
+            }
+        }
+        Ok(())
+    });
+    progress.clear();
+    tell(&format!(
+        "packs written: {written}, codes refused: {refused}"
+    ));
+    ended.map(|()| Ended::after(refused))
+}
+
+/// `ttw show`: the labels of a pack.
+pub fn show(given: &Arguments) -> Outcome {
+    let pack = read_pack(&given.files[0])?;
+    let points = ask::pack(&pack).map_err(|why| Stop::Refused(words(&why, "pack")))?;
+    match given.nth {
+        Some(k) => print_one(&format!("point {k}"), ask::pack_label(&pack, k)),
+        None => list(points, |k| Entry {
+            heading: format!("point {k}"),
+            subject: format!("point {k}"),
+            label: ask::pack_label(&pack, k),
+        }),
+    }
+}

@@ -1,0 +1,69 @@
+//! Reading and writing whole files.
+
+use crate::stop::Stop;
+use std::fs::{self, File};
+use std::io::{self, Read, Write};
+use std::path::{Path, PathBuf};
+use std::process;
+
+/// One byte more than the longest file that the library accepts, 20,000 table
+/// records: so much is enough to have a longer file refused, and a disk image
+/// given by mistake does not fill the memory.
+const CHANGES_READ: u64 = 20_000 * 169 + 1;
+
+/// No pack of a pair of files comes near this length.
+const PACK_READ: u64 = 64 << 20;
+
+/// A Changes file, or as much of it as is needed to refuse it.
+pub fn read_changes(path: &Path) -> Result<Vec<u8>, Stop> {
+    read_at_most(path, CHANGES_READ)
+}
+
+/// A pack file.
+pub fn read_pack(path: &Path) -> Result<Vec<u8>, Stop> {
+    let pack = read_at_most(path, PACK_READ + 1)?;
+    if pack.len() as u64 > PACK_READ {
+        let shown = path.display();
+        return Err(Stop::could_not(format!("{shown} is too long for a pack")));
+    }
+    Ok(pack)
+}
+
+fn read_at_most(path: &Path, most: u64) -> Result<Vec<u8>, Stop> {
+    let mut bytes = Vec::new();
+    File::open(path)
+        .and_then(|file| file.take(most).read_to_end(&mut bytes))
+        .map_err(|why| Stop::could_not(format!("cannot read {}: {why}", path.display())))?;
+    Ok(bytes)
+}
+
+/// Makes the folder where it is missing.
+pub fn make_folder(folder: &Path) -> Result<(), Stop> {
+    fs::create_dir_all(folder)
+        .map_err(|why| Stop::could_not(format!("cannot make {}: {why}", folder.display())))
+}
+
+/// Writes a file whole or not at all. The bytes go to a name of their own and
+/// reach the disk before the file gets its name, so that a full disk, a kill or
+/// a power cut leaves the older file, if there was one, as it was.
+pub fn write_whole(folder: &Path, name: &str, bytes: &[u8]) -> Result<(), Stop> {
+    let part = folder.join(format!(".{name}.{}.part", process::id()));
+    let path = folder.join(name);
+    put(&part, bytes)
+        .and_then(|()| fs::rename(&part, &path))
+        .map_err(|why| {
+            remove(&part);
+            Stop::could_not(format!("cannot write {}: {why}", path.display()))
+        })
+}
+
+fn put(part: &PathBuf, bytes: &[u8]) -> io::Result<()> {
+    let mut file = File::create(part)?;
+    file.write_all(bytes)?;
+    file.sync_all()
+}
+
+/// Takes away what was written so far; that the writing failed is told already.
+fn remove(part: &PathBuf) {
+    let _ = fs::remove_file(part);
+}

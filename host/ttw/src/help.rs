@@ -1,0 +1,104 @@
+//! What `ttw help` prints.
+
+/// `ttw --help`.
+pub const OVERVIEW: &str = "\
+ttw prints labels from Royal Mail's Changes files and cuts packs for handsets.
+
+  ttw check  CHANGES1 CHANGES2                     are both files accepted?
+  ttw codes  CHANGES1 CHANGES2                     outward codes with live views
+  ttw labels CHANGES1 CHANGES2 [--view N | --code AB1 [--nth K]]
+  ttw pack   CHANGES1 CHANGES2 (--code AB1 | --all) --out FOLDER
+  ttw show   PACK [--nth K]                        the labels of a pack
+
+  ttw help TOPIC      a command, or: files, refusals, status
+  ttw --version
+
+Exit status: 0 done, 1 something was refused, 2 could not.
+";
+
+/// The topics that are not commands.
+pub const TOPICS: [(&str, &str); 3] =
+    [("files", FILES), ("refusals", REFUSALS), ("status", STATUS)];
+
+pub const CHECK: &str = "\
+ttw check CHANGES1 CHANGES2
+
+Says how many records both files have, and how many views the point file has.
+A refused file is told with the record at which its first fault stands; where
+both are refused, both are told.
+";
+
+pub const CODES: &str = "\
+ttw codes CHANGES1 CHANGES2
+
+Prints each outward code that has live views, rising, and how many. A view is
+live if its amendment letter is I or C.
+";
+
+pub const LABELS: &str = "\
+ttw labels CHANGES1 CHANGES2 [--view N | --code AB1 [--nth K]]
+
+Prints labels. Without options those of all views, each under its number and
+amendment letter; with --code those of the live views in that code.
+
+  --view N     the label of view N alone
+  --code AB1   the live views of an outward code
+  --nth K      with --code: the label of the K-th of them alone
+
+A single label is printed as it stands, ready to be sent on. In a list a
+refused label says why in its place, and the list goes on.
+";
+
+pub const PACK: &str = "\
+ttw pack CHANGES1 CHANGES2 (--code AB1 | --all) --out FOLDER
+
+Cuts the pack of an outward code into FOLDER/AB1.pack, with --all one for each
+code that has live views. The folder is made where it is missing.
+
+A pack with one label that cannot be printed is not cut: the code is refused,
+with the view to mend, and the other codes go on. A pack file is written under
+another name first and renamed when it is whole, so that a refused code, a full
+disk or a kill leaves an older pack as it was. After a kill a file such as
+.AB1.pack.4711.part may stay behind; it can be deleted.
+";
+
+pub const SHOW: &str = "\
+ttw show PACK [--nth K]
+
+Checks a pack and prints the labels of its points, numbered from 1.
+
+  --nth K      the label of point K alone
+";
+
+const FILES: &str = "\
+CHANGES1 is the table file: localities, thoroughfares, descriptors, building
+names and sub building names, 169 bytes a record. CHANGES2 is the point file
+(Single Changes too): delivery points and organisations, 168 bytes a record.
+Both come without line ends, with a header first and a trailer last.
+A PACK is a file that ttw pack has cut.
+";
+
+const REFUSALS: &str = "\
+ 1  a file's length is not that of 2 to 20,000 whole records
+ 2  its header is malformed
+ 3  its trailer is malformed, or has another count
+ 4  a record is malformed
+ 5  a record is not above the record before it
+ 6  a record lacks its organisation record, or is a stray one
+ 7  no view or point of that number
+ 8  a forbidden combination: 1 sub building without building name or number,
+    2 dependent thoroughfare without thoroughfare, 3 descriptor without its
+    thoroughfare
+ 9  a key has no row in the table file, or the locality's key is zero: 1 locality,
+    2 thoroughfare, 3 descriptor, 4 dependent thoroughfare, 5 its descriptor,
+    6 building name, 7 sub building
+10  the room is too short
+11  a pack is damaged: 1 its end, 2 its rows, 3 its points
+12  not an outward code
+";
+
+const STATUS: &str = "\
+0  done
+1  something was refused; what and why is told
+2  could not: wrong usage, or a file could not be read or written
+";

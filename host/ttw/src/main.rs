@@ -1,0 +1,133 @@
+//! The command `ttw`. It reads and writes files and puts answers into words;
+//! every answer comes from the proved library.
+
+mod arguments;
+mod commands;
+mod files;
+mod help;
+mod order;
+mod pair;
+mod progress;
+mod stop;
+
+use arguments::Arguments;
+use std::ffi::OsString;
+use std::io::{self, Write};
+use std::process::ExitCode;
+use stop::{Ended, Outcome, Stop};
+
+/// A command: its files, the options that it takes, its help and its work.
+struct Command {
+    name: &'static str,
+    files: usize,
+    options: &'static [&'static str],
+    help: &'static str,
+    run: fn(&Arguments) -> Outcome,
+}
+
+const COMMANDS: [Command; 5] = [
+    Command {
+        name: "check",
+        files: 2,
+        options: &[],
+        help: help::CHECK,
+        run: commands::check,
+    },
+    Command {
+        name: "codes",
+        files: 2,
+        options: &[],
+        help: help::CODES,
+        run: commands::codes,
+    },
+    Command {
+        name: "labels",
+        files: 2,
+        options: &["--view", "--code", "--nth"],
+        help: help::LABELS,
+        run: commands::labels,
+    },
+    Command {
+        name: "pack",
+        files: 2,
+        options: &["--code", "--all", "--out"],
+        help: help::PACK,
+        run: commands::pack,
+    },
+    Command {
+        name: "show",
+        files: 1,
+        options: &["--nth"],
+        help: help::SHOW,
+        run: commands::show,
+    },
+];
+
+fn main() -> ExitCode {
+    let given: Vec<OsString> = std::env::args_os().skip(1).collect();
+    stop::status(run(&given))
+}
+
+fn run(given: &[OsString]) -> Outcome {
+    let Some((first, rest)) = given.split_first() else {
+        return Err(misused("no command is given", "help"));
+    };
+    let name = first.to_string_lossy();
+    match name.as_ref() {
+        "--help" | "-h" => print(help::OVERVIEW),
+        "--version" | "-V" => print_version(),
+        "help" => print_help(rest),
+        _ => match COMMANDS.iter().find(|command| command.name == name) {
+            Some(command) => run_command(command, rest),
+            None => Err(misused(&format!("there is no command {name:?}"), "help")),
+        },
+    }
+}
+
+fn run_command(command: &Command, rest: &[OsString]) -> Outcome {
+    let given = arguments::read(rest, command.options)?;
+    if given.help {
+        return print(command.help);
+    }
+    if given.version {
+        return print_version();
+    }
+    if given.files.len() != command.files {
+        let (wanted, got) = (command.files, given.files.len());
+        let words = format!("{} takes files: {wanted}, given: {got}", command.name);
+        return Err(misused(&words, &format!("help {}", command.name)));
+    }
+    (command.run)(&given)
+}
+
+/// `ttw help`, and `ttw help TOPIC`.
+fn print_help(rest: &[OsString]) -> Outcome {
+    let Some(topic) = rest.first() else {
+        return print(help::OVERVIEW);
+    };
+    let topic = topic.to_string_lossy();
+    let commands = COMMANDS.iter().map(|command| (command.name, command.help));
+    match commands
+        .chain(help::TOPICS)
+        .find(|(name, _)| *name == topic)
+    {
+        Some((_, text)) => print(text),
+        None => Err(misused(&format!("there is no help on {topic:?}"), "help")),
+    }
+}
+
+fn print_version() -> Outcome {
+    print(concat!("ttw ", env!("CARGO_PKG_VERSION"), "\n"))
+}
+
+fn print(text: &str) -> Outcome {
+    let mut out = io::stdout().lock();
+    out.write_all(text.as_bytes())?;
+    out.flush()?;
+    Ok(Ended::Done)
+}
+
+/// Wrong usage, and where the right one is told.
+fn misused(words: &str, see: &str) -> Stop {
+    Stop::could_not(format!("{words}; see: ttw {see}"))
+}

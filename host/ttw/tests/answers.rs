@@ -1,0 +1,197 @@
+//! What the command prints where all is well, and that it is what the second
+//! program answers.
+
+mod support;
+
+use paper::make::{exact_pair, pair, worked_pair, Pair, Rng, View};
+use support::Folder;
+
+/// The second program's pack.
+fn plain_pack(pair: &Pair, code: &[u8]) -> Vec<u8> {
+    let mut out = vec![0; pair.table.len() + pair.points.len()];
+    let length = paper::build(&pair.table, &pair.points, code, &mut out).expect("a pack");
+    out.truncate(length);
+    out
+}
+
+fn plain_label(pair: &Pair, view: u64) -> String {
+    let label = paper::label_of(&pair.table, &pair.points, view).expect("a label");
+    String::from_utf8(label).expect("text")
+}
+
+#[test]
+fn check_counts_records_and_views() {
+    let folder = Folder::with_pair(&worked_pair());
+    let run = folder.ttw(&["check", "changes1", "changes2"]);
+    run.prints("table: 7 records\npoints: 4 records, 2 views\n");
+    assert_eq!(run.told, "");
+}
+
+#[test]
+fn codes_rise_and_have_live_views() {
+    let view = |outward: &str, letter: u8, address_key: u32| View {
+        outward: outward.to_string(),
+        letter,
+        address_key,
+        ..View::default()
+    };
+    let views = vec![
+        view("W1A", b'I', 1),
+        view("AB1", b'C', 2),
+        view("AB1", b'I', 3),
+        view("EC1N", b'D', 4),
+        view("B1", b'B', 5),
+        view("AB10", b'I', 6),
+    ];
+    let folder = Folder::with_pair(&Pair::new(Vec::new(), views));
+    let run = folder.ttw(&["codes", "changes1", "changes2"]);
+    run.prints("AB1 2\nAB10 1\nW1A 1\n");
+}
+
+#[test]
+fn a_single_label_is_printed_as_it_stands() {
+    let pair = worked_pair();
+    let folder = Folder::with_pair(&pair);
+    let label = plain_label(&pair, 1);
+    let files = ["labels", "changes1", "changes2"];
+    let ask = |options: &[&str]| folder.ttw(&[&files[..], options].concat());
+    ask(&["--view", "1"]).prints(&label);
+    ask(&["--view=1"]).prints(&label);
+    ask(&["--code", "AB1", "--nth", "1"]).prints(&label);
+    ask(&["--code", "AB1 ", "--nth", "1"]).prints(&label);
+    assert_eq!(ask(&["--view", "1"]).told, "");
+}
+
+#[test]
+fn a_list_goes_on_after_a_refused_label() {
+    let pair = worked_pair();
+    let folder = Folder::with_pair(&pair);
+    let run = folder.ttw(&["labels", "changes1", "changes2"]);
+    let reason = "the building name's key has no row in the table file (refusal 9, field 6)";
+    let label = plain_label(&pair, 1);
+    let out = format!("view 1 I\n{label}view 2 D\nrefused: view 2: {reason}\n");
+    assert_eq!((run.status, run.out), (Some(1), out));
+    assert_eq!(run.told, "labels printed: 1, refused: 1\n");
+    let live = folder.ttw(&["labels", "changes1", "changes2", "--code", "AB1"]);
+    live.prints(&format!("AB1 number 1\n{label}"));
+}
+
+#[test]
+fn every_label_of_random_pairs_is_the_second_programs() {
+    let mut rng = Rng::new(61);
+    let mut refused = 0;
+    for _ in 0..25 {
+        let pair = pair(&mut rng, 60);
+        let folder = Folder::with_pair(&pair);
+        let run = folder.ttw(&["labels", "changes1", "changes2"]);
+        let mut lines = run.out.lines();
+        for (number, view) in (1..).zip(&pair.views) {
+            let heading = format!("view {number} {}", char::from(view.letter));
+            assert_eq!(lines.next(), Some(heading.as_str()));
+            match paper::label_of(&pair.table, &pair.points, number) {
+                Ok(label) => {
+                    let label = String::from_utf8(label).expect("text");
+                    label
+                        .lines()
+                        .for_each(|line| assert_eq!(lines.next(), Some(line)));
+                }
+                Err(why) => {
+                    refused += 1;
+                    let line = lines.next().expect("a line");
+                    let number = format!("(refusal {}, ", why.number);
+                    assert!(
+                        line.starts_with("refused: ") && line.contains(&number),
+                        "{line}"
+                    );
+                }
+            }
+        }
+        assert_eq!(lines.next(), None);
+    }
+    assert!(refused > 0);
+}
+
+#[test]
+fn packs_are_the_second_programs_and_show_their_labels() {
+    let pair = exact_pair(&mut Rng::new(62), 300, 300);
+    let folder = Folder::with_pair(&pair);
+    let run = folder.ttw(&["pack", "changes1", "changes2", "--all", "--out", "a/b"]);
+    run.only_tells(0, "packs written: 3, codes refused: 0");
+    assert_eq!(folder.names("a/b"), ["AB1.pack", "AB10.pack", "B1A.pack"]);
+    for (name, code) in [("AB1", b"AB1 "), ("AB10", b"AB10"), ("B1A", b"B1A ")] {
+        let pack = folder.read(&format!("a/b/{name}.pack"));
+        assert!(pack == plain_pack(&pair, code));
+        let options = ["labels", "changes1", "changes2", "--code", name];
+        let from_files = folder.ttw(&options).out;
+        let from_pack = folder.ttw(&["show", &format!("a/b/{name}.pack")]).out;
+        assert!(from_files.replace(&format!("{name} number "), "point ") == from_pack);
+        assert!(from_pack.starts_with("point 1\n"));
+    }
+}
+
+#[test]
+fn a_pack_longer_than_the_first_room_is_whole() {
+    let pair = exact_pair(&mut Rng::new(63), 4_000, 4_000);
+    let folder = Folder::with_pair(&pair);
+    let arguments = [
+        "pack", "changes1", "changes2", "--code", "AB1", "--out", ".",
+    ];
+    assert_eq!(folder.ttw(&arguments).status, Some(0));
+    let pack = folder.read("AB1.pack");
+    assert!(pack.len() > 1 << 16, "{}", pack.len());
+    assert!(pack == plain_pack(&pair, b"AB1 "));
+}
+
+#[test]
+fn a_code_without_live_views_gives_the_pack_of_21_bytes() {
+    let folder = Folder::with_pair(&worked_pair());
+    let arguments = [
+        "pack", "changes1", "changes2", "--code", "EC1N", "--out", ".",
+    ];
+    folder
+        .ttw(&arguments)
+        .only_tells(0, "packs written: 1, codes refused: 0");
+    assert_eq!(folder.read("EC1N.pack").len(), 21);
+    folder.ttw(&["show", "EC1N.pack"]).prints("");
+}
+
+#[test]
+fn point_k_of_a_pack_is_printed_alone() {
+    let pair = worked_pair();
+    let folder = Folder::with_pair(&pair);
+    folder.put("a.pack", &plain_pack(&pair, b"AB1 "));
+    folder
+        .ttw(&["show", "a.pack", "--nth", "1"])
+        .prints(&plain_label(&pair, 1));
+}
+
+#[test]
+fn help_and_version_are_everywhere() {
+    let folder = Folder::new();
+    let version = format!("ttw {}\n", env!("CARGO_PKG_VERSION"));
+    folder.ttw(&["--version"]).prints(&version);
+    let overview = folder.ttw(&["--help"]);
+    folder.ttw(&["help"]).prints(&overview.out);
+    for command in ["check", "codes", "labels", "pack", "show"] {
+        let help = folder.ttw(&["help", command]);
+        assert!(help.out.starts_with(&format!("ttw {command} ")), "{help:?}");
+        folder.ttw(&[command, "--help"]).prints(&help.out);
+        folder.ttw(&[command, "--version"]).prints(&version);
+        assert!(overview.out.contains(&format!("ttw {command} ")));
+    }
+    for topic in ["files", "refusals", "status"] {
+        assert_eq!(folder.ttw(&["help", topic]).status, Some(0));
+    }
+}
+
+#[test]
+fn a_system_without_threads_is_enough() {
+    let pair = exact_pair(&mut Rng::new(64), 300, 300);
+    let folder = Folder::with_pair(&pair);
+    let usual = folder.ttw(&["labels", "changes1", "changes2"]);
+    // No address space is left for the stack of a thread.
+    let line = "ulimit -v 3000000; exec \"$TTW\" labels changes1 changes2";
+    let without = folder.shell(&format!("export RUST_MIN_STACK=4000000000; {line}"));
+    assert_eq!(without.status, usual.status);
+    assert!(without.out == usual.out, "{}", without.told);
+}

@@ -1,0 +1,489 @@
+//! Bad input of every kind: a clear message, the right status, nothing lost.
+
+mod support;
+
+use paper::make::{damaged_packs, exact_pair, worked_pair, Pair, Rng, TableRow, View};
+use std::fs;
+use std::process::{Command, Stdio};
+use std::time::{Duration, Instant};
+use support::{is_installed, Folder, Run, TTW};
+
+fn worked() -> Folder {
+    Folder::with_pair(&worked_pair())
+}
+
+#[test]
+fn a_missing_file() {
+    let why = "No such file or directory (os error 2)";
+    let folder = worked();
+    let told = format!("ttw: cannot read changes9: {why}");
+    folder
+        .ttw(&["check", "changes1", "changes9"])
+        .only_tells(2, &told);
+    folder
+        .ttw(&["codes", "changes9", "changes2"])
+        .only_tells(2, &told);
+    folder
+        .ttw(&["labels", "changes9", "changes2"])
+        .only_tells(2, &told);
+    let pack = ["pack", "changes9", "changes2", "--all", "--out", "packs"];
+    folder.ttw(&pack).only_tells(2, &told);
+    assert_eq!(folder.names("."), ["changes1", "changes2"]);
+    let told = format!("ttw: cannot read a.pack: {why}");
+    folder.ttw(&["show", "a.pack"]).only_tells(2, &told);
+}
+
+#[test]
+fn a_folder_for_a_file() {
+    let folder = worked();
+    let told = "ttw: cannot read .: Is a directory (os error 21)";
+    folder.ttw(&["check", ".", "changes2"]).only_tells(2, told);
+    folder.ttw(&["show", "."]).only_tells(2, told);
+}
+
+#[test]
+fn a_file_that_cannot_be_read() {
+    let folder = worked();
+    // Its first bytes belong to no one, so that not even root may read them.
+    let told = "ttw: cannot read /proc/self/mem: Input/output error (os error 5)";
+    folder
+        .ttw(&["check", "changes1", "/proc/self/mem"])
+        .only_tells(2, told);
+    folder.ttw(&["show", "/proc/self/mem"]).only_tells(2, told);
+}
+
+/// Runs `ttw` as someone who may read and write only what anybody may; none
+/// where this test may not become someone else.
+fn as_nobody(folder: &Folder, arguments: &str) -> Option<Run> {
+    let plain = folder.shell("test $(id -u) != 0").status == Some(0);
+    if !plain && !is_installed("setpriv") {
+        return None;
+    }
+    let nobody = "setpriv --reuid=65534 --regid=65534 --clear-groups";
+    let become_nobody = if plain { "" } else { nobody };
+    let line = format!("cp \"$TTW\" ttw; chmod 755 ttw; {become_nobody} ./ttw {arguments}");
+    Some(folder.shell(&line))
+}
+
+#[test]
+fn files_and_folders_of_someone_else() {
+    let folder = worked();
+    folder.put("AB1.pack", b"older");
+    fs::create_dir(folder.0.join("packs")).expect("a folder");
+    folder
+        .shell("chmod 755 .; chmod 555 packs; chmod 000 AB1.pack")
+        .prints("");
+    if let Some(run) = as_nobody(&folder, "show AB1.pack") {
+        let denied = "Permission denied (os error 13)";
+        run.only_tells(2, &format!("ttw: cannot read AB1.pack: {denied}"));
+        let pack = "pack changes1 changes2 --all --out packs";
+        let run = as_nobody(&folder, pack).expect("as before");
+        let told = format!("ttw: cannot write packs/AB1.pack: {denied}");
+        run.only_tells(2, &format!("packs written: 0, codes refused: 0\n{told}"));
+        assert!(folder.names("packs").is_empty());
+    }
+}
+
+#[test]
+fn empty_files() {
+    let folder = worked();
+    folder.put("empty", b"");
+    let length = "the length is not that of 2 to 20,000 whole records (refusal 1)";
+    let run = folder.ttw(&["check", "empty", "empty"]);
+    run.only_tells(1, &format!("table: {length}\npoints: {length}"));
+    let run = folder.ttw(&["labels", "changes1", "empty"]);
+    run.only_tells(1, &format!("points: {length}"));
+    let told = "pack: not a pack, or its end is damaged (refusal 11, step 1)";
+    folder.ttw(&["show", "empty"]).only_tells(1, told);
+}
+
+#[test]
+fn huge_files_are_refused_at_once_and_fill_no_memory() {
+    let folder = worked();
+    let huge = fs::File::create(folder.0.join("huge")).expect("a file");
+    huge.set_len(1 << 40).expect("a file with holes");
+    let length = "the length is not that of 2 to 20,000 whole records (refusal 1)";
+    let line = "ulimit -v 1000000; exec \"$TTW\" check huge huge";
+    folder
+        .shell(line)
+        .only_tells(1, &format!("table: {length}\npoints: {length}"));
+    let line = "ulimit -v 1000000; exec \"$TTW\" show huge";
+    folder
+        .shell(line)
+        .only_tells(2, "ttw: huge is too long for a pack");
+    folder
+        .ttw(&["check", "changes1", "/dev/zero"])
+        .only_tells(1, &format!("points: {length}"));
+}
+
+#[test]
+fn a_file_of_one_record_too_many() {
+    let folder = worked();
+    folder.put("long", &vec![b'0'; 20_001 * 169]);
+    let told = "table: the length is not that of 2 to 20,000 whole records (refusal 1)";
+    folder
+        .ttw(&["check", "long", "changes2"])
+        .only_tells(1, told);
+}
+
+#[test]
+fn the_wrong_files() {
+    let folder = worked();
+    let pack = [
+        "pack", "changes1", "changes2", "--code", "AB1", "--out", ".",
+    ];
+    assert_eq!(folder.ttw(&pack).status, Some(0));
+    let length = "the length is not that of 2 to 20,000 whole records (refusal 1)";
+    let run = folder.ttw(&["check", "AB1.pack", "changes2"]);
+    run.only_tells(1, &format!("table: {length}"));
+    let run = folder.ttw(&["check", "changes2", "changes1"]);
+    run.only_tells(1, &format!("table: {length}\npoints: {length}"));
+    let told = "pack: not a pack, or its end is damaged (refusal 11, step 1)";
+    folder.ttw(&["show", "changes1"]).only_tells(1, told);
+}
+
+/// The worked pair with bytes written over its files.
+fn scratched(table: &[(usize, &[u8])], points: &[(usize, &[u8])]) -> Folder {
+    let mut pair = worked_pair();
+    for (file, changes) in [(&mut pair.table, table), (&mut pair.points, points)] {
+        for (at, bytes) in changes {
+            file[*at..at + bytes.len()].copy_from_slice(bytes);
+        }
+    }
+    Folder::with_pair(&pair)
+}
+
+#[test]
+fn each_refusal_of_a_file_names_file_and_record() {
+    let check = ["check", "changes1", "changes2"];
+    let header = scratched(&[(9, b"X")], &[]);
+    header.ttw(&check).only_tells(
+        1,
+        "table: record 1 is not the header of such a file (refusal 2)",
+    );
+    let trailer = scratched(&[], &[(3 * 168 + 14, b"00000005")]);
+    let told = "points: record 4, the last, is not a trailer with the right count (refusal 3)";
+    trailer.ttw(&check).only_tells(1, told);
+    let malformed = scratched(&[(2 * 169 + 1, b"X")], &[]);
+    malformed
+        .ttw(&check)
+        .only_tells(1, "table: record 3 is malformed (refusal 4)");
+    let sequence = scratched(&[], &[(2 * 168, b"20110801")]);
+    let told = "points: record 3 is not above the record before it (refusal 5)";
+    sequence.ttw(&check).only_tells(1, told);
+    let follower = scratched(&[], &[(168 + 32, b"00000001")]);
+    let told = "points: record 2 lacks its organisation record, or is a stray one (refusal 6)";
+    follower.ttw(&check).only_tells(1, told);
+}
+
+#[test]
+fn numbers_and_codes_that_do_not_exist() {
+    let folder = worked();
+    let ask =
+        |options: &[&str]| folder.ttw(&[&["labels", "changes1", "changes2"], options].concat());
+    let none = "there is none of that number (refusal 7)";
+    ask(&["--view", "0"]).only_tells(1, &format!("view 0: {none}"));
+    ask(&["--view", "3"]).only_tells(1, &format!("view 3: {none}"));
+    ask(&["--code", "AB1", "--nth", "0"]).only_tells(1, &format!("AB1 number 0: {none}"));
+    ask(&["--code", "AB1", "--nth", "2"]).only_tells(1, &format!("AB1 number 2: {none}"));
+    let most = u64::MAX.to_string();
+    ask(&["--view", &most]).only_tells(1, &format!("view {most}: {none}"));
+    let no_code = "not an outward code, such as AB1 or EC1N in capitals (refusal 12)";
+    ask(&["--code", "ab1"]).only_tells(1, &format!("code ab1: {no_code}"));
+    ask(&["--code", ""]).only_tells(1, &format!("code : {no_code}"));
+    ask(&["--code", "AB1 9ZZ", "--nth", "1"])
+        .only_tells(1, &format!("AB1 9ZZ number 1: {no_code}"));
+    let pack = [
+        "pack", "changes1", "changes2", "--code", "ab1", "--out", "packs",
+    ];
+    let told = format!("code ab1: {no_code}\npacks written: 0, codes refused: 1");
+    folder.ttw(&pack).only_tells(1, &told);
+    let out = [
+        "pack", "changes1", "changes2", "--code", "../x", "--out", "packs",
+    ];
+    let told = format!("code ../x: {no_code}\npacks written: 0, codes refused: 1");
+    folder.ttw(&out).only_tells(1, &told);
+    assert_eq!(folder.names("."), ["changes1", "changes2"]);
+}
+
+#[test]
+fn point_0_of_a_pack() {
+    let folder = worked();
+    let pack = [
+        "pack", "changes1", "changes2", "--code", "AB1", "--out", ".",
+    ];
+    assert_eq!(folder.ttw(&pack).status, Some(0));
+    for k in ["0", "2"] {
+        let told = format!("point {k}: there is none of that number (refusal 7)");
+        folder
+            .ttw(&["show", "AB1.pack", "--nth", k])
+            .only_tells(1, &told);
+    }
+}
+
+#[test]
+fn damaged_packs_name_the_step() {
+    let folder = Folder::new();
+    let words = [
+        "not a pack, or its end is damaged",
+        "the rows are damaged",
+        "the points are damaged",
+    ];
+    let packs = damaged_packs();
+    for step in 1..=3 {
+        let damaged = packs.iter().find(|damaged| damaged.step == step as u64);
+        folder.put("a.pack", &damaged.expect("a pack for each step").pack);
+        let told = format!("pack: {} (refusal 11, step {step})", words[step - 1]);
+        folder.ttw(&["show", "a.pack"]).only_tells(1, &told);
+    }
+}
+
+/// Wrong usage, and what is told about it.
+const MISUSES: [(&[&str], &str); 16] = [
+    (&[], "no command is given; see: ttw help"),
+    (&["chekc"], "there is no command \"chekc\"; see: ttw help"),
+    (&["help", "me"], "there is no help on \"me\"; see: ttw help"),
+    (
+        &["check"],
+        "check takes files: 2, given: 0; see: ttw help check",
+    ),
+    (
+        &["show", "a", "b"],
+        "show takes files: 1, given: 2; see: ttw help show",
+    ),
+    (
+        &["check", "--all", "a", "b"],
+        "there is no option --all here",
+    ),
+    (&["labels", "a", "b", "--nth", "1"], "--nth needs --code"),
+    (&["labels", "a", "b", "--view"], "--view needs a value"),
+    (
+        &["labels", "a", "b", "--view", "x"],
+        "--view takes a whole number, not \"x\"",
+    ),
+    (
+        &["labels", "a", "b", "--view", "-1"],
+        "--view takes a whole number, not \"-1\"",
+    ),
+    (
+        &["labels", "a", "b", "--view=1", "--view=2"],
+        "--view is given twice",
+    ),
+    (
+        &["labels", "a", "b", "--view", "1", "--code", "AB1"],
+        "--view stands alone, without --code and --nth",
+    ),
+    (&["pack", "a", "b", "--all"], "pack needs --out FOLDER"),
+    (
+        &["pack", "a", "b", "--out", "c"],
+        "pack needs either --code or --all",
+    ),
+    (
+        &["pack", "a", "b", "--out", "c", "--all", "--code", "AB1"],
+        "pack needs either --code or --all",
+    ),
+    (&["show", "a", "--help=1"], "--help takes no value"),
+];
+
+#[test]
+fn wrong_usage() {
+    let folder = worked();
+    for (arguments, told) in MISUSES {
+        folder.ttw(arguments).only_tells(2, &format!("ttw: {told}"));
+    }
+}
+
+#[test]
+fn files_whose_names_look_like_options() {
+    let folder = worked();
+    folder.put("--all", &worked_pair().table);
+    let run = folder.ttw(&["check", "--", "--all", "changes2"]);
+    run.prints("table: 7 records\npoints: 4 records, 2 views\n");
+}
+
+/// A pair with codes A1 to A9, the view of A5 without its building.
+fn pair_with_one_bad_code() -> Pair {
+    let views = (1..=9)
+        .map(|n| View {
+            outward: format!("A{n}"),
+            locality: 1,
+            building: if n == 5 { 7 } else { 0 },
+            address_key: n,
+            ..View::default()
+        })
+        .collect();
+    Pair::new(vec![TableRow::locality(1, "HARTWELL BAY", "", "")], views)
+}
+
+#[test]
+fn a_refused_code_does_not_stop_the_others_and_keeps_its_older_pack() {
+    let folder = Folder::with_pair(&pair_with_one_bad_code());
+    folder.put("A5.pack", b"older");
+    let run = folder.ttw(&["pack", "changes1", "changes2", "--all", "--out", "."]);
+    let reason = "the building name's key has no row in the table file (refusal 9, field 6)";
+    let told = format!("code A5: view 5: {reason}\npacks written: 8, codes refused: 1");
+    run.only_tells(1, &told);
+    assert_eq!(folder.read("A5.pack"), b"older");
+    assert_eq!(folder.names(".").len(), 2 + 9, "nothing else stays behind");
+    folder
+        .ttw(&["show", "A9.pack"])
+        .prints("point 1\nHARTWELL BAY\nA9 9ZZ\n");
+}
+
+#[test]
+fn a_full_output_for_labels() {
+    let folder = worked();
+    let full = "ttw: cannot print: No space left on device (os error 28)";
+    for command in ["check", "codes", "labels"] {
+        let line = format!("\"$TTW\" {command} changes1 changes2 >/dev/full");
+        folder.shell(&line).only_tells(2, full);
+    }
+    let help = folder.shell("\"$TTW\" --help >/dev/full");
+    help.only_tells(2, full);
+    let unread = folder.shell("\"$TTW\" check nothing changes2 2>/dev/full");
+    assert_eq!(unread.status, Some(2), "the status stays");
+}
+
+#[test]
+fn output_that_nobody_reads() {
+    // More than a pipe holds, so that the writer has to meet its closed end.
+    let pair = exact_pair(&mut Rng::new(71), 300, 3_000);
+    let folder = Folder::with_pair(&pair);
+    let run = folder.shell("\"$TTW\" labels changes1 changes2 | head -n 1; echo ${PIPESTATUS[0]}");
+    assert_eq!(run.told, "");
+    assert!(run.out.ends_with("\n2\n"), "{run:?}");
+}
+
+#[test]
+fn a_disk_on_which_nothing_more_can_be_written() {
+    let folder = worked();
+    folder.put("AB1.pack", b"older");
+    // No file may grow: each write fails as it does on a full disk.
+    let pack = "exec \"$TTW\" pack changes1 changes2 --all --out .";
+    let run = folder.shell(&format!("trap '' XFSZ; ulimit -f 0; {pack}"));
+    let why = "cannot write ./AB1.pack: File too large (os error 27)";
+    run.only_tells(
+        2,
+        &format!("packs written: 0, codes refused: 0\nttw: {why}"),
+    );
+    assert_eq!(folder.read("AB1.pack"), b"older");
+    assert_eq!(folder.names("."), ["AB1.pack", "changes1", "changes2"]);
+}
+
+#[test]
+fn a_full_disk() {
+    let folder = worked();
+    fs::create_dir(folder.0.join("disk")).expect("a folder");
+    // A disk of one page, filled but for the older pack.
+    let line = "unshare --user --map-root-user --mount bash -c '
+        mount -t tmpfs -o size=8k none disk || exit 77
+        echo older >disk/AB1.pack
+        head -c 4096 /dev/zero >disk/rest
+        \"$TTW\" pack changes1 changes2 --all --out disk
+        status=$?
+        cat disk/AB1.pack
+        ls -A disk
+        exit $status'";
+    let run = folder.shell(line);
+    if run.status == Some(77) || run.told.contains("unshare") {
+        return; // Not allowed here; the test above stands in.
+    }
+    let why = "cannot write disk/AB1.pack: No space left on device (os error 28)";
+    let told = format!("packs written: 0, codes refused: 0\nttw: {why}\n");
+    assert_eq!((run.status, run.told), (Some(2), told));
+    assert_eq!(run.out, "older\nAB1.pack\nrest\n");
+}
+
+#[test]
+fn a_folder_that_cannot_be_made() {
+    let folder = worked();
+    let run = folder.ttw(&[
+        "pack",
+        "changes1",
+        "changes2",
+        "--all",
+        "--out",
+        "changes1/packs",
+    ]);
+    let why = "cannot make changes1/packs: Not a directory (os error 20)";
+    run.only_tells(
+        2,
+        &format!("packs written: 0, codes refused: 0\nttw: {why}"),
+    );
+}
+
+/// A pair with a view in each of many codes, and with enough rows that a run
+/// takes a while.
+fn pair_of_many_codes() -> Pair {
+    let codes = (b'A'..=b'H').flat_map(|letter| (10..90).map(move |n| (letter, n)));
+    let views = codes
+        .zip(1..)
+        .map(|((letter, n), address_key)| View {
+            outward: format!("{}{n}", char::from(letter)),
+            locality: 1,
+            address_key,
+            ..View::default()
+        })
+        .collect();
+    let rows = (1..3_000).map(|key| TableRow::locality(key, "HARTWELL BAY", "", ""));
+    Pair::new(rows.collect(), views)
+}
+
+/// How many packs of the folder are no longer the older ones.
+fn cut_so_far(folder: &Folder) -> usize {
+    let names = folder.names("packs");
+    let packs = names.iter().filter(|name| !name.starts_with('.'));
+    packs
+        .filter(|name| folder.read(&format!("packs/{name}")) != b"older")
+        .count()
+}
+
+#[test]
+fn an_interrupted_run_leaves_each_pack_older_or_whole() {
+    let pair = pair_of_many_codes();
+    let folder = Folder::with_pair(&pair);
+    fs::create_dir(folder.0.join("packs")).expect("a folder");
+    for view in &pair.views {
+        folder.put(&format!("packs/{}.pack", view.outward), b"older");
+    }
+    let mut child = Command::new(TTW)
+        .args(["pack", "changes1", "changes2", "--all", "--out", "packs"])
+        .current_dir(&folder.0)
+        .stderr(Stdio::null())
+        .spawn()
+        .expect("the command starts");
+    let start = Instant::now();
+    while cut_so_far(&folder) < 20 && start.elapsed() < Duration::from_secs(60) {}
+    child.kill().expect("killed");
+    assert!(!child.wait().expect("ended").success(), "it was at work");
+    let cut = cut_so_far(&folder);
+    assert!((20..pair.views.len()).contains(&cut), "{cut}");
+    for view in &pair.views {
+        let pack = folder.read(&format!("packs/{}.pack", view.outward));
+        assert!(pack == b"older" || paper::open(&pack) == Ok(1));
+    }
+    let again = folder.ttw(&["pack", "changes1", "changes2", "--all", "--out", "packs"]);
+    again.only_tells(0, "packs written: 640, codes refused: 0");
+    assert_eq!(cut_so_far(&folder), pair.views.len());
+}
+
+#[test]
+fn progress_is_for_a_terminal_alone() {
+    let folder = Folder::with_pair(&pair_with_one_bad_code());
+    let pack = "pack changes1 changes2 --all --out .";
+    assert!(!folder
+        .shell(&format!("\"$TTW\" {pack}"))
+        .told
+        .contains("of 9"));
+    if !is_installed("script") {
+        return; // There is no other terminal to try it on.
+    }
+    let on_terminal = folder.shell(&format!(
+        "script -qec '\"$TTW\" {pack}' /dev/null </dev/null"
+    ));
+    assert_eq!(on_terminal.status, Some(1), "{on_terminal:?}");
+    assert!(
+        on_terminal.out.contains("\r\u{1b}[KA9 (9 of 9)\r\u{1b}[K"),
+        "{on_terminal:?}"
+    );
+}

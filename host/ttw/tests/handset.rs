@@ -1,0 +1,127 @@
+//! `examples/handset.c`: compiled from the header alone without a warning, run
+//! on packs good and bad, and once more under valgrind where it is installed.
+
+mod support;
+
+use paper::make::{damaged_packs, worked_pair};
+use std::path::{Path, PathBuf};
+use std::process::Command;
+use support::{is_installed, root, run, Folder, Run};
+
+const LABEL: &str = "ATTIC FLAT\n110-114 QUARRY LANE\nHARTWELL BAY\nAB1 9ZZ\n";
+
+/// The example, compiled into the folder.
+fn compiled(folder: &Folder) -> PathBuf {
+    let program = folder.0.join("handset");
+    let mut cc = Command::new("cc");
+    cc.args(["-std=c11", "-g", "-Wall", "-Wextra", "-Werror", "-pedantic"])
+        .arg("-I")
+        .arg(root().join("include"))
+        .arg(root().join("examples/handset.c"))
+        .arg(root().join("target/staticlib/libttwibonal.a"))
+        .arg("-o")
+        .arg(&program);
+    run(&mut cc).prints("");
+    program
+}
+
+/// A folder with the packs that are tried.
+fn packs() -> Folder {
+    let folder = Folder::with_pair(&worked_pair());
+    let pack = [
+        "pack", "changes1", "changes2", "--code", "AB1", "--out", ".",
+    ];
+    assert_eq!(folder.ttw(&pack).status, Some(0));
+    for step in 1..=3 {
+        let packs = damaged_packs();
+        let damaged = packs.iter().find(|damaged| damaged.step == step);
+        let pack = &damaged.expect("a pack for each step").pack;
+        folder.put(&format!("damaged{step}.pack"), pack);
+    }
+    folder.put("empty.pack", b"");
+    folder
+}
+
+/// What the program is asked, its exit status and what it prints.
+const ASKED: [(&[&str], i32, &str); 8] = [
+    (&["AB1.pack"], 0, "points: 1\n"),
+    (&["AB1.pack", "1"], 0, LABEL),
+    (
+        &["AB1.pack", "0"],
+        1,
+        "This pack has no point of that number.\n",
+    ),
+    (
+        &["AB1.pack", "2"],
+        1,
+        "This pack has no point of that number.\n",
+    ),
+    (
+        &["empty.pack"],
+        1,
+        "This pack is damaged: its end. Load it again.\n",
+    ),
+    (
+        &["damaged1.pack"],
+        1,
+        "This pack is damaged: its end. Load it again.\n",
+    ),
+    (
+        &["damaged2.pack", "1"],
+        1,
+        "This pack is damaged: its rows. Load it again.\n",
+    ),
+    (
+        &["damaged3.pack", "1"],
+        1,
+        "This pack is damaged: its points. Load it again.\n",
+    ),
+];
+
+fn ask_all(folder: &Folder, command: impl Fn() -> Command) {
+    for (arguments, status, out) in ASKED {
+        let asked = run(command().args(arguments).current_dir(&folder.0));
+        let expected = Run {
+            status: Some(status),
+            out: out.to_string(),
+            told: String::new(),
+        };
+        assert_eq!(asked, expected, "{arguments:?}");
+    }
+}
+
+#[test]
+fn the_example_prints_labels_and_says_refusals() {
+    let folder = packs();
+    let program = compiled(&folder);
+    ask_all(&folder, || Command::new(&program));
+    let missing = run(Command::new(&program)
+        .arg("none.pack")
+        .current_dir(&folder.0));
+    missing.only_tells(
+        2,
+        "handset: cannot load none.pack: No such file or directory",
+    );
+    for arguments in [&[][..], &["AB1.pack", "x"], &["AB1.pack", "1", "2"]] {
+        let misused = run(Command::new(&program)
+            .args(arguments)
+            .current_dir(&folder.0));
+        misused.only_tells(2, "usage: handset PACK [NUMBER]");
+    }
+}
+
+fn under_valgrind(program: &Path) -> Command {
+    let mut command = Command::new("valgrind");
+    command.args(["--quiet", "--error-exitcode=9", "--leak-check=full"]);
+    command.arg(program);
+    command
+}
+
+#[test]
+fn valgrind_finds_nothing_in_the_example() {
+    if is_installed("valgrind") {
+        let folder = packs();
+        let program = compiled(&folder);
+        ask_all(&folder, || under_valgrind(&program));
+    }
+}
