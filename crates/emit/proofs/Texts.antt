@@ -18,17 +18,18 @@ use Rattle.emit.specs.Emit.{sized, localityTexts, followerTexts}
 pub texts-last : (t : List ℕ) → sized t ≡ textsBytes (t ∷ [])
 texts-last t = ap (length t ∷_) (sym (append-nil t))
 
-pub texts-of-locality : (rec : List ℕ) → getD rec 0 0 ≡ 49 → textsOf rec ≡ localityTexts rec
+texts-of-locality : (rec : List ℕ) → getD rec 0 0 ≡ 49 → textsOf rec ≡ localityTexts rec
 texts-of-locality rec e = simp (eq-eqb (getD rec 0 0) 49 e)
 
-pub texts-of-other : (rec : List ℕ) → (getD rec 0 0 ≡ 49 → ⊥)
+texts-of-other : (rec : List ℕ) → (getD rec 0 0 ≡ 49 → ⊥)
     → textsOf rec ≡ textIn rec 24 (textEnd (getD rec 0 0)) ∷ []
 texts-of-other rec n =
     simp (ne-eqb (getD rec 0 0) 49 n)
     (by-type (eqb (getD rec 0 0) 50) (eqb (getD rec 0 0) 51) (eqb (getD rec 0 0) 52))
   where
     by-type : (s t u : Bool)
-        → cond s (textIn rec 24 84 ∷ []) (cond t (textIn rec 24 44 ∷ []) (cond u (textIn rec 24 74 ∷ []) (textIn rec 24 54 ∷ [])))
+        → cond s (textIn rec 24 84 ∷ [])
+        (cond t (textIn rec 24 44 ∷ []) (cond u (textIn rec 24 74 ∷ []) (textIn rec 24 54 ∷ [])))
         ≡ textIn rec 24 (cond s 84 (cond t 44 (cond u 74 54))) ∷ []
     by-type true t u = refl
     by-type false true u = refl

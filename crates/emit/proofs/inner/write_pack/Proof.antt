@@ -70,16 +70,11 @@ trailer-at-requires c κs =
     let c₂ = c₃ .before .before .before .before in
     let c₁ = c₂ .before .before .before .before in
     let s = c₁ .before .before .before .before .before .before .before in
-    let a = s .args in
-    let table = a .table .now in
-    let points = a .points .now in
-    let starts = a .starts .now in
-    let code = a .code .now in
     let g = after-points (s .pre) (c₁ .rows-at .ensures) (c₂ .organisations-at .ensures) (c₃ .points-at .ensures) in
     let left = going-left g (pack-room (s .pre)) in
     let room =
     going-left (after-organisations (s .pre) (c₁ .rows-at .ensures) (c₂ .organisations-at .ensures)) (pack-room (s .pre)) in
-    (omega (arith, room, s .pre .of-points, count-bound code points, s .good), left)
+    (omega (arith, room, s .pre .of-points, count-bound (s .args .code .now) (s .args .points .now), s .good), left)
 
 same-length : tie.Need-same-length
 same-length c = search needs
