@@ -29,8 +29,8 @@ fn write_if_room(
     requires { ⌜ Marked (now table) (now points) (now code) (now starts) ⌝ }
     ensures { λ r. ⌜ (r ≡ roomAnswer (packOf (tableLookup (now (table .entry))) (liveIn (now (table .entry)) (now (points .entry)) (now (code .entry))) (now (code .entry))) (now (out .entry))) × (now (out .exit) ≡ roomMemory (packOf (tableLookup (now (table .entry))) (liveIn (now (table .entry)) (now (points .entry)) (now (code .entry))) (now (code .entry))) (now (out .entry))) ⌝ }
 {
-    let of_table = marks::place_rows(table, starts);
-    let of_points = marks::organisations_in(points, code);
+    let of_table = marks::inner::place_rows(table, starts);
+    let of_points = marks::inner::organisations_in(points, code);
     let count = views::count_wanted(points, code);
     let needed = of_table.bytes + of_points.bytes + POINT * count + TRAILER;
     if out.len() < needed {
@@ -49,7 +49,7 @@ fn cut(table: &[u8], points: &[u8], code: &[u8], out: &mut [u8]) -> Answer
     ensures { λ r. ⌜ (r ≡ cutAnswer (tableLookup (now (table .entry))) (liveIn (now (table .entry)) (now (points .entry)) (now (code .entry))) (now (code .entry)) (now (out .entry))) × (now (out .exit) ≡ cutMemory (tableLookup (now (table .entry))) (liveIn (now (table .entry)) (now (points .entry)) (now (code .entry))) (now (code .entry)) (now (out .entry))) ⌝ }
 {
     let mut starts = [0u32; RECORDS];
-    match marks::mark_views(table, points, code, &mut starts) {
+    match marks::inner::mark_views(table, points, code, &mut starts) {
         Verdict::Fine => write_if_room(table, points, code, &mut starts, out),
         Verdict::Bad(reason) => Answer::Refused { file: 0, reason },
     }

@@ -1,6 +1,6 @@
 // The rows of the organisations.
-use crate::pieces::byte_at;
-use crate::pieces::two_texts_at;
+use crate::fields::two_texts_at;
+use pieces::inner::byte_at;
 use record::Organisation;
 ghost use Prim.Native.Nat.{_+_, _<_, _≤_};
 ghost use lib.ListN.{length};

@@ -1,12 +1,11 @@
 // The points of a pack and its trailer.
-use crate::pieces::byte_at;
-use crate::pieces::bytes_at;
-use crate::pieces::part_at;
-use crate::pieces::short_at;
-use crate::pieces::word_at;
+use crate::fields::part_at;
+use crate::fields::short_at;
+use crate::fields::word_at;
 use crate::starts::above;
 use crate::starts::start_of;
-use record::Organisation;
+use pieces::inner::byte_at;
+use pieces::inner::bytes_at;
 use record::Point;
 use record::View;
 ghost use mathlib.Core.Path.{_≡_};
@@ -145,20 +144,6 @@ fn point_at(
     word_at(organisation_offset(rec, row), j, out)
 }
 
-// How many bytes the organisation's row of the view at a place has.
-fn organisation_len(points: &[u8], place: usize) -> usize
-    requires { ⌜ place < length (now points) ⌝ }
-    ensures { λ r. ⌜ r ≡ length (organisationAt (now (points .entry)) place) ⌝ }
-{
-    if files::needed_next(record::point_record(points, place)) == 0 {
-        return 0;
-    }
-    let next = record::point_record(points, place + 1);
-    let name = text::read_text(next, Organisation::NAME, Organisation::DEPARTMENT);
-    let department = text::read_text(next, Organisation::DEPARTMENT, Organisation::DEPARTMENT_END);
-    3 + name.len() + department.len()
-}
-
 // The points of all views of a code, the organisations' rows standing from `start` on.
 pub fn points_at(
     table: &[u8],
@@ -179,7 +164,7 @@ pub fn points_at(
     while place < last {
         let rec = record::point_record(points, place);
         end = point_at(table, starts, rec, row, end, out);
-        row += organisation_len(points, place);
+        row += marks::inner::organisation_len(points, place);
         place = views::next_wanted(points, code, place + 1);
     }
     end

@@ -1,9 +1,9 @@
 // The rows of the table file that have a start.
-use crate::pieces::byte_at;
-use crate::pieces::text_at;
-use crate::pieces::two_texts_at;
+use crate::fields::text_at;
+use crate::fields::two_texts_at;
 use crate::starts::above;
 use crate::starts::start_of;
+use pieces::inner::byte_at;
 use record::Locality;
 use record::Table;
 ghost use Prim.Native.Nat.{_+_, _≤_};

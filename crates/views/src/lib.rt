@@ -61,15 +61,15 @@ pub fn count_wanted(points: &[u8], code: &[u8]) -> usize
 pub fn number_at(points: &[u8], place: usize) -> usize
     ensures { λ r. ⌜ r ≡ viewNumber (now (points .entry)) place ⌝ }
 {
-    let mut n = 0;
+    let mut views = 0;
     let mut i = 0;
     while i < place {
         i += 1;
         if is_wanted(record::point_record(points, i), &points[..0]) {
-            n += 1;
+            views += 1;
         }
     }
-    n
+    views
 }
 
 // The place of the `k`-th that is wanted, counted from 1; 0 where there is none.

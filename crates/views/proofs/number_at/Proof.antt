@@ -39,8 +39,8 @@ slice-aggregate-is-wanted c = search needs
 is-wanted-requires : tie.Need-is-wanted-requires Inv-loop μ-loop
 is-wanted-requires c κs = search needs
 
-add-n : tie.Need-add-n Inv-loop μ-loop
-add-n c = search needs
+add-views : tie.Need-add-views Inv-loop μ-loop
+add-views c = search needs
 
 loop-less : tie.Need-loop-less Inv-loop μ-loop
 loop-less c = search needs
@@ -83,7 +83,7 @@ number-at-spec =
     point-record-requires
     slice-aggregate-is-wanted
     is-wanted-requires
-    add-n
+    add-views
     loop-less
     loop-again
     loop-less-2

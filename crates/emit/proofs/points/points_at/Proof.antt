@@ -82,7 +82,7 @@ add-row c =
     let code = s .args .code .now in
     let points = s .args .points .now in
     let more = organisations-length code points (l .loop .place) (l .loop .inv .1) (omega (arith, f .last-of .ensures)) in
-    omega (arith, more, c .organisation-len .ensures, l .loop .inv .2, s .pre .1)
+    omega (arith, more, c .organisation-len .ensures .0, l .loop .inv .2, s .pre .1)
 
 add-next-wanted : tie.Need-add-next-wanted Inv-loop μ-loop
 add-next-wanted c = search needs
@@ -114,7 +114,7 @@ loop-again c =
     let same = point-is table points starts (r .point-record .result .now) row i (r .point-record .ensures) in
     let rest = pointsLeft table points starts code (row + length (organisationAt points i)) (nextWanted code points (i + 1)) in
     let more = organisations-length code points i (l .loop .inv .1) (omega (arith, f .last-of .ensures)) in
-    rw (c .next-wanted2 .ensures, c₂ .organisation-len .ensures) (
+    rw (c .next-wanted2 .ensures, c₂ .organisation-len .ensures .0) (
       c₁ .point-at .kept .1 .1 .1 .1 .1 .0 ∙ l .loop .inv .0,
       next-next code points (i + 1),
       omega (arith, more, l .loop .inv .2),
