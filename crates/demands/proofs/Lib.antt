@@ -1,2 +1,5 @@
 pub mod Listed
+pub mod One
+pub mod Two
 pub mod Three
+pub mod Run

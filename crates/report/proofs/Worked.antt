@@ -14,10 +14,11 @@ use Rattle.faults.specs.Fields.{oneOf, keyFault}
 use Rattle.faults.specs.Point.{pointFault}
 use Rattle.faults.specs.Table.{doubleFault, tableFault}
 use Rattle.files.specs.Check.{judged, verdict, checked}
-use Rattle.files.specs.Formats.{needed, follows, placed}
+use Rattle.files.specs.Formats.{changes, needed, follows, placed}
 use Rattle.views.specs.Views.{wanted, wantedIn, wantedCount, wantedAt}
 use Rattle.rows.specs.Rows.{rowOf}
 use Rattle.rows.specs.Search.{found}
+use Rattle.address.proofs.Worked.{bay, quarry, lane, range, attic}
 use Rattle.address.specs.Resolve.{forbidden, missing, elementsOf, resolve}
 use Rattle.source.specs.Addresses.{addressOf}
 use Rattle.source.specs.Rows.{digitsOf, tableLookup}
@@ -33,39 +34,15 @@ field n t = take n (t ++ replicate n 32)
 abbrev row : ℕ → ℕ → List ℕ → List ℕ
 row kind key rest = (48 + kind) ∷ (digitsOf 8 key ++ (replicate 14 48 ++ (32 ∷ field 145 rest)))
 
--- CHANGES and a digit
-abbrev changes : ℕ → List ℕ
-changes n = 67 ∷ 72 ∷ 65 ∷ 78 ∷ 71 ∷ 69 ∷ 83 ∷ n ∷ []
-
--- HARTWELL BAY
-abbrev hartwell-bay : List ℕ
-hartwell-bay = 72 ∷ 65 ∷ 82 ∷ 84 ∷ 87 ∷ 69 ∷ 76 ∷ 76 ∷ 32 ∷ 66 ∷ 65 ∷ 89 ∷ []
-
--- QUARRY
-abbrev quarry : List ℕ
-quarry = 81 ∷ 85 ∷ 65 ∷ 82 ∷ 82 ∷ 89 ∷ []
-
--- LANE
-abbrev lane : List ℕ
-lane = 76 ∷ 65 ∷ 78 ∷ 69 ∷ []
-
--- 110-114
-abbrev range : List ℕ
-range = 49 ∷ 49 ∷ 48 ∷ 45 ∷ 49 ∷ 49 ∷ 52 ∷ []
-
--- ATTIC FLAT
-abbrev attic-flat : List ℕ
-attic-flat = 65 ∷ 84 ∷ 84 ∷ 73 ∷ 67 ∷ 32 ∷ 70 ∷ 76 ∷ 65 ∷ 84 ∷ []
-
 -- "locality 1 HARTWELL BAY, thoroughfare 7 QUARRY, descriptor 3 LANE, building 9 `110-114`, sub building 4 ATTIC FLAT"
-abbrev table : List ℕ
+abbrev pub table : List ℕ
 table =
-    (replicate 9 32 ++ (changes 49 ++ replicate 152 32))
-    ++ (row 1 1 (replicate 45 32 ++ hartwell-bay)
+    (replicate 9 0 ++ (changes 49 ++ replicate 152 32))
+    ++ (row 1 1 (replicate 45 32 ++ bay)
     ++ (row 2 7 quarry
     ++ (row 3 3 lane
     ++ (row 4 9 range
-    ++ (row 5 4 attic-flat
+    ++ (row 5 4 attic
     ++ (replicate 9 255 ++ (digitsOf 8 7 ++ replicate 152 32)))))))
 
 -- a view of AB1 9ZZ on a day, with a letter and a building key; it "uses all five"
@@ -86,9 +63,9 @@ view day letter building =
     ++ (digitsOf 8 4
     ++ (digitsOf 4 1 ++ (replicate 8 32 ++ (digitsOf 2 1 ++ replicate 52 32))))))))))))))))
 
-abbrev points : List ℕ
+abbrev pub points : List ℕ
 points =
-    (replicate 14 32 ++ (changes 50 ++ replicate 146 32))
+    (replicate 14 0 ++ (changes 50 ++ replicate 146 32))
     ++ (view 20_110_901 73 9
     ++ (view 20_110_902 68 10 ++ (replicate 14 255 ++ (digitsOf 8 4 ++ replicate 146 32))))
 
