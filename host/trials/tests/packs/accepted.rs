@@ -90,7 +90,6 @@ fn equal_rows_and_equal_points() {
     assert_prints(&draft(&rows, &[point.clone(), point]), &[label; 2]);
 }
 
-/// The key rises in a built pack, and with it nothing that is in the row: rows of a type stand in any order.
 #[test]
 fn one_row_as_thoroughfare_and_dependent_thoroughfare() {
     let rows = [town(), row(2, &["QUARRY"]), row(3, &["LANE"])];

@@ -2,7 +2,7 @@
 //! comes from the second program; the counts say that a trial reached what it is for.
 
 use crate::worked::worked_pack;
-use paper::make::{pack_draft, Rng};
+use paper::make::{pack_draft, PackPoint, Rng};
 use trials::packs::{ask, draft, large_user, mend, no_pack, row, small_user};
 use trials::rooms::refusal;
 
@@ -36,10 +36,14 @@ fn small_users_pack() -> Vec<u8> {
     draft(&rows, &[small_user(1)]).bytes()
 }
 
-/// A large user's organisation without a name: one damage makes it a small user's.
+/// A large user's organisation without a name: one damage makes it a small user's, who has a key and would need one.
 fn large_users_pack() -> Vec<u8> {
     let rows = [row(1, &["HOLT", "ASH", "ELM"]), row(6, &["", "B"])];
-    draft(&rows, &[large_user(1)]).bytes()
+    let point = PackPoint {
+        organisation_key: 7,
+        ..large_user(1)
+    };
+    draft(&rows, &[point]).bytes()
 }
 
 fn small_packs() -> [Vec<u8>; 3] {
