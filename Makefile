@@ -9,7 +9,7 @@ SEED = 1
 CARGO = cargo --offline --quiet
 
 help:
-	@echo 'make run       print the labels of the sample files'
+	@echo 'make run       print the labels of the sample files and cut their packs'
 	@echo 'make test      prove every crate, try the must-fail edits, run the host tests'
 	@echo 'make ttw       build the command ttw: host/target/release/ttw'
 	@echo 'make install   copy library, header, pkg-config file and ttw below PREFIX=/usr/local'
@@ -17,9 +17,11 @@ help:
 	@echo 'make fuzz      try the calls on mutated input for SECONDS=60 from SEED=1'
 	@echo 'make annotate  print the pack of docs/PACK.md byte by byte'
 
-run:
+# The samples have a code that is refused, which ttw tells with status 1.
+run: ttw
 	@rt check labels >/dev/null
 	@cd samples && ../target/bin/labels
+	@host/target/release/ttw pack samples/changes1 samples/changes2 --all --out target/packs 2>&1; [ $$? -le 1 ]
 
 test:
 	@scripts/test

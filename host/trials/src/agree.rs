@@ -1,6 +1,7 @@
 //! Each call of the library asked beside the second program. An answer is
 //! handed back only where both give it and the lent bytes are as they were.
 
+use paper::make::Pair;
 use paper::{packed, Refusal};
 use std::hint::black_box;
 use ttw::calls;
@@ -74,8 +75,69 @@ pub fn code_label(table: &[u8], points: &[u8], code: &[u8], k: u64, room: usize)
     )
 }
 
+/// The pack of a code, or the refusal, with a buffer of so many bytes.
+#[track_caller]
+pub fn build(table: &[u8], points: &[u8], code: &[u8], room: usize) -> u64 {
+    let library = |out: &mut [u8]| {
+        lent(table, |table| {
+            lent(points, |points| {
+                lent(code, |code| calls::build(table, points, code, out))
+            })
+        })
+    };
+    printed(
+        &format!("pack of {code:?} into {room} bytes"),
+        points,
+        room,
+        library,
+        |out| paper::build(table, points, code, out),
+    )
+}
+
+/// How many points a pack has, or its refusal.
+#[track_caller]
+pub fn pack(pack: &[u8]) -> u64 {
+    let answer = lent(pack, calls::pack);
+    let plain = paper::open(pack).map(|points| points as u64);
+    same("pack", pack, answer, plain)
+}
+
+/// The label of the k-th point of a pack, or the refusal, with a buffer of so many bytes.
+#[track_caller]
+pub fn pack_label(pack: &[u8], k: u64, room: usize) -> u64 {
+    printed(
+        &format!("label of point {k} into {room} bytes"),
+        pack,
+        room,
+        |out| lent(pack, |pack| calls::pack_label(pack, k, out)),
+        |out| paper::pack_label(pack, k, out),
+    )
+}
+
+/// The label of the k-th point of a pack that was built from this pair and code. The library has to give the answer and
+/// the buffer that it gives for the k-th live view of the files, beside agreeing with the second program about both.
+#[track_caller]
+pub fn built_label(pair: &Pair, code: &[u8], pack: &[u8], k: u64, room: usize) -> u64 {
+    let (table, points) = (&pair.table, &pair.points);
+    let answer = pack_label(pack, k, room);
+    assert_eq!(answer, code_label(table, points, code, k, room));
+    let (mut from_pack, mut from_files) = (telling(room), telling(room));
+    calls::pack_label(pack, k, &mut from_pack[..room]);
+    calls::code_label(table, points, code, k, &mut from_files[..room]);
+    assert!(
+        *black_box(&from_pack) == *black_box(&from_files),
+        "label of {k} in {code:?} into {room} bytes: pack and files print differently"
+    );
+    answer
+}
+
 /// Bytes behind a lent buffer that no call may touch.
 const CANARIES: usize = 24;
+
+/// A buffer of so many telling bytes, and canaries behind it.
+fn telling(room: usize) -> Vec<u8> {
+    (0..room + CANARIES).map(|i| (i * 7 + 1) as u8).collect()
+}
 
 /// Asks both programs to print into a buffer that is full of telling bytes, and compares answer and buffer.
 #[track_caller]
@@ -86,9 +148,7 @@ fn printed(
     library: impl FnOnce(&mut [u8]) -> u64,
     plain: impl FnOnce(&mut [u8]) -> Result<usize, Refusal>,
 ) -> u64 {
-    let fresh: Vec<u8> = (0..room + CANARIES).map(|i| (i * 7 + 1) as u8).collect();
-    let mut ours = fresh.clone();
-    let mut theirs = fresh.clone();
+    let (mut ours, mut theirs) = (telling(room), telling(room));
     let answer = library(&mut ours[..room]);
     let expected = plain(&mut theirs[..room]).map(|bytes| bytes as u64);
     assert!(*black_box(&ours) == theirs, "{call}: the buffers differ");

@@ -3,4 +3,6 @@
 pub mod agree;
 pub mod annotated;
 pub mod leaves;
+pub mod packs;
+pub mod rooms;
 pub mod samples;

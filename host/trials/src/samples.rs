@@ -1,6 +1,7 @@
 //! The pair of files in `samples/`, from its meaning: every row of the table of premises with and without a street,
 //! every line present and absent, followers of both kinds, all four letters, missing keys, forbidden combinations.
 
+use paper::label_of;
 use paper::make::{Pair, TableRow, View};
 
 fn rows() -> Vec<TableRow> {
@@ -144,5 +145,14 @@ pub fn pair() -> Pair {
             ..view
         })
         .collect();
+    Pair::new(rows(), views)
+}
+
+/// The pair without the views that are refused a label, so that every code has a pack.
+pub fn labelled() -> Pair {
+    let all = pair();
+    let numbered = (1..).zip(&all.views);
+    let labelled = numbered.filter(|(view, _)| label_of(&all.table, &all.points, *view).is_ok());
+    let views = labelled.map(|(_, view)| view.clone()).collect();
     Pair::new(rows(), views)
 }

@@ -2,26 +2,7 @@
 
 use paper::make::{self, Rng, TableRow, View};
 use trials::agree;
-
-/// The refusal's number of a packed answer.
-fn refusal(answer: u64) -> u64 {
-    answer >> 56
-}
-
-/// Asks for a label with buffers around the bytes that it needs.
-fn ask_with_rooms(ask: impl Fn(usize) -> u64) -> u64 {
-    let answer = ask(499);
-    if refusal(answer) == 0 {
-        let needed = answer as usize;
-        for room in [0, needed - 1, needed, needed + 1] {
-            let refused = ask(room) >> 56 == 10;
-            assert_eq!(refused, room < needed);
-        }
-    } else {
-        ask(0);
-    }
-    answer
-}
+use trials::rooms::{label_rooms, refusal};
 
 #[test]
 fn every_view_of_random_pairs() {
@@ -31,7 +12,7 @@ fn every_view_of_random_pairs() {
         let pair = make::pair(&mut rng, 60);
         let views = agree::views(&pair.points);
         for view in (0..=views + 1).chain([u64::MAX]) {
-            let answer = ask_with_rooms(|room| agree::label(&pair.table, &pair.points, view, room));
+            let answer = label_rooms(|room| agree::label(&pair.table, &pair.points, view, room));
             reached[refusal(answer) as usize] += 1;
         }
     }
@@ -60,7 +41,7 @@ fn every_live_view_of_every_code() {
             let live = agree::live(&pair.points, code);
             let most = if refusal(live) == 0 { live + 1 } else { 1 };
             for k in (0..=most).chain([u64::MAX]) {
-                ask_with_rooms(|room| agree::code_label(&pair.table, &pair.points, code, k, room));
+                label_rooms(|room| agree::code_label(&pair.table, &pair.points, code, k, room));
             }
         }
     }
@@ -115,7 +96,7 @@ fn every_combination_of_elements() {
     let pair = make::Pair::new(rows(), views);
     let mut reached = [0usize; 13];
     for view in 1..=u64::from(combinations) {
-        let answer = ask_with_rooms(|room| agree::label(&pair.table, &pair.points, view, room));
+        let answer = label_rooms(|room| agree::label(&pair.table, &pair.points, view, room));
         reached[refusal(answer) as usize] += 1;
     }
     assert_eq!(reached[9], 0, "every key has a row");

@@ -104,7 +104,7 @@ fn the_samples_are_what_they_are_made_from() {
     let expected = fs::read_to_string(root().join("samples/labels.txt")).expect("labels.txt");
     assert!(
         labels == expected,
-        "samples/labels.txt is what make run prints"
+        "samples/labels.txt is what the program prints"
     );
 }
 

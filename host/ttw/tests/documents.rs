@@ -56,7 +56,9 @@ fn blocks(text: &str) -> Vec<Block> {
 /// run, and here does nothing.
 fn desk() -> Folder {
     let folder = Folder::new();
-    for name in ["Makefile", "examples", "include", "samples", "target"] {
+    for name in [
+        "Makefile", "examples", "host", "include", "samples", "target",
+    ] {
         symlink(root().join(name), folder.0.join(name)).expect("a link");
     }
     let mut install = Command::new(root().join("scripts/install"));

@@ -1,0 +1,68 @@
+//! Labels from packs, beside those of the files that the packs were built from.
+
+use paper::make::{self, Rng};
+use trials::agree;
+use trials::packs::{ask, built, codes};
+use trials::rooms::{label_rooms, refusal};
+
+/// Numbers that no pack has, also where only their last 32 bits are read.
+const HUGE: [u64; 5] = [1 << 32, (1 << 32) + 1, 1 << 63, u64::MAX - 1, u64::MAX];
+
+#[test]
+fn every_label_is_the_one_of_the_files() {
+    let mut points = 0;
+    for seed in 1_000..2_200 {
+        let pair = make::pair(&mut Rng::new(seed), 60);
+        for code in codes(&pair) {
+            let Some(pack) = built(&pair, &code) else {
+                continue;
+            };
+            let count = agree::pack(&pack);
+            assert_eq!(count, agree::live(&pair.points, &code));
+            for k in (0..=count + 1).chain(HUGE) {
+                let answer = label_rooms(|room| agree::built_label(&pair, &code, &pack, k, room));
+                let expected = if (1..=count).contains(&k) { 0 } else { 7 };
+                assert_eq!(refusal(answer), expected, "{k} of {count}");
+            }
+            points += count;
+        }
+    }
+    assert!(points > 3_000, "{points}");
+}
+
+#[test]
+fn every_label_of_a_code_without_live_views_is_7() {
+    let pair = make::pair(&mut Rng::new(79), 40);
+    let code = b"DN55";
+    let pack = built(&pair, code).expect("the pack of no view");
+    assert_eq!(agree::pack(&pack), 0);
+    for k in (0..3).chain(HUGE) {
+        let answer = label_rooms(|room| agree::built_label(&pair, code, &pack, k, room));
+        assert_eq!(answer, 7 << 56);
+    }
+}
+
+#[test]
+fn labels_of_a_long_pack() {
+    let pair = make::exact_pair(&mut Rng::new(83), 1_500, 1_500);
+    let pack = built(&pair, b"AB1 ").expect("a pack");
+    let count = agree::pack(&pack);
+    assert!(count > 300, "{count}");
+    for k in (0..=count + 1).step_by(40).chain([count, count + 1]) {
+        label_rooms(|room| agree::built_label(&pair, b"AB1 ", &pack, k, room));
+    }
+}
+
+/// Packs that no builder has made: unused and equal rows, rows in any order within their type.
+#[test]
+fn every_label_of_random_packs() {
+    let mut rng = Rng::new(89);
+    let mut points = 0;
+    for _ in 0..1_500 {
+        let pack = make::pack_draft(&mut rng, 25).bytes();
+        let count = ask(&pack);
+        assert_eq!(refusal(count), 0);
+        points += count;
+    }
+    assert!(points > 1_000, "{points}");
+}

@@ -1,0 +1,10 @@
+//! Packs built, opened and asked for labels: the library against the second program, answer and buffer, and both against
+//! what document 01 says.
+
+mod accepted;
+mod built;
+mod damaged;
+mod kept;
+mod labels;
+mod refused;
+mod worked;
