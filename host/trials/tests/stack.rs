@@ -13,8 +13,8 @@ const PROMISED: [(&str, u64); 10] = [
     ("ttw_views", 512),
     ("ttw_letter", 512),
     ("ttw_live", 512),
-    ("ttw_label", 2_048),
-    ("ttw_code_label", 2_048),
+    ("ttw_label", 4_096),
+    ("ttw_code_label", 4_096),
     ("ttw_build", 128 << 10),
     ("ttw_pack", 80 << 10),
     ("ttw_pack_label", 80 << 10),
@@ -42,6 +42,8 @@ fn measured(folder: &Path) -> String {
         ("pack", &pack),
     ];
     let mut command = Command::new(program);
+    // The loader finds functions on first use, on the caller's stack: let it do so before.
+    command.env("LD_BIND_NOW", "1");
     for (name, bytes) in files {
         let path = folder.join(name);
         fs::write(&path, bytes).expect("a file");
