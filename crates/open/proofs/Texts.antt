@@ -1,6 +1,6 @@
 -- Laws of a text of a row, as the code tests it.
 -- Assumes nothing.
-use Prim.Native.Nat.{ℕ, suc, _-_}
+use Prim.Native.Nat.{ℕ, suc, _+_, _-_}
 use mathlib.Core.Path.{_≡_, refl, sym, ap, _∙_}
 use mathlib.Core.Bool.{Bool, true, false, not, _&&_, _||_, true≢false}
 use mathlib.Core.List.{List, [], _∷_}
@@ -14,7 +14,7 @@ use Rattle.text.proofs.Tests.{and-true, and-false, or-false}
 use Rattle.text.proofs.Faults.{no-fault, no-fault-every}
 use Rattle.text.proofs.Texts.{filled-blank, filled-other}
 use Rattle.label.specs.Lines.{isEmpty}
-use Rattle.layout.specs.Opening.{Slot, slot, slotsOf, textGood, textEnd, textAt, textsEnd, textsGood, textPlace}
+use Rattle.layout.specs.Opening.{Slot, slot, slotsOf, textGood, textEnd, textAt, textsEnd, textsGood, rowKind, rowEnd}
 
 pub empty-length : (t : List ℕ) → eqb (length t) 0 ≡ isEmpty t
 empty-length [] = refl
@@ -83,7 +83,10 @@ pub slots-none : (k : ℕ) → (k ≡ 1 → ⊥) → (k ≡ 2 → ⊥) → (k �
 slots-none k n₁ n₂ n₃ n₄ n₅ n₆ =
     simp (ne-eqb k 1 n₁, ne-eqb k 2 n₂, ne-eqb k 3 n₃, ne-eqb k 4 n₄, ne-eqb k 5 n₅, ne-eqb k 6 n₆)
 
--- behind as many texts as there are slots
-pub slots-end : (rows : List ℕ) (ss : List Slot) (at : ℕ) → textPlace rows (length ss) at ≡ textsEnd rows ss at
-slots-end rows [] at = refl
-slots-end rows (s ∷ ss) at = slots-end rows ss (textEnd rows at)
+-- a row of a known type ends behind the texts of that type
+pub kind-end : (rows : List ℕ) (at k : ℕ) → rowKind rows at ≡ k → textsEnd rows (slotsOf k) (at + 1) ≡ rowEnd rows at
+kind-end rows at k e = ap (λ k. textsEnd rows (slotsOf k) (at + 1)) (sym e)
+
+-- and one of any other type behind its type
+pub no-kind-end : (rows : List ℕ) (at : ℕ) → slotsOf (rowKind rows at) ≡ [] → at + 1 ≡ rowEnd rows at
+no-kind-end rows at e = rw e

@@ -28,6 +28,14 @@ pub fn number_at(bytes: &[u8], at: usize, width: usize) -> usize
     number_in(record::part_of(bytes, at, at + width))
 }
 
+// The same where all these bytes are there: no end is looked for, so that they are read at once.
+pub fn number_within(bytes: &[u8], at: usize, width: usize) -> usize
+    requires { ⌜ (at + width ≤ length (now bytes)) × (width ≤ 4) ⌝ }
+    ensures { λ r. ⌜ (r ≡ numberAt (now (bytes .entry)) at width) × (r < 256 ^ width) ⌝ }
+{
+    number_in(&bytes[at..at + width])
+}
+
 // Behind the text that starts at a place.
 pub fn text_end(rows: &[u8], at: usize) -> usize
     requires { ⌜ at + 256 < 2 ^ 64 ⌝ }
@@ -63,5 +71,5 @@ pub fn offset_of(pack: &[u8], at: usize, n: usize) -> usize
     requires { ⌜ (at + 57 ≤ length (now pack)) × (n ≤ 7) ⌝ }
     ensures { λ r. ⌜ (r ≡ offsetOfPoint (now (pack .entry)) at n) × (r < 4294967296) ⌝ }
 {
-    number_at(pack, at + PackPoint::OFFSETS + 4 * n, 4)
+    number_within(pack, at + PackPoint::OFFSETS + 4 * n, 4)
 }

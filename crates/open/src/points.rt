@@ -1,5 +1,5 @@
 // The points of a pack whose trailer and rows are good.
-use crate::inner::number_at;
+use crate::inner::number_within;
 use crate::inner::offset_of;
 use crate::inner::trailer_number;
 use crate::kinds::PackPoint;
@@ -45,13 +45,9 @@ fn postcode_good(pack: &[u8], at: usize) -> bool
     ensures { λ r. ⌜ r ≡ postcodeGood (now (pack .entry)) at ⌝ }
 {
     let n = pack.len();
-    let code = record::part_of(pack, n - PackTrailer::OUTWARD, n - PackTrailer::LENGTH);
-    let order = record::order_of(record::part_of(pack, at, at + PackPoint::INWARD), code);
-    let fault = postcode::inward_fault(record::part_of(
-        pack,
-        at + PackPoint::INWARD,
-        at + PackPoint::TYPE,
-    ));
+    let code = &pack[n - PackTrailer::OUTWARD..n - PackTrailer::LENGTH];
+    let order = record::order_of(&pack[at..at + PackPoint::INWARD], code);
+    let fault = postcode::inward_fault(&pack[at + PackPoint::INWARD..at + PackPoint::TYPE]);
     (order == 0) & (fault == 0)
 }
 
@@ -60,16 +56,12 @@ fn plain_good(pack: &[u8], at: usize) -> bool
     requires { ⌜ at + 57 ≤ length (now pack) ⌝ }
     ensures { λ r. ⌜ r ≡ plainGood (now (pack .entry)) at ⌝ }
 {
-    let kind = record::byte_of(pack, at + PackPoint::TYPE);
-    let address = number_at(pack, at + PackPoint::ADDRESS_KEY, 4);
-    let organisation = number_at(pack, at + PackPoint::ORGANISATION_KEY, 4);
-    let number = number_at(pack, at + PackPoint::NUMBER, 2);
-    let mark = record::byte_of(pack, at + PackPoint::CONCATENATION);
-    let fault = text::text_fault(record::part_of(
-        pack,
-        at + PackPoint::PO_BOX,
-        at + PackPoint::OFFSETS,
-    ));
+    let kind = pack[at + PackPoint::TYPE];
+    let address = number_within(pack, at + PackPoint::ADDRESS_KEY, 4);
+    let organisation = number_within(pack, at + PackPoint::ORGANISATION_KEY, 4);
+    let number = number_within(pack, at + PackPoint::NUMBER, 2);
+    let mark = pack[at + PackPoint::CONCATENATION];
+    let fault = text::text_fault(&pack[at + PackPoint::PO_BOX..at + PackPoint::OFFSETS]);
     ((kind == b'S') | (kind == b'L'))
         & ((address <= 99999999)
             & ((organisation <= 99999999)
@@ -83,7 +75,7 @@ fn allowed_mix(pack: &[u8], at: usize) -> bool
 {
     let sub = is_given(pack, at, 6);
     let name = is_given(pack, at, 5);
-    let number = number_at(pack, at + PackPoint::NUMBER, 2) != 0;
+    let number = number_within(pack, at + PackPoint::NUMBER, 2) != 0;
     let street = is_given(pack, at, 1);
     let descriptor = is_given(pack, at, 2);
     let dependent = is_given(pack, at, 3);
@@ -98,10 +90,10 @@ fn organisation_good(pack: &[u8], rows: &[u8], at: usize) -> bool
     ensures { λ r. ⌜ r ≡ organisationGood (now (pack .entry)) at ⌝ }
 {
     let given = is_given(pack, at, 7);
-    if record::byte_of(pack, at + PackPoint::TYPE) == b'L' {
+    if pack[at + PackPoint::TYPE] == b'L' {
         return given;
     }
-    if number_at(pack, at + PackPoint::ORGANISATION_KEY, 4) == 0 {
+    if number_within(pack, at + PackPoint::ORGANISATION_KEY, 4) == 0 {
         return !given;
     }
     given & !text_empty(rows, offset_of(pack, at, 7), 0)

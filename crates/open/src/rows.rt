@@ -29,21 +29,6 @@ fn text_fits(rows: &[u8], at: usize, width: u8, blank: bool) -> bool
     text_good(record::part_of(rows, at + 1, end), width, blank)
 }
 
-// How many texts a row of a type has.
-fn text_count(kind: u8) -> usize
-    ensures { λ r. ⌜ (r ≡ length (slotsOf kind)) × (r ≤ 3) ⌝ }
-{
-    match kind {
-        1 => 3,
-        2 => 1,
-        3 => 1,
-        4 => 1,
-        5 => 1,
-        6 => 2,
-        _ => 0,
-    }
-}
-
 // Whether the texts of a row of a type are good, the first starting at a place.
 fn texts_good(rows: &[u8], kind: u8, at: usize) -> bool
     requires { ⌜ at + 768 < 2 ^ 64 ⌝ }
@@ -73,8 +58,16 @@ pub fn row_end(rows: &[u8], at: usize) -> usize
     requires { ⌜ at ≤ length (now rows) ⌝ }
     ensures { λ r. ⌜ r ≡ rowEnd (now (rows .entry)) at ⌝ }
 {
-    let kind = record::byte_of(rows, at);
-    text_place(rows, at + 1, text_count(kind))
+    let first = text_end(rows, at + 1);
+    match record::byte_of(rows, at) {
+        1 => text_end(rows, text_end(rows, first)),
+        2 => first,
+        3 => first,
+        4 => first,
+        5 => first,
+        6 => text_end(rows, first),
+        _ => at + 1,
+    }
 }
 
 // Whether the n-th text of the row that starts at a place is empty, counted from 0.
@@ -93,19 +86,20 @@ fn double_good(rows: &[u8], at: usize) -> bool
     requires { ⌜ at ≤ length (now rows) ⌝ }
     ensures { λ r. ⌜ r ≡ doubleGood (now (rows .entry)) at ⌝ }
 {
-    let kind = record::byte_of(rows, at);
+    if record::byte_of(rows, at) != 1 {
+        return true;
+    }
     let dependent = text_empty(rows, at, 1);
     let double = text_empty(rows, at, 2);
-    (kind != 1) | (!dependent | double)
+    !dependent | double
 }
 
-// Whether a good row starts at a place, its type not below the one before.
-fn row_good(rows: &[u8], low: u8, at: usize) -> bool
-    requires { ⌜ at ≤ length (now rows) ⌝ }
+// Whether a good row starts at a place and ends at another, its type not below the one before.
+fn row_good(rows: &[u8], low: u8, at: usize, end: usize) -> bool
+    requires { ⌜ (at ≤ length (now rows)) × (end ≡ rowEnd (now rows) at) ⌝ }
     ensures { λ r. ⌜ r ≡ rowGood (now (rows .entry)) low at ⌝ }
 {
     let kind = record::byte_of(rows, at);
-    let end = row_end(rows, at);
     let texts = texts_good(rows, kind, at + 1);
     let double = double_good(rows, at);
     (low <= kind) & ((kind <= 6) & ((end <= rows.len()) & (texts & double)))
@@ -119,11 +113,12 @@ pub fn rows_good(rows: &[u8], count: usize) -> bool
     let mut at = 0;
     let mut i = 0;
     while i < count {
-        if !row_good(rows, low, at) {
+        let end = row_end(rows, at);
+        if !row_good(rows, low, at, end) {
             return false;
         }
         low = record::byte_of(rows, at);
-        at = row_end(rows, at);
+        at = end;
         i += 1;
     }
     at == rows.len()

@@ -54,7 +54,10 @@ pub fn offset_good(rows: &[u8], width: usize, starts: &[u32], kind: u8, o: usize
     requires { ⌜ Cut (now rows) width (now starts) ⌝ }
     ensures { λ r. ⌜ ((n : ℕ) → Starts (now (rows .entry)) n width (now (starts .entry)) → r ≡ offsetGood (now (rows .entry)) n kind o) ⌝ }
 {
+    if o == PackPoint::ABSENT {
+        return true;
+    }
     let found = is_start(rows, width, starts, o);
     let same = record::byte_of(rows, o) == kind;
-    (o == PackPoint::ABSENT) | (found & same)
+    found & same
 }

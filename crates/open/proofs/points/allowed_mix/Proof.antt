@@ -13,11 +13,11 @@ is-given-requires c κs = search needs
 is-given-requires-2 : tie.Need-is-given-requires-2
 is-given-requires-2 c κs = search needs
 
-add-number-at : tie.Need-add-number-at
-add-number-at c = search needs
+add-number-within : tie.Need-add-number-within
+add-number-within c = search needs
 
-number-at-requires : tie.Need-number-at-requires
-number-at-requires c κs = search needs
+number-within-requires : tie.Need-number-within-requires
+number-within-requires c κs = search needs
 
 is-given-requires-3 : tie.Need-is-given-requires-3
 is-given-requires-3 c κs = search needs
@@ -46,7 +46,7 @@ returns c =
       d .is-given5 .ensures,
       e .is-given4 .ensures,
       s .is-given3 .ensures,
-      n .number-at .ensures .0,
+      n .number-within .ensures .0,
       b .is-given2 .ensures,
       b .before .is-given .ensures,
     )
@@ -59,8 +59,8 @@ allowed-mix-spec =
     (tie.spec
     is-given-requires
     is-given-requires-2
-    add-number-at
-    number-at-requires
+    add-number-within
+    number-within-requires
     is-given-requires-3
     is-given-requires-4
     is-given-requires-5

@@ -7,44 +7,50 @@ use Rattle.open.proofs.PointLaws.{pair-test}
 use Rattle.open.proofs.points.plain_good.Statement.{statement}
 use Rattle.open.proofs.points.plain_good.Tie as tie
 
-add-byte-of : tie.Need-add-byte-of
-add-byte-of c = search needs
+add-kind : tie.Need-add-kind
+add-kind c = search needs
 
-byte-of-requires : tie.Need-byte-of-requires
-byte-of-requires c κs = search needs
+shared-slice-read-kind : tie.Need-shared-slice-read-kind
+shared-slice-read-kind c = search needs
 
-add-number-at : tie.Need-add-number-at
-add-number-at c = search needs
+add-number-within : tie.Need-add-number-within
+add-number-within c = search needs
 
-number-at-requires : tie.Need-number-at-requires
-number-at-requires c κs = search needs
+number-within-requires : tie.Need-number-within-requires
+number-within-requires c κs = search needs
 
-add-number-at-2 : tie.Need-add-number-at-2
-add-number-at-2 c = search needs
+add-number-within-2 : tie.Need-add-number-within-2
+add-number-within-2 c = search needs
 
-number-at-requires-2 : tie.Need-number-at-requires-2
-number-at-requires-2 c κs = search needs
+number-within-requires-2 : tie.Need-number-within-requires-2
+number-within-requires-2 c κs = search needs
 
-add-number-at-3 : tie.Need-add-number-at-3
-add-number-at-3 c = search needs
+add-number-within-3 : tie.Need-add-number-within-3
+add-number-within-3 c = search needs
 
-number-at-requires-3 : tie.Need-number-at-requires-3
-number-at-requires-3 c κs = search needs
+number-within-requires-3 : tie.Need-number-within-requires-3
+number-within-requires-3 c κs = search needs
 
-add-byte-of-2 : tie.Need-add-byte-of-2
-add-byte-of-2 c = search needs
+add-mark : tie.Need-add-mark
+add-mark c = search needs
 
-byte-of-requires-2 : tie.Need-byte-of-requires-2
-byte-of-requires-2 c κs = search needs
+shared-slice-read-mark : tie.Need-shared-slice-read-mark
+shared-slice-read-mark c = search needs
 
-add-part-of : tie.Need-add-part-of
-add-part-of c = search needs
+add-text-fault : tie.Need-add-text-fault
+add-text-fault c = search needs
 
-add-part-of-2 : tie.Need-add-part-of-2
-add-part-of-2 c = search needs
+add-text-fault-2 : tie.Need-add-text-fault-2
+add-text-fault-2 c = search needs
 
-part-of-requires : tie.Need-part-of-requires
-part-of-requires c κs = search needs
+sub-text-fault : tie.Need-sub-text-fault
+sub-text-fault c = search needs
+
+part-text-fault-start : tie.Need-part-text-fault-start
+part-text-fault-start c = search needs
+
+part-text-fault-end : tie.Need-part-text-fault-end
+part-text-fault-end c = search needs
 
 text-fault-requires : tie.Need-text-fault-requires
 text-fault-requires c κs = search needs
@@ -52,21 +58,15 @@ text-fault-requires c κs = search needs
 returns : tie.Need-returns
 unfolding plainGood
 returns c =
-    let p = c .before in
-    let m = p .before in
-    let n = m .before in
+    let n = c .before .before .before in
     let o = n .before in
     let k = o .before in
-    let t = k .before in
-    let a = t .before .before .args in
+    let a = k .before .before .before .args in
     rw (
       c .text-fault .ensures,
-      p .part-of .ensures,
-      m .byte-of2 .ensures,
-      n .number-at3 .ensures .0,
-      o .number-at2 .ensures .0,
-      k .number-at .ensures .0,
-      t .byte-of .ensures,
+      n .number-within3 .ensures .0,
+      o .number-within2 .ensures .0,
+      k .number-within .ensures .0,
       pair-test (getD (a .pack .now) (a .at + 7) 0) 83 76,
       pair-test (getD (a .pack .now) (a .at + 18) 0) 89 32,
     )
@@ -75,18 +75,20 @@ pub plain-good-spec : {M : Type 1} → statement M
 plain-good-spec =
     tie.close
     (tie.spec
-    add-byte-of
-    byte-of-requires
-    add-number-at
-    number-at-requires
-    add-number-at-2
-    number-at-requires-2
-    add-number-at-3
-    number-at-requires-3
-    add-byte-of-2
-    byte-of-requires-2
-    add-part-of
-    add-part-of-2
-    part-of-requires
+    add-kind
+    shared-slice-read-kind
+    add-number-within
+    number-within-requires
+    add-number-within-2
+    number-within-requires-2
+    add-number-within-3
+    number-within-requires-3
+    add-mark
+    shared-slice-read-mark
+    add-text-fault
+    add-text-fault-2
+    sub-text-fault
+    part-text-fault-start
+    part-text-fault-end
     text-fault-requires
     returns)

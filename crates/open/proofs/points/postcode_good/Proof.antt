@@ -3,61 +3,75 @@ use borrow.Author.Needs.{needs}
 use Rattle.open.proofs.points.postcode_good.Statement.{statement}
 use Rattle.open.proofs.points.postcode_good.Tie as tie
 
-sub-part-of : tie.Need-sub-part-of
-sub-part-of c = search needs
+sub-code : tie.Need-sub-code
+sub-code c = search needs
 
-sub-part-of-2 : tie.Need-sub-part-of-2
-sub-part-of-2 c = search needs
+sub-code-2 : tie.Need-sub-code-2
+sub-code-2 c = search needs
 
-part-of-requires : tie.Need-part-of-requires
-part-of-requires c κs = search needs
+sub-code-3 : tie.Need-sub-code-3
+sub-code-3 c = search needs
 
-add-part-of : tie.Need-add-part-of
-add-part-of c = search needs
+part-code-start : tie.Need-part-code-start
+part-code-start c = search needs
 
-part-of-requires-2 : tie.Need-part-of-requires-2
-part-of-requires-2 c κs = search needs
+part-code-end : tie.Need-part-code-end
+part-code-end c = search needs
+
+add-order-of : tie.Need-add-order-of
+add-order-of c = search needs
+
+sub-order-of : tie.Need-sub-order-of
+sub-order-of c = search needs
+
+part-order-of-start : tie.Need-part-order-of-start
+part-order-of-start c = search needs
+
+part-order-of-end : tie.Need-part-order-of-end
+part-order-of-end c = search needs
 
 order-of-requires : tie.Need-order-of-requires
 order-of-requires c κs = search needs
 
-add-part-of-2 : tie.Need-add-part-of-2
-add-part-of-2 c = search needs
+add-inward-fault : tie.Need-add-inward-fault
+add-inward-fault c = search needs
 
-add-part-of-3 : tie.Need-add-part-of-3
-add-part-of-3 c = search needs
+add-inward-fault-2 : tie.Need-add-inward-fault-2
+add-inward-fault-2 c = search needs
 
-part-of-requires-3 : tie.Need-part-of-requires-3
-part-of-requires-3 c κs = search needs
+sub-inward-fault : tie.Need-sub-inward-fault
+sub-inward-fault c = search needs
+
+part-inward-fault-start : tie.Need-part-inward-fault-start
+part-inward-fault-start c = search needs
+
+part-inward-fault-end : tie.Need-part-inward-fault-end
+part-inward-fault-end c = search needs
 
 inward-fault-requires : tie.Need-inward-fault-requires
 inward-fault-requires c κs = search needs
 
 returns : tie.Need-returns
-returns c =
-    let p₃ = c .before in
-    let o = p₃ .before in
-    let p₂ = o .before in
-    rw (
-      c .inward-fault .ensures,
-      p₃ .part-of3 .ensures,
-      o .order-of .ensures,
-      p₂ .part-of2 .ensures,
-      p₂ .before .part-of .ensures,
-    )
+returns c = rw (c .inward-fault .ensures, c .before .before .order-of .ensures)
 
 pub postcode-good-spec : {M : Type 1} → statement M
 postcode-good-spec =
     tie.close
     (tie.spec
-    sub-part-of
-    sub-part-of-2
-    part-of-requires
-    add-part-of
-    part-of-requires-2
+    sub-code
+    sub-code-2
+    sub-code-3
+    part-code-start
+    part-code-end
+    add-order-of
+    sub-order-of
+    part-order-of-start
+    part-order-of-end
     order-of-requires
-    add-part-of-2
-    add-part-of-3
-    part-of-requires-3
+    add-inward-fault
+    add-inward-fault-2
+    sub-inward-fault
+    part-inward-fault-start
+    part-inward-fault-end
     inward-fault-requires
     returns)

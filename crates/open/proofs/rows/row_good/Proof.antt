@@ -7,9 +7,6 @@ use Rattle.open.proofs.rows.row_good.Tie as tie
 byte-of-requires : tie.Need-byte-of-requires
 byte-of-requires c κs = search needs
 
-row-end-requires : tie.Need-row-end-requires
-row-end-requires c κs = search needs
-
 add-texts-good : tie.Need-add-texts-good
 add-texts-good c = search needs
 
@@ -23,16 +20,10 @@ returns : tie.Need-returns
 unfolding rowGood
 returns c =
     let t = c .before in
-    let e = t .before in
-    rw (c .double-good .ensures, t .texts-good .ensures, e .row-end .ensures, e .before .byte-of .ensures)
+    let b = t .before in
+    rw (c .double-good .ensures, t .texts-good .ensures, b .before .before .pre .1, b .byte-of .ensures)
 
 pub row-good-spec : {M : Type 1} → statement M
 row-good-spec =
     tie.close
-    (tie.spec
-    byte-of-requires
-    row-end-requires
-    add-texts-good
-    texts-good-requires
-    double-good-requires
-    returns)
+    (tie.spec byte-of-requires add-texts-good texts-good-requires double-good-requires returns)

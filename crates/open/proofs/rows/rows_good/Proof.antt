@@ -21,13 +21,16 @@ loop-holds c =
     let a = c .before .args in
     (omega arith, omega arith, rw (let size : a .count - 0 ≡ a .count = omega arith in size))
 
+row-end-requires : tie.Need-row-end-requires Inv-loop μ-loop
+row-end-requires c κs = search needs
+
 row-good-requires : tie.Need-row-good-requires Inv-loop μ-loop
-row-good-requires c κs = search needs
+row-good-requires c κs = (c .before .before .loop .inv .1, c .row-end .ensures)
 
 returns : tie.Need-returns Inv-loop μ-loop
 returns c =
     let g = c .before in
-    let l = g .before .before in
+    let l = g .before .before .before in
     let a = l .before .before .args in
     sym
     (l .loop .inv .2
@@ -37,9 +40,6 @@ returns c =
 byte-of-requires : tie.Need-byte-of-requires Inv-loop μ-loop
 byte-of-requires c κs = search needs
 
-row-end-requires : tie.Need-row-end-requires Inv-loop μ-loop
-row-end-requires c κs = search needs
-
 add-i : tie.Need-add-i Inv-loop μ-loop
 add-i c = search needs
 
@@ -48,12 +48,11 @@ loop-less c = search needs
 
 loop-again : tie.Need-loop-again Inv-loop μ-loop
 loop-again c =
-    let b = c .before in
-    let g = b .before .before in
-    let l = g .before .before in
+    let g = c .before .before in
+    let l = g .before .before .before in
     let a = l .before .before .args in
-    let good = sym (g .row-good .ensures) ∙ not-false _ (b .before .if1 .left) in
-    rw (c .row-end .ensures, b .byte-of .ensures) (
+    let good = sym (g .row-good .ensures) ∙ not-false _ (c .before .if1 .left) in
+    rw (g .before .row-end .ensures, c .byte-of .ensures) (
       omega arith,
       row-within (a .rows .now) (l .loop .low) (l .loop .at) good,
       l .loop .inv .2 ∙ rows-step (a .rows .now) (a .count) (l .loop .i) (l .loop .low) (l .loop .at) (omega arith) good,
@@ -72,10 +71,10 @@ rows-good-spec =
     Inv-loop
     μ-loop
     loop-holds
+    row-end-requires
     row-good-requires
     returns
     byte-of-requires
-    row-end-requires
     add-i
     loop-less
     loop-again
