@@ -1,6 +1,6 @@
 //! Document 01's run, made from its words, and its pack.
 
-use paper::make::{padded, worked_pair, Pair};
+use paper::make::{padded, worked_pack, worked_pair, Pair};
 use paper::{build, label, label_of, open, pack_label, report};
 
 const PRINTED: &str = "\
@@ -106,19 +106,9 @@ fn the_first_label_stands_in_a_fresh_buffer() {
 
 #[test]
 fn the_pack_has_the_bytes_that_document_01_says() {
-    let rows: &[u8] = b"\x01\x0cHARTWELL BAY\x00\x00\
-        \x02\x06QUARRY\
-        \x03\x04LANE\
-        \x04\x07110-114\
-        \x05\x0aATTIC FLAT";
-    let point: &[u8] = b"AB1 9ZZS\0\0\0\x01\0\0\0\0\0\0       \
-        \0\0\0\0\0\0\0\x10\0\0\0\x18\xff\xff\xff\xff\xff\xff\xff\xff\
-        \0\0\0\x1e\0\0\0\x27\xff\xff\xff\xff";
-    let trailer: &[u8] = b"\0\0\0\x05\0\0\0\x33\0\0\0\x01AB1 \0\0\0\x81\x01";
-    assert_eq!(rows.len(), 51);
-    assert_eq!(point.len(), 57);
-    assert_eq!(trailer.len(), 21);
-    assert_eq!(pack(), [rows, point, trailer].concat());
+    let expected = worked_pack();
+    assert_eq!(expected.len(), 51 + 57 + 21);
+    assert_eq!(pack(), expected);
 }
 
 #[test]

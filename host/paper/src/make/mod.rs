@@ -20,7 +20,7 @@ pub use damage::{
     damaged_points, damaged_table, point_breaks, scratch, table_breaks, Break, Damaged, Place,
 };
 pub use packs::{
-    damaged_packs, full_draft, pack_draft, DamagedPack, PackDraft, PackPoint, PackRow,
+    damaged_packs, full_draft, pack_draft, worked_pack, DamagedPack, PackDraft, PackPoint, PackRow,
 };
 pub use pairs::{exact_pair, pair, worked_pair, Pair};
 pub use records::{

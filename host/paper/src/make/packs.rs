@@ -1,6 +1,20 @@
 use super::texts::{any_text, organisation, place, po_box, premises};
 use super::{inward, outward, padded, Rng};
 
+/// Document 01's pack of 129 bytes: its rows, its point and its trailer.
+pub fn worked_pack() -> Vec<u8> {
+    let rows: &[u8] = b"\x01\x0cHARTWELL BAY\x00\x00\
+        \x02\x06QUARRY\
+        \x03\x04LANE\
+        \x04\x07110-114\
+        \x05\x0aATTIC FLAT";
+    let point: &[u8] = b"AB1 9ZZS\0\0\0\x01\0\0\0\0\0\0       \
+        \0\0\0\0\0\0\0\x10\0\0\0\x18\xff\xff\xff\xff\xff\xff\xff\xff\
+        \0\0\0\x1e\0\0\0\x27\xff\xff\xff\xff";
+    let trailer: &[u8] = b"\0\0\0\x05\0\0\0\x33\0\0\0\x01AB1 \0\0\0\x81\x01";
+    [rows, point, trailer].concat()
+}
+
 /// A row of a pack, as it is written.
 #[derive(Clone, Debug)]
 pub struct PackRow {

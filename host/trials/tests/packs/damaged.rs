@@ -1,8 +1,7 @@
 //! Damaged packs: every byte to every value, bytes taken away and put in at every place, random bytes. What is expected
 //! comes from the second program; the counts say that a trial reached what it is for.
 
-use crate::worked::worked_pack;
-use paper::make::{pack_draft, PackPoint, Rng};
+use paper::make::{pack_draft, worked_pack, PackPoint, Rng};
 use trials::packs::{ask, draft, large_user, mend, no_pack, row, small_user};
 use trials::rooms::refusal;
 

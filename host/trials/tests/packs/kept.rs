@@ -59,7 +59,7 @@ fn the_builder_gives_the_kept_packs() {
     ] {
         assert_eq!(built(&pair, code), Some(kept(name)), "{name}");
     }
-    assert_eq!(kept("worked"), crate::worked::worked_pack());
+    assert_eq!(kept("worked"), paper::make::worked_pack());
 }
 
 /// The sample files themselves have views in AB1 that are refused, and give the packs of the other two codes.

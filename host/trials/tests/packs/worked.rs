@@ -1,24 +1,10 @@
 //! Document 01's pack of 129 bytes, from its words and from `samples/worked`.
 
-use paper::make::worked_pair;
+use paper::make::{worked_pack, worked_pair};
 use std::fs;
 use std::path::Path;
 use trials::packs::{ask, built};
 use trials::{agree, rooms};
-
-/// The bytes that document 01 describes, part by part.
-pub fn worked_pack() -> Vec<u8> {
-    let rows: &[u8] = b"\x01\x0cHARTWELL BAY\x00\x00\
-        \x02\x06QUARRY\
-        \x03\x04LANE\
-        \x04\x07110-114\
-        \x05\x0aATTIC FLAT";
-    let point: &[u8] = b"AB1 9ZZS\0\0\0\x01\0\0\0\0\0\0       \
-        \0\0\0\0\0\0\0\x10\0\0\0\x18\xff\xff\xff\xff\xff\xff\xff\xff\
-        \0\0\0\x1e\0\0\0\x27\xff\xff\xff\xff";
-    let trailer: &[u8] = b"\0\0\0\x05\0\0\0\x33\0\0\0\x01AB1 \0\0\0\x81\x01";
-    [rows, point, trailer].concat()
-}
 
 fn sample(name: &str) -> Vec<u8> {
     let samples = Path::new(env!("CARGO_MANIFEST_DIR")).join("../../samples");
