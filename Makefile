@@ -1,12 +1,12 @@
 # Two commands do everything: `make run` and `make test`.
-.PHONY: help run test bench fuzz annotate ttw install library
+.PHONY: help run test bench fuzz annotate ttw install ready-arm library
 
 # Where `make install` puts things; how long and from which seed `make fuzz` runs.
 PREFIX = /usr/local
 SECONDS = 60
 SEED = 1
 
-CARGO = cargo --offline --quiet
+CARGO = ../scripts/x86-64 cargo --offline --quiet
 
 help:
 	@echo 'make run       print the labels of the sample files and cut their packs'
@@ -16,6 +16,7 @@ help:
 	@echo 'make bench     time each call beside a plain compiled version'
 	@echo 'make fuzz      try the calls on mutated input for SECONDS=60 from SEED=1'
 	@echo 'make annotate  print the pack of docs/PACK.md byte by byte'
+	@echo 'make ready-arm fetch what an Arm machine needs to run all this (root, Debian 12)'
 
 # The samples have a code that is refused, which ttw tells with status 1.
 run: ttw
@@ -25,6 +26,9 @@ run: ttw
 
 test:
 	@scripts/test
+
+ready-arm:
+	@scripts/ready-arm
 
 # The proved library, for all that links it.
 library:

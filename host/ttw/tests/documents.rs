@@ -57,7 +57,7 @@ fn blocks(text: &str) -> Vec<Block> {
 fn desk() -> Folder {
     let folder = Folder::new();
     for name in [
-        "Makefile", "examples", "host", "include", "samples", "target",
+        "Makefile", "examples", "host", "include", "samples", "scripts", "target",
     ] {
         symlink(root().join(name), folder.0.join(name)).expect("a link");
     }

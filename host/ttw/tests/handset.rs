@@ -6,7 +6,7 @@ mod support;
 use paper::make::{damaged_packs, worked_pair};
 use std::path::{Path, PathBuf};
 use std::process::Command;
-use support::{is_installed, root, run, Folder, Run};
+use support::{is_emulated, is_installed, root, run, Folder, Run};
 
 const LABEL: &str = "ATTIC FLAT\n110-114 QUARRY LANE\nHARTWELL BAY\nAB1 9ZZ\n";
 
@@ -119,7 +119,7 @@ fn under_valgrind(program: &Path) -> Command {
 
 #[test]
 fn valgrind_finds_nothing_in_the_example() {
-    if is_installed("valgrind") {
+    if is_installed("valgrind") && !is_emulated() {
         let folder = packs();
         let program = compiled(&folder);
         ask_all(&folder, || under_valgrind(&program));

@@ -115,6 +115,11 @@ pub fn is_installed(program: &str) -> bool {
     std::env::var_os("PATH").is_some_and(|path| std::env::split_paths(&path).any(found))
 }
 
+/// Whether another processor plays the one that this is compiled for.
+pub fn is_emulated() -> bool {
+    std::env::var_os("TTW_EMULATED").is_some()
+}
+
 pub fn run(command: &mut Command) -> Run {
     // Under `make test`, a `make` that is run here would take itself for a part
     // of that one and say where it works.
