@@ -6,7 +6,7 @@
  * slices that it only reads, asks the system for memory, or opens a file.
  *
  * Stack: a call on files takes less than 512 bytes, a label from files less than 4,096, opening a pack or a label from a
- * pack less than 80 KiB, building a pack less than 128 KiB. A thread that is to build needs its stack sized for that.
+ * pack less than 80 KiB, building a pack less than 192 KiB. A thread that is to build needs its stack sized for that.
  *
  * Each call answers one number. Take it apart with the macros below and never compare whole words: later calls fill bits
  * that are 0 today.

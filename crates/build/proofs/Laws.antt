@@ -43,6 +43,8 @@ use Rattle.emit.specs.Emit.{tableRows, packAt}
 use Rattle.emit.specs.Ready.{Ready}
 use Rattle.cut.specs.Started.{Started}
 use Rattle.cut.specs.Half.{usedRows, TableHalf}
+use Rattle.refs.specs.Refs.{Filled, Refs}
+use Rattle.cut.proofs.Refs.{nine-at}
 use Rattle.cut.proofs.Marked.{bytes-same, count-same}
 use Rattle.cut.proofs.Rows.{rows-bytes, rows-count, key-offsets, no-table-row}
 use Rattle.cut.proofs.Organisations.{entries-join, numbers-rise, organisations-bytes}
@@ -125,6 +127,10 @@ fresh-marked k table points code marks e j fine is =
       long = length-replicate {A = ℕ} k 0 ∙ e;
       marked = is;
     }
+
+-- an array that is filled from an accepted file
+pub filled-refs : (table refs : List ℕ) → Accepted tableFormat table → Filled table refs → Refs table refs
+filled-refs table refs a f = record { filled = f; digits = nine-at table a }
 
 -- no more rows than records, and no more organisations than views
 count-within : (marks : List ℕ) (n : ℕ) → countTo marks n ≤ n

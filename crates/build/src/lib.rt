@@ -7,6 +7,7 @@ ghost use Rattle.source.specs.Rows.{tableLookup};
 ghost use Rattle.label.specs.Label.{roomAnswer, roomMemory};
 ghost use Rattle.layout.specs.Layout.{packOf};
 ghost use Rattle.layout.specs.Cutting.{cutAnswer, cutMemory};
+ghost use Rattle.refs.specs.Refs.{Refs};
 ghost use Rattle.build.specs.Build.{liveIn, buildAnswer, buildMemory};
 ghost use Rattle.build.specs.Ready.{Judged, Marked};
 
@@ -21,12 +22,13 @@ const RECORDS: usize = 20000;
 // The pack, where it fits: how many bytes it has is known before the first is written.
 fn write_if_room(
     table: &[u8],
+    refs: &[u32],
     points: &[u8],
     code: &[u8],
     starts: &mut [u32],
     out: &mut [u8],
 ) -> Answer
-    requires { ⌜ Marked (now table) (now points) (now code) (now starts) ⌝ }
+    requires { ⌜ Marked (now table) (now points) (now code) (now starts) × Refs (now table) (now refs) ⌝ }
     ensures { λ r. ⌜ (r ≡ roomAnswer (packOf (tableLookup (now (table .entry))) (liveIn (now (table .entry)) (now (points .entry)) (now (code .entry))) (now (code .entry))) (now (out .entry))) × (now (out .exit) ≡ roomMemory (packOf (tableLookup (now (table .entry))) (liveIn (now (table .entry)) (now (points .entry)) (now (code .entry))) (now (code .entry))) (now (out .entry))) ⌝ }
 {
     let of_table = marks::inner::place_rows(table, starts);
@@ -40,7 +42,7 @@ fn write_if_room(
         };
     }
     let rows = of_table.rows + of_points.rows;
-    Answer::Value(emit::inner::write_pack(table, points, starts, code, rows, count, out))
+    Answer::Value(emit::inner::write_pack(table, refs, points, starts, code, rows, count, out))
 }
 
 // The pack of a code from files that are accepted.
@@ -48,9 +50,11 @@ fn cut(table: &[u8], points: &[u8], code: &[u8], out: &mut [u8]) -> Answer
     requires { ⌜ Judged (now table) (now points) (now code) ⌝ }
     ensures { λ r. ⌜ (r ≡ cutAnswer (tableLookup (now (table .entry))) (liveIn (now (table .entry)) (now (points .entry)) (now (code .entry))) (now (code .entry)) (now (out .entry))) × (now (out .exit) ≡ cutMemory (tableLookup (now (table .entry))) (liveIn (now (table .entry)) (now (points .entry)) (now (code .entry))) (now (code .entry)) (now (out .entry))) ⌝ }
 {
+    let mut refs = [0u32; RECORDS];
+    refs::inner::fill_refs(table, &mut refs);
     let mut starts = [0u32; RECORDS];
-    match marks::inner::mark_views(table, points, code, &mut starts) {
-        Verdict::Fine => write_if_room(table, points, code, &mut starts, out),
+    match marks::inner::mark_views(table, &refs, points, code, &mut starts) {
+        Verdict::Fine => write_if_room(table, &refs, points, code, &mut starts, out),
         Verdict::Bad(reason) => Answer::Refused { file: 0, reason },
     }
 }

@@ -31,7 +31,8 @@ use Rattle.sound.specs.Packed.{viewsAt, WantedPlace, WantedPlaces}
 use Rattle.carried.specs.Used.{refersIn, refers}
 use Rattle.carried.proofs.Used.{Each}
 use Rattle.carried.proofs.Rows.{and-both}
-use Rattle.cut.specs.Refs.{refAt, Standing, KeyPlace, keyPlaces, askedAt, rowsAt, lackingAt}
+use Rattle.refs.specs.Refs.{refAt}
+use Rattle.cut.specs.Refs.{Standing, KeyPlace, keyPlaces, askedAt, rowsAt, lackingAt}
 use Rattle.cut.proofs.Orders.{nine-digits, or-left, or-right}
 
 -- ---- one key

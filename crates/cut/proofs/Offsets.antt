@@ -20,7 +20,8 @@ use Rattle.source.specs.Rows.{tableLookup}
 use Rattle.layout.specs.Layout.{kindOf, keyOf, textsOr, Entry, entry, tableEntries, entryBytes, entriesBytes, offsetOf}
 use Rattle.marks.specs.Rows.{rowBytesAt, isMarked, bytesTo, countTo, rowsFrom}
 use Rattle.carried.specs.Used.{Rises}
-use Rattle.cut.specs.Refs.{refAt, refsFrom, Standing}
+use Rattle.refs.specs.Refs.{refAt}
+use Rattle.cut.specs.Refs.{refsFrom, Standing}
 use Rattle.cut.proofs.Orders.{or-right}
 use Rattle.cut.proofs.Refs.{refs-rise, own-entry}
 

@@ -1,63 +1,23 @@
--- Digits that are compared as bytes are compared as numbers; nine of them are a type and a key. And two rising lists with
--- the same members are equal.
+-- Nine digits are a type and a key. And two rising lists with the same members are equal.
 -- Assumes nothing.
 use Prim.Native.Nat.{ℕ, suc, _+_, _-_, _*_, _^_, _≤_, _<_}
 use mathlib.Core.Path.{_≡_, refl, sym, ap, ap₂, subst, _∙_}
 use mathlib.Core.Bool.{Bool, true, false, true≢false, _||_}
 use mathlib.Core.List.{List, [], _∷_}
 use native.Mathlib.Omega.{arith}
-use native.Mathlib.Nat.{suc-mul, mul-le-mul-right}
 use borrow.Author.Tests.{eq-eqb, ne-eqb, eqb-true}
 use lib.Dec.{eqb}
 use lib.ListN.{length}
-use Rattle.text.specs.Test.{elem, every}
-use Rattle.text.specs.Digits.{digit, digitValue, valueFrom, value}
-use Rattle.text.proofs.Tests.{and-left, and-right}
-use Rattle.text.proofs.Values.{value-bound, value-whole}
-use Rattle.record.specs.Ends.{order}
-use Rattle.rows.proofs.Order.{by-bytes, first-below, first-same}
-use Rattle.source.proofs.Digits.{value-split, digit-again}
+use Rattle.text.specs.Test.{elem}
+use Rattle.text.specs.Digits.{digit, digitValue, value}
+use Rattle.text.proofs.Values.{value-whole}
+use Rattle.source.proofs.Digits.{digit-again}
+use Rattle.refs.proofs.Digits.{first-digit}
 use Rattle.layout.specs.Layout.{ref}
 use Rattle.carried.specs.Used.{Rises}
 use Rattle.carried.proofs.Rows.{or-true}
 
 -- ---- digits
-
--- a higher digit outweighs all that is behind
-outweighs : (d e p u v : ℕ) → e < d → v < p → e * p + v < d * p + u
-outweighs d e p u v h k =
-    let more : suc e * p ≤ d * p = mul-le-mul-right p h in
-    omega (arith, suc-mul e p)
-
--- a first digit counts in whole powers
-first-digit : (x : ℕ) (s : List ℕ) → valueFrom 0 (x ∷ s) ≡ digitValue x * 10 ^ length s + valueFrom 0 s
-first-digit x s =
-    let z : 0 * 10 + digitValue x ≡ digitValue x = omega arith in
-    ap (λ n. valueFrom n s) z ∙ value-split s (digitValue x)
-
-pub digits-rise : (a b : List ℕ) → length a ≡ length b → every digit a ≡ true → every digit b ≡ true → order a b ≡ 2
-    → valueFrom 0 b < valueFrom 0 a
-digits-rise [] [] n p q o = absurd (omega arith)
-digits-rise [] (y ∷ b) n p q o = absurd (omega arith)
-digits-rise (x ∷ a) [] n p q o = absurd (omega arith)
-digits-rise (x ∷ a) (y ∷ b) n p q o =
-    let long : length a ≡ length b = omega arith in
-    let u = digit-again x (and-left (digit x) (every digit a) p) in
-    let v = digit-again y (and-left (digit y) (every digit b) q) in
-    rw (first-digit x a, first-digit y b, long)
-    (by-bytes x y
-    (λ l. absurd (omega (arith, first-below x y a b l)))
-    (λ e.
-    let same : digitValue x ≡ digitValue y = ap digitValue e in
-    rw same
-    (omega (
-      arith,
-      digits-rise a b long (and-right (digit x) (every digit a) p) (and-right (digit y) (every digit b) q)
-          (sym (first-same x y a b e) ∙ o),
-    )))
-    (λ g.
-    outweighs (digitValue x) (digitValue y) (10 ^ length b) (valueFrom 0 a) (valueFrom 0 b) (omega arith)
-    (value-bound b)))
 
 -- a type byte and a key are a number for what a row stands for
 pub nine-digits : (x : ℕ) (s : List ℕ) → digit x ≡ true → length s ≡ 8 → value (x ∷ s) ≡ ref (x - 48) (value s)

@@ -34,8 +34,9 @@ use Rattle.marks.specs.Rows.{rowBytesAt}
 use Rattle.sound.proofs.Addresses.{one-passes, eight}
 use Rattle.carried.proofs.Used.{ref-kind, ref-key}
 use Rattle.carried.proofs.Rows.{and-both}
-use Rattle.cut.specs.Refs.{refAt}
-use Rattle.cut.proofs.Orders.{digits-rise, nine-digits}
+use Rattle.refs.specs.Refs.{refAt, nineDigits}
+use Rattle.refs.proofs.Digits.{digits-rise, nine-made}
+use Rattle.cut.proofs.Orders.{nine-digits}
 
 -- ---- one record
 
@@ -131,6 +132,11 @@ module _ (table : List ℕ) (t : Accepted tableFormat table) where
     pub headed-at : Headed (recordAt 169 table i)
     headed-at =
         headed (recordAt 169 table i) (record-length 169 table i (omega arith)) (t .each i low high .well-formed)
+
+    pub nine-at : nineDigits (keyAt table i) ≡ true
+    nine-at =
+        let rec = recordAt 169 table i in
+        nine-made (part rec 0 9) (nine rec headed-at) (all-digits rec headed-at)
 
     pub ref-above : 0 < refAt table i
     ref-above = front-above (recordAt 169 table i) headed-at

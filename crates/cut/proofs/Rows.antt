@@ -28,7 +28,8 @@ use Rattle.sound.specs.Packed.{packed, viewAt, viewsAt}
 use Rattle.sound.proofs.Packed.{packed-views, all-wanted}
 use Rattle.carried.proofs.Used.{used-exactly, used-rises, Each, each-of}
 use Rattle.cut.specs.Started.{Started}
-use Rattle.cut.specs.Refs.{refAt, refsFrom, KeyPlace, keyPlaces, askedAt, rowsAt, offsetsAt}
+use Rattle.refs.specs.Refs.{refAt}
+use Rattle.cut.specs.Refs.{refsFrom, KeyPlace, keyPlaces, askedAt, rowsAt, offsetsAt}
 use Rattle.cut.proofs.Orders.{rises-same, or-left, or-right}
 use Rattle.cut.proofs.Refs.{ref-above, ref-below}
 use Rattle.cut.proofs.Marked.{marked-exactly, start-marked, start-is}

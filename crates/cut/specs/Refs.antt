@@ -6,17 +6,14 @@ use mathlib.Core.Bool.{Bool, true, cond}
 use mathlib.Core.List.{List, [], _∷_, _++_}
 use Rattle.text.specs.Digits.{value}
 use Rattle.text.specs.Text.{part}
-use Rattle.rows.specs.Rows.{keyAt, lastOf}
+use Rattle.rows.specs.Rows.{lastOf}
 use Rattle.address.specs.Address.{Asked, asked}
 use Rattle.keys.specs.Keys.{lacksRow}
+use Rattle.refs.specs.Refs.{refAt}
 use Rattle.layout.specs.Numbers.{bytesOf}
 use Rattle.marks.specs.Places.{keyRow}
 use Rattle.marks.specs.Rows.{isMarked}
 use Rattle.emit.specs.Emit.{keyOffset}
-
--- what the row of record i stands for: its type and key, nine digits, as one number
-abbrev pub refAt : List ℕ → ℕ → ℕ
-refAt table i = value (keyAt table i)
 
 -- of the marked ones among k records from i on
 abbrev pub refsFrom : List ℕ → List ℕ → ℕ → ℕ → List ℕ

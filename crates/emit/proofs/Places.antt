@@ -12,9 +12,9 @@ use Rattle.files.specs.Formats.{needed}
 use Rattle.views.specs.Views.{wantedIn, nextWanted, placesFrom, lastOf}
 use Rattle.views.proofs.Laws.{places-start, places-step, places-end}
 use Rattle.rows.specs.Rows as table-rows
-use Rattle.marks.specs.Rows.{rowBytesAt, rowsFrom}
-use Rattle.marks.specs.Places.{organisationAt, organisationsAt}
-use Rattle.emit.specs.Emit.{rowBytes, usedAt, followerTexts, pointOf, pointAt, pointsAt}
+use Rattle.marks.specs.Rows.{rowBytes, rowBytesAt, rowsFrom}
+use Rattle.marks.specs.Places.{followerRow, organisationAt, organisationsAt}
+use Rattle.emit.specs.Emit.{usedAt, pointOf, pointAt, pointsAt}
 
 -- the row of a record, where it has a start
 pub used-none : (table starts : List ℕ) (i : ℕ) → getD starts i 0 ≡ 0 → [] ≡ usedAt table starts i
@@ -44,7 +44,7 @@ unfolding organisationAt
 organisation-none points place e = simp (eq-eqb (needed (recordAt 168 points place)) 0 e)
 
 pub organisation-some : (points : List ℕ) (place : ℕ) → (needed (recordAt 168 points place) ≡ 0 → ⊥)
-    → followerTexts (recordAt 168 points (place + 1)) ≡ organisationAt points place
+    → followerRow (recordAt 168 points (place + 1)) ≡ organisationAt points place
 unfolding organisationAt
 organisation-some points place n = simp (ne-eqb (needed (recordAt 168 points place)) 0 n)
 

@@ -11,10 +11,9 @@ use Rattle.record.specs.Parts.{recordAt}
 use Rattle.files.specs.Formats.{needed}
 use Rattle.views.specs.Views.{wantedIn}
 use Rattle.rows.specs.Rows.{lastOf}
-use Rattle.source.specs.Rows.{textsOf}
 use Rattle.keys.specs.Keys.{says, rowFor}
 use Rattle.layout.specs.Numbers.{bytesOf, absent}
-use Rattle.layout.specs.Layout.{newest, textsBytes, trailerBytes}
+use Rattle.layout.specs.Layout.{newest, trailerBytes}
 use Rattle.marks.specs.Places.{organisationAt, organisationsAt, organisationCount}
 use Rattle.marks.specs.Rows.{isMarked, rowBytesAt, countTo, rowsFrom}
 
@@ -26,28 +25,21 @@ sized t = length t ∷ t
 abbrev pub twoTexts : List ℕ → (start middle end : ℕ) → List (List ℕ)
 twoTexts rec start middle end = textIn rec start middle ∷ textIn rec middle end ∷ []
 
--- the row of a table record; the texts of a locality; the row of an organisation
-abbrev pub rowBytes : List ℕ → List ℕ
-rowBytes rec = (getD rec 0 0 - 48) ∷ textsBytes (textsOf rec)
-
-abbrev pub localityTexts : List ℕ → List (List ℕ)
-localityTexts rec = textIn rec 69 99 ∷ twoTexts rec 99 134 169
-
-abbrev pub followerTexts : List ℕ → List ℕ
-followerTexts rec = 6 ∷ textsBytes (twoTexts rec 42 102 162)
-
 -- the offset of the row that a key refers to; a record that has a row has its start, plus 1
 abbrev pub keyOffset : List ℕ → List ℕ → List ℕ → ℕ → ℕ → ℕ
 keyOffset table starts rec type start =
     cond (says rec start (start + 8)) (getD starts (rowFor table rec type start) 0 - 1) absent
 
--- "eight row offsets of 4", the first seven, from the third field on and in all
+-- "eight row offsets of 4", the first seven: the premises', those from the third field on, and all
+abbrev pub premisesOffsets : List ℕ → List ℕ → List ℕ → List ℕ
+premisesOffsets table starts rec =
+    bytesOf 4 (keyOffset table starts rec 52 86) ++ bytesOf 4 (keyOffset table starts rec 53 94)
+
 abbrev pub laterOffsets : List ℕ → List ℕ → List ℕ → List ℕ
 laterOffsets table starts rec =
     bytesOf 4 (keyOffset table starts rec 51 58)
     ++ (bytesOf 4 (keyOffset table starts rec 50 66)
-    ++ (bytesOf 4 (keyOffset table starts rec 51 74)
-    ++ (bytesOf 4 (keyOffset table starts rec 52 86) ++ bytesOf 4 (keyOffset table starts rec 53 94))))
+    ++ (bytesOf 4 (keyOffset table starts rec 51 74) ++ premisesOffsets table starts rec))
 
 abbrev pub keyOffsets : List ℕ → List ℕ → List ℕ → List ℕ
 keyOffsets table starts rec =

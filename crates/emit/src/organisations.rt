@@ -6,13 +6,12 @@ ghost use Prim.Native.Nat.{_+_, _<_, _≤_};
 ghost use lib.ListN.{length};
 ghost use Rattle.views.specs.Views.{wantedIn};
 ghost use Rattle.label.specs.Put.{Put};
-ghost use Rattle.marks.specs.Places.{organisationAt, organisationsAt};
-ghost use Rattle.emit.specs.Emit.{followerTexts};
+ghost use Rattle.marks.specs.Places.{followerRow, organisationAt, organisationsAt};
 
 // The type of an organisation's row and its two texts.
 fn follower_at(rec: &[u8], at: usize, out: &mut [u8]) -> usize
-    requires { ⌜ at + length (followerTexts (now rec)) ≤ length (now out) ⌝ }
-    ensures { λ r. ⌜ Put (followerTexts (now (rec .entry))) (now (out .entry)) at r (now (out .exit)) ⌝ }
+    requires { ⌜ at + length (followerRow (now rec)) ≤ length (now out) ⌝ }
+    ensures { λ r. ⌜ Put (followerRow (now (rec .entry))) (now (out .entry)) at r (now (out .exit)) ⌝ }
 {
     let i = byte_at(6, at, out);
     two_texts_at(

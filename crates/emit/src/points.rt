@@ -13,12 +13,13 @@ ghost use Prim.Native.Nat.{_+_, _*_, _^_, _<_, _≤_};
 ghost use lib.ListN.{length};
 ghost use Rattle.text.specs.Digits.{value};
 ghost use Rattle.text.specs.Text.{part};
+ghost use Rattle.refs.specs.Refs.{Refs};
 ghost use Rattle.views.specs.Views.{wantedIn};
 ghost use Rattle.label.specs.Put.{Put};
 ghost use Rattle.layout.specs.Numbers.{bytesOf};
 ghost use Rattle.layout.specs.Layout.{newest, trailerBytes};
 ghost use Rattle.marks.specs.Places.{organisationAt, organisationsAt};
-ghost use Rattle.emit.specs.Emit.{keyOffset, laterOffsets, keyOffsets, organisationOffset, numbersIn, plainIn, pointOf, pointsAt, trailerEnd};
+ghost use Rattle.emit.specs.Emit.{keyOffset, premisesOffsets, laterOffsets, keyOffsets, organisationOffset, numbersIn, plainIn, pointOf, pointsAt, trailerEnd};
 
 // The offset that says that there is no row.
 const ABSENT: usize = 4_294_967_295;
@@ -31,18 +32,21 @@ const TRAILER_WIDTH: usize = 21;
 const EDITION: u8 = 1;
 
 // Where the row of the key at `start` stands.
-fn key_offset(table: &[u8], starts: &[u32], rec: &[u8], kind: u8, start: u8) -> usize
+fn key_offset(table: &[u8], refs: &[u32], starts: &[u32], rec: &[u8], kind: u8, start: u8) -> usize
+    requires { ⌜ Refs (now table) (now refs) ⌝ }
     ensures { λ r. ⌜ r ≡ keyOffset (now (table .entry)) (now (starts .entry)) (now (rec .entry)) kind start ⌝ }
 {
     let from = start as usize;
     if keys::says_some(rec, from, from + 8) {
-        return above(start_of(starts, keys::row_for(table, rec, kind, start)), 1);
+        let row = refs::inner::row_for(table, refs, rec, kind, start);
+        return above(start_of(starts, row), 1);
     }
     ABSENT
 }
 
 fn key_at(
     table: &[u8],
+    refs: &[u32],
     starts: &[u32],
     rec: &[u8],
     kind: u8,
@@ -50,21 +54,81 @@ fn key_at(
     at: usize,
     out: &mut [u8],
 ) -> usize
-    requires { ⌜ at + 4 ≤ length (now out) ⌝ }
+    requires { ⌜ (at + 4 ≤ length (now out)) × Refs (now table) (now refs) ⌝ }
     ensures { λ r. ⌜ Put (bytesOf 4 (keyOffset (now (table .entry)) (now (starts .entry)) (now (rec .entry)) kind start)) (now (out .entry)) at r (now (out .exit)) ⌝ }
 {
-    word_at(key_offset(table, starts, rec, kind, start), at, out)
+    word_at(key_offset(table, refs, starts, rec, kind, start), at, out)
+}
+
+// The offsets of the building and the sub building.
+fn premises_at(
+    table: &[u8],
+    refs: &[u32],
+    starts: &[u32],
+    rec: &[u8],
+    at: usize,
+    out: &mut [u8],
+) -> usize
+    requires { ⌜ (at + 8 ≤ length (now out)) × Refs (now table) (now refs) ⌝ }
+    ensures { λ r. ⌜ Put (premisesOffsets (now (table .entry)) (now (starts .entry)) (now (rec .entry))) (now (out .entry)) at r (now (out .exit)) ⌝ }
+{
+    let i = key_at(
+        table,
+        refs,
+        starts,
+        rec,
+        b'4',
+        View::BUILDING as u8,
+        at,
+        out,
+    );
+    key_at(
+        table,
+        refs,
+        starts,
+        rec,
+        b'5',
+        View::SUB_BUILDING as u8,
+        i,
+        out,
+    )
 }
 
 // The offsets from the third field on.
-fn later_at(table: &[u8], starts: &[u32], rec: &[u8], at: usize, out: &mut [u8]) -> usize
-    requires { ⌜ at + 20 ≤ length (now out) ⌝ }
+fn later_at(
+    table: &[u8],
+    refs: &[u32],
+    starts: &[u32],
+    rec: &[u8],
+    at: usize,
+    out: &mut [u8],
+) -> usize
+    requires { ⌜ (at + 20 ≤ length (now out)) × Refs (now table) (now refs) ⌝ }
     ensures { λ r. ⌜ Put (laterOffsets (now (table .entry)) (now (starts .entry)) (now (rec .entry))) (now (out .entry)) at r (now (out .exit)) ⌝ }
 {
-    let i = key_at(table, starts, rec, b'3', View::DESCRIPTOR as u8, at, out);
-    let j = key_at(table, starts, rec, b'2', View::DEPENDENT as u8, i, out);
+    let i = key_at(
+        table,
+        refs,
+        starts,
+        rec,
+        b'3',
+        View::DESCRIPTOR as u8,
+        at,
+        out,
+    );
+    let j = key_at(
+        table,
+        refs,
+        starts,
+        rec,
+        b'2',
+        View::DEPENDENT as u8,
+        i,
+        out,
+    );
     let k = key_at(
         table,
+        refs,
         starts,
         rec,
         b'3',
@@ -72,18 +136,42 @@ fn later_at(table: &[u8], starts: &[u32], rec: &[u8], at: usize, out: &mut [u8])
         j,
         out,
     );
-    let l = key_at(table, starts, rec, b'4', View::BUILDING as u8, k, out);
-    key_at(table, starts, rec, b'5', View::SUB_BUILDING as u8, l, out)
+    premises_at(table, refs, starts, rec, k, out)
 }
 
 // The offsets of the seven keys.
-fn keys_at(table: &[u8], starts: &[u32], rec: &[u8], at: usize, out: &mut [u8]) -> usize
-    requires { ⌜ at + 28 ≤ length (now out) ⌝ }
+fn keys_at(
+    table: &[u8],
+    refs: &[u32],
+    starts: &[u32],
+    rec: &[u8],
+    at: usize,
+    out: &mut [u8],
+) -> usize
+    requires { ⌜ (at + 28 ≤ length (now out)) × Refs (now table) (now refs) ⌝ }
     ensures { λ r. ⌜ Put (keyOffsets (now (table .entry)) (now (starts .entry)) (now (rec .entry))) (now (out .entry)) at r (now (out .exit)) ⌝ }
 {
-    let i = key_at(table, starts, rec, b'1', View::LOCALITY as u8, at, out);
-    let j = key_at(table, starts, rec, b'2', View::THOROUGHFARE as u8, i, out);
-    later_at(table, starts, rec, j, out)
+    let i = key_at(
+        table,
+        refs,
+        starts,
+        rec,
+        b'1',
+        View::LOCALITY as u8,
+        at,
+        out,
+    );
+    let j = key_at(
+        table,
+        refs,
+        starts,
+        rec,
+        b'2',
+        View::THOROUGHFARE as u8,
+        i,
+        out,
+    );
+    later_at(table, refs, starts, rec, j, out)
 }
 
 // Where the row of a view's organisation stands, `place` being the next one's.
@@ -130,23 +218,25 @@ fn plain_at(rec: &[u8], at: usize, out: &mut [u8]) -> usize
 // The point of a view, its organisation's row standing at `row` if it has one.
 fn point_at(
     table: &[u8],
+    refs: &[u32],
     starts: &[u32],
     rec: &[u8],
     row: usize,
     at: usize,
     out: &mut [u8],
 ) -> usize
-    requires { ⌜ at + length (pointOf (now table) (now starts) (now rec) row) ≤ length (now out) ⌝ }
+    requires { ⌜ (at + length (pointOf (now table) (now starts) (now rec) row) ≤ length (now out)) × Refs (now table) (now refs) ⌝ }
     ensures { λ r. ⌜ Put (pointOf (now (table .entry)) (now (starts .entry)) (now (rec .entry)) row) (now (out .entry)) at r (now (out .exit)) ⌝ }
 {
     let i = plain_at(rec, at, out);
-    let j = keys_at(table, starts, rec, i, out);
+    let j = keys_at(table, refs, starts, rec, i, out);
     word_at(organisation_offset(rec, row), j, out)
 }
 
 // The points of all views of a code, the organisations' rows standing from `start` on.
 pub fn points_at(
     table: &[u8],
+    refs: &[u32],
     points: &[u8],
     starts: &[u32],
     code: &[u8],
@@ -154,7 +244,7 @@ pub fn points_at(
     at: usize,
     out: &mut [u8],
 ) -> usize
-    requires { ⌜ (start + length (organisationsAt (now points) (wantedIn (now code) (now points))) ≤ at) × (at + length (pointsAt (now table) (now points) (now starts) start (wantedIn (now code) (now points))) ≤ length (now out)) ⌝ }
+    requires { ⌜ (start + length (organisationsAt (now points) (wantedIn (now code) (now points))) ≤ at) × (at + length (pointsAt (now table) (now points) (now starts) start (wantedIn (now code) (now points))) ≤ length (now out)) × Refs (now table) (now refs) ⌝ }
     ensures { λ r. ⌜ Put (pointsAt (now (table .entry)) (now (points .entry)) (now (starts .entry)) start (wantedIn (now (code .entry)) (now (points .entry)))) (now (out .entry)) at r (now (out .exit)) ⌝ }
 {
     let last = views::last_of(points);
@@ -163,7 +253,7 @@ pub fn points_at(
     let mut place = views::next_wanted(points, code, 1);
     while place < last {
         let rec = record::point_record(points, place);
-        end = point_at(table, starts, rec, row, end, out);
+        end = point_at(table, refs, starts, rec, row, end, out);
         row += marks::inner::organisation_len(points, place);
         place = views::next_wanted(points, code, place + 1);
     }

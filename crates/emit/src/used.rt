@@ -8,10 +8,11 @@ use record::Locality;
 use record::Table;
 ghost use Prim.Native.Nat.{_+_, _≤_};
 ghost use lib.ListN.{length};
-ghost use Rattle.source.specs.Rows.{textsOf};
+ghost use Rattle.source.specs.Rows.{localityTexts, textsOf};
 ghost use Rattle.label.specs.Put.{Put};
 ghost use Rattle.layout.specs.Layout.{textsBytes};
-ghost use Rattle.emit.specs.Emit.{rowBytes, localityTexts, usedAt, tableRows};
+ghost use Rattle.marks.specs.Rows.{rowBytes};
+ghost use Rattle.emit.specs.Emit.{usedAt, tableRows};
 
 // The three texts of a locality.
 fn locality_at(rec: &[u8], at: usize, out: &mut [u8]) -> usize

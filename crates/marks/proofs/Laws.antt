@@ -62,7 +62,7 @@ module _ (table points : List ℕ) (place : ℕ) (places : List ℕ) where
   go-on e = simp e
 
 -- a row's text, where its record is of type 2 to 5
-one-text : (rec : List ℕ) → (getD rec 0 0 ≡ 49 → ⊥) → textsOf rec ≡ textIn rec 24 (textEnd (getD rec 0 0)) ∷ []
+pub one-text : (rec : List ℕ) → (getD rec 0 0 ≡ 49 → ⊥) → textsOf rec ≡ textIn rec 24 (textEnd (getD rec 0 0)) ∷ []
 one-text rec n = simp (ne-eqb (getD rec 0 0) 49 n) (by-tests (eqb k 50) (eqb k 51) (eqb k 52))
   where
     k : ℕ

@@ -68,12 +68,14 @@ markPlaces table points [] marks = marks
 markPlaces table points (place ∷ places) marks =
     markPlaces table points places (markRows (rowsOf table (recordAt 168 points place)) marks)
 
--- "one row of type 6 (organisation, department) for each packed view with a follower": the row of the view at a place, if any
+-- "one row of type 6 (organisation, department) for each packed view with a follower": the row of a follower, and that of the
+-- view at a place, if any
+abbrev pub followerRow : List ℕ → List ℕ
+followerRow rec = 6 ∷ textsBytes (textIn rec 42 102 ∷ textIn rec 102 162 ∷ [])
+
 unfoldable pub organisationAt : List ℕ → ℕ → List ℕ
 organisationAt points place =
-    cond (eqb (needed (recordAt 168 points place)) 0) []
-    (6 ∷ textsBytes
-    (textIn (recordAt 168 points (place + 1)) 42 102 ∷ textIn (recordAt 168 points (place + 1)) 102 162 ∷ []))
+    cond (eqb (needed (recordAt 168 points place)) 0) [] (followerRow (recordAt 168 points (place + 1)))
 
 abbrev pub organisationsAt : List ℕ → List ℕ → List ℕ
 organisationsAt points [] = []

@@ -13,9 +13,12 @@ use Rattle.layout.specs.Layout.{textsBytes}
 abbrev pub textEnd : ℕ → ℕ
 textEnd type = cond (eqb type 50) 84 (cond (eqb type 51) 44 (cond (eqb type 52) 74 54))
 
--- the row of record i: "a type byte, then texts"
+-- the row of a table record: "a type byte, then texts"; that of record i
+abbrev pub rowBytes : List ℕ → List ℕ
+rowBytes rec = (getD rec 0 0 - 48) ∷ textsBytes (textsOf rec)
+
 unfoldable pub rowBytesAt : List ℕ → ℕ → List ℕ
-rowBytesAt table i = (getD (recordAt 169 table i) 0 0 - 48) ∷ textsBytes (textsOf (recordAt 169 table i))
+rowBytesAt table i = rowBytes (recordAt 169 table i)
 
 abbrev pub isMarked : List ℕ → ℕ → Bool
 isMarked marks i = not (eqb (getD marks i 0) 0)

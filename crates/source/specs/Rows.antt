@@ -17,11 +17,14 @@ abbrev pub digitsOf : ℕ → ℕ → List ℕ
 digitsOf zero n = []
 digitsOf (suc w) n = (48 + n / 10 ^ w % 10) ∷ digitsOf w n
 
--- the texts of a table record, by its type: "post town 30, dependent locality 35, double dependent locality 35"; "name 60";
--- "text 20"; "text 50"; "text 30"
+-- "post town 30, dependent locality 35, double dependent locality 35"
+abbrev pub localityTexts : List ℕ → List (List ℕ)
+localityTexts rec = textIn rec 69 99 ∷ textIn rec 99 134 ∷ textIn rec 134 169 ∷ []
+
+-- the texts of a table record, by its type: these; "name 60"; "text 20"; "text 50"; "text 30"
 abbrev pub textsOf : List ℕ → List (List ℕ)
 textsOf rec =
-    cond (eqb (getD rec 0 0) 49) (textIn rec 69 99 ∷ textIn rec 99 134 ∷ textIn rec 134 169 ∷ [])
+    cond (eqb (getD rec 0 0) 49) (localityTexts rec)
     (cond (eqb (getD rec 0 0) 50) (textIn rec 24 84 ∷ [])
     (cond (eqb (getD rec 0 0) 51) (textIn rec 24 44 ∷ [])
     (cond (eqb (getD rec 0 0) 52) (textIn rec 24 74 ∷ [])

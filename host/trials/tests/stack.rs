@@ -15,7 +15,7 @@ const PROMISED: [(&str, u64); 10] = [
     ("ttw_live", 512),
     ("ttw_label", 4_096),
     ("ttw_code_label", 4_096),
-    ("ttw_build", 128 << 10),
+    ("ttw_build", 192 << 10),
     ("ttw_pack", 80 << 10),
     ("ttw_pack_label", 80 << 10),
 ];

@@ -27,16 +27,16 @@ module _ (w : tie.After-count-wanted) where
   r = o .before .before .before
 
   abbrev table : List ℕ
-  table = r .before .before .before .before .before .before .before .args .table .now
+  table = r .before .before .before .before .before .before .before .before .args .table .now
 
   abbrev points : List ℕ
-  points = r .before .before .before .before .before .before .before .args .points .now
+  points = r .before .before .before .before .before .before .before .before .args .points .now
 
   abbrev code : List ℕ
-  code = r .before .before .before .before .before .before .before .args .code .now
+  code = r .before .before .before .before .before .before .before .before .args .code .now
 
   abbrev marks : List ℕ
-  marks = r .before .before .before .before .before .before .before .args .starts .now
+  marks = r .before .before .before .before .before .before .before .before .args .starts .now
 
   abbrev starts : List ℕ
   starts = r .place-rows .last .1 .0
@@ -45,7 +45,7 @@ module _ (w : tie.After-count-wanted) where
   pack = packOf (tableLookup table) (liveIn table points code) code
 
   ready : Marked table points code marks
-  ready = r .before .before .before .before .before .before .before .pre
+  ready = r .before .before .before .before .before .before .before .before .pre .0
 
   placed : Placed table marks starts
   placed = r .place-rows .ensures .1 .1
@@ -69,14 +69,14 @@ module _ (w : tie.After-count-wanted) where
 
 place-rows-requires : tie.Need-place-rows-requires
 place-rows-requires c κs =
-    let s = c .before .before .before .before .before .before in
-    let t = table-small (s .args .table .now) (s .pre .judged .of-table) in
-    (omega (arith, t, marked-long _ _ _ _ (s .pre)), omega (arith, t))
+    let s = c .before .before .before .before .before .before .before in
+    let t = table-small (s .args .table .now) (s .pre .0 .judged .of-table) in
+    (omega (arith, t, marked-long _ _ _ _ (s .pre .0)), omega (arith, t))
 
 organisations-in-requires : tie.Need-organisations-in-requires
 organisations-in-requires c κs =
-    let s = c .before .before .before .before .before .before .before .before .before in
-    omega (arith, points-small (s .args .points .now) (s .pre .judged .of-points))
+    let s = c .before .before .before .before .before .before .before .before .before .before in
+    omega (arith, points-small (s .args .points .now) (s .pre .0 .judged .of-points))
 
 count-wanted-requires : tie.Need-count-wanted-requires
 count-wanted-requires c κs = search needs
@@ -99,7 +99,7 @@ same-length c = search needs
 returns : tie.Need-returns
 returns c =
     let w = c .before .before .before in
-    let out = c .before .before .before .before .before .before .before .before .before .before .before .before .before .before .args .out .now in
+    let out = c .before .before .before .before .before .before .before .before .before .before .before .before .before .before .before .args .out .now in
     let short : length out < length (pack w) = omega (arith, whole w) in (
       ap (λ (n : ℕ). Refused 0 (Room n)) (sym (whole w)) ∙ sym (short-answer (pack w) out short),
       sym (short-memory (pack w) out short),
@@ -118,18 +118,20 @@ add-rows c =
 write-pack-requires : tie.Need-write-pack-requires
 write-pack-requires c κs =
     let w = c .before .before .before .before .before .before .before in
-    let is = written (table w) (points w) (code w) (marks w) (starts w) (ready w) (placed w) in
-    record {
-      of-rows =
-          omega (
-            arith,
-            rows-counted (table w) (points w) (code w) (marks w) (starts w) (ready w) (placed w),
-            r w .place-rows .ensures .0,
-            o w .organisations-in .ensures .0,
-          );
-      of-points = views w;
-      of-room = omega (arith, ap length is, whole w);
-    }
+    let is = written (table w) (points w) (code w) (marks w) (starts w) (ready w) (placed w) in (
+      record {
+        of-rows =
+            omega (
+              arith,
+              rows-counted (table w) (points w) (code w) (marks w) (starts w) (ready w) (placed w),
+              r w .place-rows .ensures .0,
+              o w .organisations-in .ensures .0,
+            );
+        of-points = views w;
+        of-room = omega (arith, ap length is, whole w);
+      },
+      r w .before .before .before .before .before .before .before .before .pre .1,
+    )
 
 same-length-2 : tie.Need-same-length-2
 same-length-2 c = search needs
@@ -141,7 +143,7 @@ returns-2 : tie.Need-returns-2
 returns-2 c =
     let p = c .before .before in
     let w = p .before .before .before .before .before .before .before .before in
-    let out = r w .before .before .before .before .before .before .before .args .out .now in
+    let out = r w .before .before .before .before .before .before .before .before .args .out .now in
     let is = written (table w) (points w) (code w) (marks w) (starts w) (ready w) (placed w) in
     let fits : length (pack w) ≤ length out = omega (arith, whole w) in
     let wrote = wrote-as is (p .write-pack .ensures) in (

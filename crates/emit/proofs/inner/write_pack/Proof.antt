@@ -17,7 +17,7 @@ use Rattle.emit.proofs.inner.write_pack.Tie as tie
 
 rows-at-requires : tie.Need-rows-at-requires
 rows-at-requires c κs =
-    let s = c .before .before .before .before .before .before in
+    let s = c .before .before .before .before .before .before .before in
     let a = s .args in
     let table = a .table .now in
     let points = a .points .now in
@@ -28,12 +28,12 @@ rows-at-requires c κs =
     let i = length rows in
     let j = i + length organisations in
     going-room rows (organisations ++ behindRows table points starts code (a .rows) (a .count) i j)
-    (pack-start (s .pre) i j refl refl) (pack-room (s .pre))
+    (pack-start (s .pre .0) i j refl refl) (pack-room (s .pre .0))
 
 organisations-at-requires : tie.Need-organisations-at-requires
 organisations-at-requires c κs =
     let c₁ = c .before .before .before in
-    let s = c₁ .before .before .before .before .before .before .before in
+    let s = c₁ .before .before .before .before .before .before .before .before in
     let a = s .args in
     let table = a .table .now in
     let points = a .points .now in
@@ -43,13 +43,13 @@ organisations-at-requires c κs =
     let organisations = organisationRows points code in
     let j = i + length organisations in
     going-room organisations (behindRows table points starts code (a .rows) (a .count) i j)
-    (after-rows (s .pre) (c₁ .rows-at .ensures) j refl) (pack-room (s .pre))
+    (after-rows (s .pre .0) (c₁ .rows-at .ensures) j refl) (pack-room (s .pre .0))
 
 points-at-requires : tie.Need-points-at-requires
 points-at-requires c κs =
     let c₂ = c .before .before .before in
     let c₁ = c₂ .before .before .before .before in
-    let s = c₁ .before .before .before .before .before .before .before in
+    let s = c₁ .before .before .before .before .before .before .before .before in
     let a = s .args in
     let table = a .table .now in
     let points = a .points .now in
@@ -60,7 +60,8 @@ points-at-requires c κs =
     let put = c₂ .organisations-at .ensures in (
       omega (arith, put .size),
       going-room (pointsFrom table points starts code i) (trailerBytes newest (a .rows) j (a .count) code)
-          (after-organisations (s .pre) (c₁ .rows-at .ensures) put) (pack-room (s .pre)),
+          (after-organisations (s .pre .0) (c₁ .rows-at .ensures) put) (pack-room (s .pre .0)),
+      s .pre .1,
     )
 
 trailer-at-requires : tie.Need-trailer-at-requires
@@ -69,12 +70,12 @@ trailer-at-requires c κs =
     let c₃ = c .before .before .before in
     let c₂ = c₃ .before .before .before .before in
     let c₁ = c₂ .before .before .before .before in
-    let s = c₁ .before .before .before .before .before .before .before in
-    let g = after-points (s .pre) (c₁ .rows-at .ensures) (c₂ .organisations-at .ensures) (c₃ .points-at .ensures) in
-    let left = going-left g (pack-room (s .pre)) in
+    let s = c₁ .before .before .before .before .before .before .before .before in
+    let g = after-points (s .pre .0) (c₁ .rows-at .ensures) (c₂ .organisations-at .ensures) (c₃ .points-at .ensures) in
+    let left = going-left g (pack-room (s .pre .0)) in
     let room =
-    going-left (after-organisations (s .pre) (c₁ .rows-at .ensures) (c₂ .organisations-at .ensures)) (pack-room (s .pre)) in
-    (omega (arith, room, s .pre .of-points, count-bound (s .args .code .now) (s .args .points .now), s .good), left)
+    going-left (after-organisations (s .pre .0) (c₁ .rows-at .ensures) (c₂ .organisations-at .ensures)) (pack-room (s .pre .0)) in
+    (omega (arith, room, s .pre .0 .of-points, count-bound (s .args .code .now) (s .args .points .now), s .good), left)
 
 same-length : tie.Need-same-length
 same-length c = search needs
@@ -85,7 +86,7 @@ returns c =
     let c₃ = c₄ .before .before .before .before in
     let c₂ = c₃ .before .before .before .before in
     let c₁ = c₂ .before .before .before .before in
-    let h = c₁ .before .before .before .before .before .before .before .pre in
+    let h = c₁ .before .before .before .before .before .before .before .before .pre .0 in
     let g = after-points h (c₁ .rows-at .ensures) (c₂ .organisations-at .ensures) (c₃ .points-at .ensures) in
     wrote (going-last g (c₄ .trailer-at .ensures) (pack-room h))
 

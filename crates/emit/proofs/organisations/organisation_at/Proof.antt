@@ -4,7 +4,7 @@ use mathlib.Core.Path.{_≡_, sym, ap, _∙_}
 use Rattle.record.specs.Parts.{recordAt}
 use Rattle.files.specs.Formats.{needed}
 use Rattle.label.proofs.Puts.{room-as, put-none, put-as}
-use Rattle.emit.specs.Emit.{followerTexts}
+use Rattle.marks.specs.Places.{followerRow}
 use Rattle.emit.proofs.Places.{organisation-none, organisation-some}
 use Rattle.emit.proofs.organisations.organisation_at.Statement.{statement}
 use Rattle.emit.proofs.organisations.organisation_at.Tie as tie
@@ -40,7 +40,7 @@ follower-at-requires c κs =
     let some : needed (recordAt 168 (a .points .now) (a .place)) ≡ 0 → ⊥ =
     λ e. c₂ .if1 .left (c₃ .needed-next .ensures ∙ (ap needed (c₄ .point-record .ensures) ∙ e)) in
     room-as (a .out .now) (a .at)
-    (ap followerTexts (c₁ .point-record2 .ensures) ∙ organisation-some (a .points .now) (a .place) some)
+    (ap followerRow (c₁ .point-record2 .ensures) ∙ organisation-some (a .points .now) (a .place) some)
     (s .pre .1)
 
 same-length : tie.Need-same-length
@@ -56,7 +56,7 @@ returns-2 c =
     let a = c₅ .before .before .before .args in
     let some : needed (recordAt 168 (a .points .now) (a .place)) ≡ 0 → ⊥ =
     λ e. c₃ .if1 .left (c₄ .needed-next .ensures ∙ (ap needed (c₅ .point-record .ensures) ∙ e)) in
-    put-as (ap followerTexts (c₂ .point-record2 .ensures) ∙ organisation-some (a .points .now) (a .place) some)
+    put-as (ap followerRow (c₂ .point-record2 .ensures) ∙ organisation-some (a .points .now) (a .place) some)
     (c₁ .follower-at .ensures)
 
 pub organisation-at-spec : {M : Type 1} → statement M

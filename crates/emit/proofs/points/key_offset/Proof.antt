@@ -29,7 +29,7 @@ returns c =
     let c₂ = c₁ .before in
     let c₃ = c₂ .before in
     let c₄ = c₃ .before in
-    let a = c₄ .before .before .before .before .args in
+    let a = c₄ .before .before .before .before .before .args in
     let said : says (a .rec .now) (a .start) (a .start + 8) ≡ true = sym (c₄ .says-some .ensures) ∙ c₃ .if1 .taken in
     c .above .ensures .0
     ∙ (ap (λ (n : ℕ). n - 1) (c₁ .start-of .ensures ∙ ap (λ (i : ℕ). getD (a .starts .now) i 0) (c₂ .row-for .ensures))
@@ -38,7 +38,7 @@ returns c =
 returns-2 : tie.Need-returns-2
 returns-2 c =
     let c₁ = c .before in
-    let a = c₁ .before .before .before .before .args in
+    let a = c₁ .before .before .before .before .before .args in
     let said : says (a .rec .now) (a .start) (a .start + 8) ≡ false = sym (c₁ .says-some .ensures) ∙ c .if1 .left in
     simp said
 

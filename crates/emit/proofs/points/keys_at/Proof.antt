@@ -28,7 +28,7 @@ returns c =
     let c₃ = c .before .before in
     let c₂ = c₃ .before .before .before .before in
     let c₁ = c₂ .before .before .before .before in
-    let h = c₁ .before .before .before .before .before .before .pre in
+    let h = c₁ .before .before .before .before .before .before .before .pre .0 in
     put-then (put-then (c₁ .key-at .ensures) (c₂ .key-at2 .ensures) (omega (arith, h))) (c₃ .later-at .ensures) h
 
 pub keys-at-spec : {M : Type 1} → statement M

@@ -23,33 +23,22 @@ cast-key-at-3 c = search needs
 key-at-requires-3 : tie.Need-key-at-requires-3
 key-at-requires-3 c κs = search needs
 
-cast-key-at-4 : tie.Need-cast-key-at-4
-cast-key-at-4 c = search needs
-
-key-at-requires-4 : tie.Need-key-at-requires-4
-key-at-requires-4 c κs = search needs
-
-cast-key-at-5 : tie.Need-cast-key-at-5
-cast-key-at-5 c = search needs
-
-key-at-requires-5 : tie.Need-key-at-requires-5
-key-at-requires-5 c κs = search needs
+premises-at-requires : tie.Need-premises-at-requires
+premises-at-requires c κs = search needs
 
 same-length : tie.Need-same-length
 same-length c = search needs
 
 returns : tie.Need-returns
 returns c =
-    let c₅ = c .before .before in
-    let c₄ = c₅ .before .before .before .before in
+    let c₄ = c .before .before in
     let c₃ = c₄ .before .before .before .before in
     let c₂ = c₃ .before .before .before .before in
     let c₁ = c₂ .before .before .before .before in
-    let h = c₁ .before .before .before .before .before .before .pre in
+    let h = c₁ .before .before .before .before .before .before .before .pre .0 in
     let v₂ = put-then (c₁ .key-at .ensures) (c₂ .key-at2 .ensures) (omega (arith, h)) in
     let v₃ = put-then v₂ (c₃ .key-at3 .ensures) (omega (arith, h)) in
-    let v₄ = put-then v₃ (c₄ .key-at4 .ensures) (omega (arith, h)) in
-    put-then v₄ (c₅ .key-at5 .ensures) h
+    put-then v₃ (c₄ .premises-at .ensures) h
 
 pub later-at-spec : {M : Type 1} → statement M
 later-at-spec =
@@ -61,9 +50,6 @@ later-at-spec =
     key-at-requires-2
     cast-key-at-3
     key-at-requires-3
-    cast-key-at-4
-    key-at-requires-4
-    cast-key-at-5
-    key-at-requires-5
+    premises-at-requires
     same-length
     returns)

@@ -16,7 +16,7 @@ use Rattle.emit.proofs.points.points_at.Statement.{statement}
 use Rattle.emit.proofs.points.points_at.Tie as tie
 
 abbrev Inv-loop : tie.InvT-loop
-Inv-loop table points starts code start at out₀ last row₀ end₀ place₀ out row end place =
+Inv-loop table refs points starts code start at out₀ last row₀ end₀ place₀ out row end place =
     (length out ≡ length out₀)
     × (nextWanted code points place ≡ place)
     × (row + length (organisationsLeft code points place) ≤ at)
@@ -24,7 +24,7 @@ Inv-loop table points starts code start at out₀ last row₀ end₀ place₀ ou
     at end out
 
 abbrev μ-loop : tie.MeasureT-loop
-μ-loop table points starts code start at out₀ last row₀ end₀ place₀ out row end place = last - place
+μ-loop table refs points starts code start at out₀ last row₀ end₀ place₀ out row end place = last - place
 
 last-of-requires : tie.Need-last-of-requires Inv-loop μ-loop
 last-of-requires c κs = search needs
@@ -34,7 +34,7 @@ next-wanted-requires c κs = search needs
 
 loop-holds : tie.Need-loop-holds Inv-loop μ-loop
 loop-holds c =
-    let s = c .before .before .before .before .before .before .before in
+    let s = c .before .before .before .before .before .before .before .before in
     let a = s .args in
     let code = a .code .now in
     let points = a .points .now in
@@ -56,7 +56,7 @@ point-at-requires c κs =
     let r = c .before in
     let l = r .before .before in
     let f = l .before .before in
-    let s = f .before .before .before .before .before .before in
+    let s = f .before .before .before .before .before .before .before in
     let code = s .args .code .now in
     let points = s .args .points .now in
     let table = s .args .table .now in
@@ -66,8 +66,10 @@ point-at-requires c κs =
     let step = points-step code points table starts row i (l .loop .inv .1) (omega (arith, f .last-of .ensures)) in
     let same = point-is table points starts (r .point-record .result .now) row i (r .point-record .ensures) in
     let rest = pointsLeft table points starts code (row + length (organisationAt points i)) (nextWanted code points (i + 1)) in
+    let room =
     room-as (l .loop .out) (l .loop .end) same
-    (going-room (pointAt table points starts row i) rest (going-as step (l .loop .inv .3)) (s .pre .1))
+    (going-room (pointAt table points starts row i) rest (going-as step (l .loop .inv .3)) (s .pre .1)) in
+    (room, s .pre .2)
 
 organisation-len-requires : tie.Need-organisation-len-requires Inv-loop μ-loop
 organisation-len-requires c κs =
@@ -78,7 +80,7 @@ add-row : tie.Need-add-row Inv-loop μ-loop
 add-row c =
     let l = c .before .before .before .before .before .before .before in
     let f = l .before .before in
-    let s = f .before .before .before .before .before .before in
+    let s = f .before .before .before .before .before .before .before in
     let code = s .args .code .now in
     let points = s .args .points .now in
     let more = organisations-length code points (l .loop .place) (l .loop .inv .1) (omega (arith, f .last-of .ensures)) in
@@ -93,7 +95,7 @@ next-wanted-requires-2 c κs = search needs
 loop-less : tie.Need-loop-less Inv-loop μ-loop
 loop-less c =
     let l = c .before .before .before .before .before .before .before .before in
-    let a = l .before .before .before .before .before .before .before .before .args in
+    let a = l .before .before .before .before .before .before .before .before .before .args in
     omega (arith, c .next-wanted2 .ensures, next-range (a .code .now) (a .points .now) (l .loop .place + 1) .0)
 
 loop-again : tie.Need-loop-again Inv-loop μ-loop
@@ -103,7 +105,7 @@ loop-again c =
     let r = c₁ .before .before in
     let l = r .before .before in
     let f = l .before .before in
-    let s = f .before .before .before .before .before .before in
+    let s = f .before .before .before .before .before .before .before in
     let code = s .args .code .now in
     let points = s .args .points .now in
     let table = s .args .table .now in
@@ -115,7 +117,7 @@ loop-again c =
     let rest = pointsLeft table points starts code (row + length (organisationAt points i)) (nextWanted code points (i + 1)) in
     let more = organisations-length code points i (l .loop .inv .1) (omega (arith, f .last-of .ensures)) in
     rw (c .next-wanted2 .ensures, c₂ .organisation-len .ensures .0) (
-      c₁ .point-at .kept .1 .1 .1 .1 .1 .0 ∙ l .loop .inv .0,
+      c₁ .point-at .kept .1 .1 .1 .1 .1 .1 .0 ∙ l .loop .inv .0,
       next-next code points (i + 1),
       omega (arith, more, l .loop .inv .2),
       going-step rest (going-as step (l .loop .inv .3)) (put-as same (c₁ .point-at .ensures)) (s .pre .1),
@@ -128,7 +130,7 @@ returns : tie.Need-returns Inv-loop μ-loop
 returns c =
     let l = c .before in
     let f = l .before .before in
-    let a = f .before .before .before .before .before .before .args in
+    let a = f .before .before .before .before .before .before .before .args in
     going-end
     (going-as
     (points-end (a .code .now) (a .points .now) (a .table .now) (a .starts .now) (l .loop .row) (l .loop .place)

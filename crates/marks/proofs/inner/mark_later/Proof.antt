@@ -51,7 +51,16 @@ first-rule-requires-5 : tie.Need-first-rule-requires-5
 first-rule-requires-5 c κs = search needs
 
 same-length : tie.Need-same-length
-same-length c = search needs
+same-length c =
+    let k₅ = c .before .before .before .before .before .before .before in
+    let k₄ = k₅ .before .before .before .before in
+    let k₃ = k₄ .before .before .before .before in
+    let k₂ = k₃ .before .before .before .before in
+    let k₁ = k₂ .before .before .before .before in
+    k₅ .mark-key5 .kept .1 .1 .1 .1 .1 .0
+    ∙ (k₄ .mark-key4 .kept .1 .1 .1 .1 .1 .0
+    ∙ (k₃ .mark-key3 .kept .1 .1 .1 .1 .1 .0
+    ∙ (k₂ .mark-key2 .kept .1 .1 .1 .1 .1 .0 ∙ k₁ .mark-key .kept .1 .1 .1 .1 .1 .0)))
 
 returns : tie.Need-returns
 returns c =

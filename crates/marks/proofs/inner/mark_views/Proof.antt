@@ -14,14 +14,14 @@ use Rattle.marks.proofs.inner.mark_views.Statement.{statement}
 use Rattle.marks.proofs.inner.mark_views.Tie as tie
 
 abbrev Inv-loop : tie.InvT-loop
-Inv-loop table points code marks₀ last at₀ marks at =
+Inv-loop table refs points code marks₀ last at₀ marks at =
     (nextWanted code points at ≡ at)
     × (length marks ≡ length marks₀)
     × (firstRefused table points (wantedIn code points) ≡ firstRefused table points (placesFrom code points at))
     × (markPlaces table points (wantedIn code points) marks₀ ≡ markPlaces table points (placesFrom code points at) marks)
 
 abbrev μ-loop : tie.MeasureT-loop
-μ-loop table points code marks₀ last at₀ marks at = last - at
+μ-loop table refs points code marks₀ last at₀ marks at = last - at
 
 last-of-requires : tie.Need-last-of-requires Inv-loop μ-loop
 last-of-requires c κs = search needs
@@ -31,7 +31,7 @@ next-wanted-requires c κs = search needs
 
 loop-holds : tie.Need-loop-holds Inv-loop μ-loop
 loop-holds c =
-    let a = c .before .before .before .before .before .before .args in
+    let a = c .before .before .before .before .before .before .before .args in
     let start = places-start (a .code .now) (a .points .now) in
     rw (c .next-wanted .ensures) (
       next-next (a .code .now) (a .points .now) 1,
@@ -67,7 +67,7 @@ returns c =
     let r = m .before .before in
     let l = r .before .before in
     let f = l .before .before in
-    let a = f .before .before .before .before .before .args in
+    let a = f .before .before .before .before .before .before .args in
     let step = places-step (a .code .now) (a .points .now) (l .loop .at) (l .loop .inv .0) (omega (arith, f .last-of .ensures)) in
     let rest = placesFrom (a .code .now) (a .points .now) (nextWanted (a .code .now) (a .points .now) (l .loop .at + 1)) in
     let bad = sym (m .mark-view .ensures .0 ∙ ap (refusalIn (a .table .now)) (r .point-record .ensures)) ∙ c .before .before .before .why .given .1 in (
@@ -85,7 +85,7 @@ next-wanted-requires-2 c κs = search needs
 loop-less : tie.Need-loop-less Inv-loop μ-loop
 loop-less c =
     let l = c .before .before .before .before .before .before .before .before .before in
-    let a = l .before .before .before .before .before .before .before .args in
+    let a = l .before .before .before .before .before .before .before .before .args in
     omega (arith, c .next-wanted2 .ensures, next-range (a .code .now) (a .points .now) (l .loop .at + 1) .0)
 
 loop-again : tie.Need-loop-again Inv-loop μ-loop
@@ -93,7 +93,7 @@ loop-again c =
     let m = c .before .before .before .before .before in
     let l = m .before .before .before .before in
     let f = l .before .before in
-    let a = f .before .before .before .before .before .args in
+    let a = f .before .before .before .before .before .before .args in
     let r = m .before .before in
     let step = places-step (a .code .now) (a .points .now) (l .loop .at) (l .loop .inv .0) (omega (arith, f .last-of .ensures)) in
     let rest = placesFrom (a .code .now) (a .points .now) (nextWanted (a .code .now) (a .points .now) (l .loop .at + 1)) in
@@ -115,7 +115,7 @@ returns-2 : tie.Need-returns-2 Inv-loop μ-loop
 returns-2 c =
     let l = c .before in
     let f = l .before .before in
-    let a = f .before .before .before .before .before .args in
+    let a = f .before .before .before .before .before .before .args in
     let end = places-end (a .code .now) (a .points .now) (l .loop .at) (omega (arith, f .last-of .ensures)) in (
       sym (l .loop .inv .2 ∙ ap (firstRefused (a .table .now) (a .points .now)) end),
       λ e. sym (l .loop .inv .3 ∙ ap (λ (ps : List ℕ). markPlaces (a .table .now) (a .points .now) ps (l .loop .marks)) end),

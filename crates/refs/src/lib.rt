@@ -1,0 +1,2 @@
+// The records of a table file by their types and keys as numbers, kept in an array: a search there touches no record.
+pub mod inner;
