@@ -14,7 +14,7 @@ pub fn needed_next(rec: &[u8]) -> u8
         return b'3';
     }
     let key = record::part_of(rec, Point::ORGANISATION_KEY, Point::LETTER);
-    if text::value_of(key) == 0 { 0 } else { b'2' }
+    if text::says_zero(key) { 0 } else { b'2' }
 }
 
 // Whether a record is the one that its owner needs.

@@ -11,7 +11,7 @@ ghost use Rattle.keys.specs.Keys.{says, forbiddenIn, rowFor, lacksRow, l
 pub fn says_some(rec: &[u8], start: usize, end: usize) -> bool
     ensures { λ r. ⌜ r ≡ says (now (rec .entry)) start end ⌝ }
 {
-    text::value_of(record::part_of(rec, start, end)) != 0
+    !text::says_zero(record::part_of(rec, start, end))
 }
 
 // What two tests decide: the first that holds, or the rest.

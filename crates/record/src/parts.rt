@@ -5,7 +5,7 @@ use crate::layout::Table;
 use text::lesser;
 ghost use mathlib.Core.Path.{_≡_};
 ghost use mathlib.Core.Bool.{true};
-ghost use Prim.Native.Nat.{_+_, _≤_};
+ghost use Prim.Native.Nat.{_+_, _*_, _/_, _<_, _≤_};
 ghost use lib.ListN.{length, drop, getD};
 ghost use Rattle.text.specs.Text.{part};
 ghost use Rattle.record.specs.Parts.{recordAt};
@@ -19,13 +19,21 @@ pub fn part_of(rec: &[u8], start: usize, end: usize) -> &[u8]
     if start < e { &rec[start..e] } else { &rec[..0] }
 }
 
+// Record `i` of a file that has so many records of this width, counted from 0, as a part of the file.
+fn whole_record(file: &[u8], width: usize, i: usize) -> &[u8]
+    requires { ⌜ (i < length (now file) / width) × (i * width + width ≤ length (now file)) ⌝ }
+    ensures { λ r. ⌜ now r ≡ recordAt width (now (file .entry)) i ⌝ }
+{
+    let a = i * width;
+    &file[a..a + width]
+}
+
 // Record `i` of a table file, counted from 0, as a part of the file; no bytes where there is none.
 pub fn table_record(file: &[u8], i: usize) -> &[u8]
     ensures { λ r. ⌜ now r ≡ recordAt 169 (now (file .entry)) i ⌝ }
 {
     if i < file.len() / Table::WIDTH {
-        let a = i * Table::WIDTH;
-        &file[a..a + Table::WIDTH]
+        whole_record(file, Table::WIDTH, i)
     } else {
         &file[..0]
     }
@@ -36,8 +44,7 @@ pub fn point_record(file: &[u8], i: usize) -> &[u8]
     ensures { λ r. ⌜ now r ≡ recordAt 168 (now (file .entry)) i ⌝ }
 {
     if i < file.len() / Point::WIDTH {
-        let a = i * Point::WIDTH;
-        &file[a..a + Point::WIDTH]
+        whole_record(file, Point::WIDTH, i)
     } else {
         &file[..0]
     }

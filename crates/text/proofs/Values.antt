@@ -1,17 +1,19 @@
 -- Laws of the value of a numeric field.
 -- Assumes nothing.
-use Prim.Native.Nat.{ℕ, suc, _+_, _-_, _*_, _^_, _≤_, _<_}
+use Prim.Native.Nat.{ℕ, zero, suc, _+_, _-_, _*_, _^_, _≤_, _<_}
 use mathlib.Core.Path.{_≡_, refl, sym, ap, _∙_}
-use mathlib.Core.Bool.{Bool, true, false, cond}
+use mathlib.Core.Bool.{Bool, true, false, cond, _&&_}
 use mathlib.Core.List.{List, [], _∷_}
 use native.Mathlib.Omega.{arith}
 use native.Mathlib.Numerals.{add-one}
 use native.Mathlib.Nat.{lt-of-lt-of-le, pow-le-pow-right}
-use lib.Dec.{lit<}
+use borrow.Author.Tests.{ne-eqb}
+use lib.Dec.{lit<, eqb}
 use lib.Pow.{pow-add}
 use lib.ListN.{length, take, drop, getD, drop-of-length-le, length-take}
 use lib.Seq.{drop-cons, take-all}
-use Rattle.text.specs.Digits.{digit, digitValue, valueFrom, value}
+use Rattle.text.specs.Digits.{digit, digitValue, zeroDigit, valueFrom, value}
+use Rattle.text.specs.Test.{every}
 use Rattle.text.proofs.Tests.{range-high}
 
 pub digit-to-9 : (b : ℕ) → digitValue b ≤ 9
@@ -40,6 +42,29 @@ power-small v i h k = lt-of-lt-of-le h (pow-le-pow-right (lit< tt) k)
 pub value-whole : (s : List ℕ) → length s ≤ 9 → value s ≡ valueFrom 0 s
 unfolding value
 value-whole s h = rw (take-all 9 s h)
+
+-- a field says 0 where each of its bytes does, and only there
+value-above : (s : List ℕ) (v : ℕ) → 1 ≤ v → 1 ≤ valueFrom v s
+value-above [] v h = h
+value-above (x ∷ xs) v h = value-above xs (v * 10 + digitValue x) (omega arith)
+
+value-zero : (s : List ℕ) → eqb (valueFrom 0 s) 0 ≡ every zeroDigit s
+value-zero [] = refl
+value-zero (x ∷ xs) = by-first (digitValue x) (value-zero xs)
+  where
+    by-first : (d : ℕ) → eqb (valueFrom 0 xs) 0 ≡ every zeroDigit xs
+        → eqb (valueFrom (0 * 10 + d) xs) 0 ≡ eqb d 0 && every zeroDigit xs
+    by-first zero later = later
+    by-first (suc d) later =
+        rw (ne-eqb (suc d) 0 (λ e. omega arith))
+        (ne-eqb (valueFrom (0 * 10 + suc d) xs) 0 (λ e. omega (arith, value-above xs (0 * 10 + suc d) (omega arith), e)))
+
+pub nine-zero : (s : List ℕ) → every zeroDigit (take 9 s) ≡ eqb (value s) 0
+unfolding value
+nine-zero s = sym (value-zero (take 9 s))
+
+pub whole-zero : (s : List ℕ) → length s ≤ 9 → every zeroDigit s ≡ eqb (value s) 0
+whole-zero s h = rw (value-whole s h) (sym (value-zero s))
 
 value-below : (s : List ℕ) (v i : ℕ) → v < 10 ^ i → valueFrom v s < 10 ^ (i + length s)
 value-below [] v i h = rw (let z : i + 0 ≡ i = omega arith in z) h

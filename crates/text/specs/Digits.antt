@@ -3,6 +3,7 @@
 use Prim.Native.Nat.{ℕ, _+_, _-_, _*_}
 use mathlib.Core.Bool.{Bool, cond}
 use mathlib.Core.List.{List, [], _∷_}
+use lib.Dec.{eqb}
 use lib.ListN.{take}
 use Rattle.text.specs.Test.{within, firstFault}
 
@@ -17,6 +18,10 @@ digitsFault s = firstFault digit s
 -- what a digit says; any other byte says 0
 unfoldable pub digitValue : ℕ → ℕ
 digitValue b = cond (digit b) (b - 48) 0
+
+-- whether a byte adds nothing to a value but its place
+abbrev pub zeroDigit : ℕ → Bool
+zeroDigit b = eqb (digitValue b) 0
 
 -- the digits read from the front, v being the value so far
 abbrev pub valueFrom : ℕ → List ℕ → ℕ

@@ -3,9 +3,10 @@
 ghost use mathlib.Core.Path.{_≡_};
 ghost use mathlib.Core.Bool.{not};
 ghost use Prim.Native.Nat.{_≤_, min};
+ghost use lib.Dec.{eqb};
 ghost use lib.ListN.{length};
 ghost use Rattle.text.specs.Test.{within, member, every, only, firstFault};
-ghost use Rattle.text.specs.Digits.{digit, digitsFault, digitValue, valueFrom, value};
+ghost use Rattle.text.specs.Digits.{digit, digitsFault, digitValue, zeroDigit, valueFrom, value};
 ghost use Rattle.text.specs.Text.{letter, textByte, startsBlank, textFault, filledFault, textIn, numericLike};
 
 pub fn is_digit(b: u8) -> bool
@@ -142,6 +143,30 @@ pub fn value_of(s: &[u8]) -> usize
         nine_digits(&s[..9])
     } else {
         nine_digits(s)
+    }
+}
+
+// Whether each byte says 0 as a digit. No byte ends the loop, so that many are taken at once.
+fn all_zero(s: &[u8]) -> bool
+    ensures { λ r. ⌜ r ≡ every zeroDigit (now (s .entry)) ⌝ }
+{
+    let mut some = false;
+    let mut i = 0;
+    while i < s.len() {
+        some = some | (digit_value(s[i]) != 0);
+        i += 1;
+    }
+    !some
+}
+
+// Whether a numeric field says 0: this takes no product.
+pub fn says_zero(s: &[u8]) -> bool
+    ensures { λ r. ⌜ r ≡ eqb (value (now (s .entry))) 0 ⌝ }
+{
+    if 9 < s.len() {
+        all_zero(&s[..9])
+    } else {
+        all_zero(s)
     }
 }
 

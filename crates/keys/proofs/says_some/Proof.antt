@@ -7,13 +7,13 @@ use Rattle.keys.proofs.says_some.Tie as tie
 part-of-requires : tie.Need-part-of-requires
 part-of-requires c κs = search needs
 
-value-of-requires : tie.Need-value-of-requires
-value-of-requires c κs = search needs
+says-zero-requires : tie.Need-says-zero-requires
+says-zero-requires c κs = search needs
 
 returns : tie.Need-returns
 returns c =
     let c₁ = c .before in
-    rw (c .value-of .ensures, c₁ .part-of .ensures)
+    rw (c .says-zero .ensures, c₁ .part-of .ensures)
 
 pub says-some-spec : {M : Type 1} → statement M
-says-some-spec = tie.close (tie.spec part-of-requires value-of-requires returns)
+says-some-spec = tie.close (tie.spec part-of-requires says-zero-requires returns)

@@ -28,8 +28,8 @@ returns-2 c =
 part-of-requires : tie.Need-part-of-requires
 part-of-requires c κs = search needs
 
-value-of-requires : tie.Need-value-of-requires
-value-of-requires c κs = search needs
+says-zero-requires : tie.Need-says-zero-requires
+says-zero-requires c κs = search needs
 
 returns-3 : tie.Need-returns-3
 unfolding needed
@@ -40,7 +40,7 @@ returns-3 c =
     simp (
       eq-eqb _ 49 (rw (e .before .byte-of .ensures) at (e .if1 .left)),
       ne-eqb _ 76 (rw (f .before .byte-of2 .ensures) at (f .if2 .left)),
-      eq-eqb _ 0 (rw (c .before .value-of .ensures, p .part-of .ensures) at (c .if3 .taken)),
+      rw (c .before .says-zero .ensures, p .part-of .ensures) at (c .if3 .taken),
     )
 
 returns-4 : tie.Need-returns-4
@@ -52,7 +52,7 @@ returns-4 c =
     simp (
       eq-eqb _ 49 (rw (e .before .byte-of .ensures) at (e .if1 .left)),
       ne-eqb _ 76 (rw (f .before .byte-of2 .ensures) at (f .if2 .left)),
-      ne-eqb _ 0 (rw (c .before .value-of .ensures, p .part-of .ensures) at (c .if3 .left)),
+      rw (c .before .says-zero .ensures, p .part-of .ensures) at (c .if3 .left),
     )
 
 pub needed-next-spec : {M : Type 1} → statement M
@@ -64,6 +64,6 @@ needed-next-spec =
     byte-of-requires-2
     returns-2
     part-of-requires
-    value-of-requires
+    says-zero-requires
     returns-3
     returns-4)
