@@ -31,7 +31,7 @@ extern "C" {
 #define TTW_REFUSAL(answer) ((answer) >> 56)
 /* The file to blame: 1 the table file, 2 the point file, 0 no file. */
 #define TTW_FILE(answer) (((answer) >> 52) & 15u)
-/* The refusal's second detail. */
+/* The refusal's second detail: the byte for 4, the view where building gives 8 or 9, otherwise 0. */
 #define TTW_SECOND(answer) (((answer) >> 32) & 0xFFFFFu)
 /* The refusal's detail. */
 #define TTW_DETAIL(answer) ((answer) & 0xFFFFFFFFu)
@@ -43,7 +43,8 @@ extern "C" {
  *   2 the header is malformed (1)
  *   3 the trailer's identifier or count is wrong (the last record)
  *   then record by record
- *   4 the record is malformed
+ *   4 the record is malformed (the second detail is the byte of the record at which its first fault stands, counted
+ *     from 1, the fields being tried in record order)
  *   5 it is not above the record before
  *   6 a follower is missing (the type 1 is named), or stray (it is named itself)
  */

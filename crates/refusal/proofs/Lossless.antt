@@ -20,7 +20,7 @@ use Rattle.refusal.specs.Packed.{word, packed, FitsRefusal, Fits}
 abbrev reason-of : ℕ → ℕ → ℕ → Reason
 reason-of n d s =
     getD
-    (Length ∷ Length ∷ Header ∷ Trailer d ∷ Malformed d ∷ NotAbove d ∷ Follower d ∷ NoSuchNumber ∷ Combination d s
+    (Length ∷ Length ∷ Header ∷ Trailer d ∷ Malformed d s ∷ NotAbove d ∷ Follower d ∷ NoSuchNumber ∷ Combination d s
     ∷ MissingKey d s
     ∷ Room d
     ∷ BadPack d
@@ -36,7 +36,7 @@ known : (r : Reason) → Known r
 known Length = (refl, refl, refl)
 known Header = (refl, refl, refl)
 known (Trailer d) = (refl, refl, refl)
-known (Malformed d) = (refl, refl, refl)
+known (Malformed d s) = (refl, refl, refl)
 known (NotAbove d) = (refl, refl, refl)
 known (Follower d) = (refl, refl, refl)
 known NoSuchNumber = (refl, refl, refl)

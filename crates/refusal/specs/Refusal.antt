@@ -9,7 +9,7 @@ abbrev pub number : Reason → ℕ
 number Length = 1
 number Header = 2
 number (Trailer last) = 3
-number (Malformed at) = 4
+number (Malformed at byte) = 4
 number (NotAbove at) = 5
 number (Follower at) = 6
 number NoSuchNumber = 7
@@ -24,7 +24,7 @@ abbrev pub detail : Reason → ℕ
 detail Length = 0
 detail Header = 1
 detail (Trailer last) = last
-detail (Malformed at) = at
+detail (Malformed at byte) = at
 detail (NotAbove at) = at
 detail (Follower at) = at
 detail NoSuchNumber = 0
@@ -34,12 +34,13 @@ detail (Room needed) = needed
 detail (BadPack step) = step
 detail BadCode = 0
 
--- "Building: .. the label's 8 or 9 of the first live view in that code that has one, together with its view number"
+-- "refusal 4 then carries record and byte of the record" (document 02, No. 1); "Building: .. the label's 8 or 9 of the first
+-- live view in that code that has one, together with its view number"
 abbrev pub second : Reason → ℕ
 second Length = 0
 second Header = 0
 second (Trailer last) = 0
-second (Malformed at) = 0
+second (Malformed at byte) = byte
 second (NotAbove at) = 0
 second (Follower at) = 0
 second NoSuchNumber = 0
@@ -49,16 +50,16 @@ second (Room needed) = 0
 second (BadPack step) = 0
 second BadCode = 0
 
--- refusal 4 names the record; the byte of the first fault is known where it is made, and is not told
+-- refusal 4 of a record, with the byte of its first fault
 abbrev pub malformedAt : ℕ → ℕ → Reason
-malformedAt at byte = Malformed at
+malformedAt at byte = Malformed at byte
 
 -- the same refusal "together with its view number"; only 8 and 9 have one
 abbrev pub withView : ℕ → Reason → Reason
 withView view Length = Length
 withView view Header = Header
 withView view (Trailer last) = Trailer last
-withView view (Malformed at) = Malformed at
+withView view (Malformed at byte) = Malformed at byte
 withView view (NotAbove at) = NotAbove at
 withView view (Follower at) = Follower at
 withView view NoSuchNumber = NoSuchNumber

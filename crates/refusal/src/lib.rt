@@ -4,12 +4,12 @@ ghost use Rattle.refusal.specs.Refusal.{number, detail, second, malforme
 ghost use Rattle.refusal.specs.Packed.{word, packed};
 
 // Why a call refuses, a case for each number of document 01's table, with its details. Records, views, rules, fields
-// and steps are counted from 1. `view` is the view at which building stopped, and 0 where a single label was asked.
+// and steps are counted from 1, and so are the bytes of a record. `view` is the view at which building stopped, and 0 where a single label was asked.
 pub enum Reason {
     Length,
     Header,
     Trailer { record: usize },
-    Malformed { record: usize },
+    Malformed { record: usize, byte: usize },
     NotAbove { record: usize },
     Follower { record: usize },
     NoSuchNumber,
@@ -26,11 +26,11 @@ pub enum Answer {
     Refused { file: usize, reason: Reason },
 }
 
-// The refusal of a malformed record. The byte of its first fault is asked for and not told: refusal 4 has one detail.
+// The refusal of a malformed record: where it stands in its file, and where its first fault stands in it.
 pub fn malformed(at: usize, byte: usize) -> Reason
     ensures { λ r. ⌜ r ≡ malformedAt at byte ⌝ }
 {
-    Reason::Malformed { record: at }
+    Reason::Malformed { record: at, byte }
 }
 
 // Document 01's number of a refusal.
@@ -41,7 +41,7 @@ pub fn number_of(reason: Reason) -> usize
         Reason::Length => 1,
         Reason::Header => 2,
         Reason::Trailer { record: _ } => 3,
-        Reason::Malformed { record: _ } => 4,
+        Reason::Malformed { record: _, byte: _ } => 4,
         Reason::NotAbove { record: _ } => 5,
         Reason::Follower { record: _ } => 6,
         Reason::NoSuchNumber => 7,
@@ -61,7 +61,7 @@ pub fn detail_of(reason: Reason) -> usize
         Reason::Length => 0,
         Reason::Header => 1,
         Reason::Trailer { record } => record,
-        Reason::Malformed { record } => record,
+        Reason::Malformed { record, byte: _ } => record,
         Reason::NotAbove { record } => record,
         Reason::Follower { record } => record,
         Reason::NoSuchNumber => 0,
@@ -73,7 +73,7 @@ pub fn detail_of(reason: Reason) -> usize
     }
 }
 
-// The second detail: the view number where building gives 8 or 9.
+// The second detail: the byte where 4 names a record, the view number where building gives 8 or 9.
 pub fn second_of(reason: Reason) -> usize
     ensures { λ r. ⌜ r ≡ second reason ⌝ }
 {
@@ -81,7 +81,7 @@ pub fn second_of(reason: Reason) -> usize
         Reason::Length => 0,
         Reason::Header => 0,
         Reason::Trailer { record: _ } => 0,
-        Reason::Malformed { record: _ } => 0,
+        Reason::Malformed { record: _, byte } => byte,
         Reason::NotAbove { record: _ } => 0,
         Reason::Follower { record: _ } => 0,
         Reason::NoSuchNumber => 0,
@@ -101,7 +101,7 @@ pub fn with_view(reason: Reason, view: usize) -> Reason
         Reason::Length => Reason::Length,
         Reason::Header => Reason::Header,
         Reason::Trailer { record } => Reason::Trailer { record },
-        Reason::Malformed { record } => Reason::Malformed { record },
+        Reason::Malformed { record, byte } => Reason::Malformed { record, byte },
         Reason::NotAbove { record } => Reason::NotAbove { record },
         Reason::Follower { record } => Reason::Follower { record },
         Reason::NoSuchNumber => Reason::NoSuchNumber,

@@ -14,10 +14,11 @@ use Rattle.refusal.specs.declared.Reason.{Reason}
 use Rattle.refusal.specs.declared.Reason.the-variants.{Length, Header, Trailer, Malformed, NotAbove, Follower, NoSuchNumber, Combination, MissingKey, Room, BadPack, BadCode}
 use Rattle.refusal.specs.declared.Answer.{Answer}
 use Rattle.refusal.specs.declared.Answer.the-variants.{Value, Refused}
-use Rattle.refusal.specs.Refusal.{number, detail}
+use Rattle.refusal.specs.Refusal.{number, detail, second}
 use Rattle.files.specs.declared.check.Verdict.{Verdict}
 use Rattle.files.specs.declared.check.Verdict.the-variants.{Fine, Bad}
 use Rattle.record.specs.Ends.{headerOk, trailerOk}
+use Rattle.faults.proofs.Bounds.{table-bound, point-bound}
 use Rattle.files.specs.Check.{Format, records, whole as whole-records, at, rises, judged, orElse, scan, verdict, answered, checked}
 use Rattle.files.specs.Formats.{tableFormat, pointFormat}
 use Rattle.files.proofs.Accepted.{Accepted, accepted}
@@ -31,7 +32,7 @@ use Rattle.label.specs.Label.{labelOf}
 use Rattle.pair.specs.Pair.{resolvedAt, ViewPlace}
 use Rattle.pair.proofs.Laws.{wanted-place}
 use Rattle.report.specs.Fed.{fitting}
-use Rattle.report.specs.Report.{tableWord, pointsWord, decimal, refusedLine, resolvedText, viewText, block, blocks, pairText, fileText, pointsText, reportOf}
+use Rattle.report.specs.Report.{tableWord, pointsWord, decimal, spacedNumber, byteText, refusedLine, resolvedText, viewText, block, blocks, pairText, fileText, pointsText, reportOf}
 use Rattle.report.proofs.Decimals.{decimal-one, decimal-more}
 use Rattle.report.proofs.Labels.{label-fits}
 
@@ -50,12 +51,15 @@ decimal-size (suc j) n h =
           length-append (decimal (n / 10)) ((48 + n % 10) ∷ []),
         )
 
--- a refusal that names no more than a number
+-- a refusal that names no more than a number, and a byte of a record at most
+abbrev Told : ℕ → Reason → Type 0
+Told n why = (detail why ≤ n) × (second why ≤ 999)
+
 abbrev Below : ℕ → Verdict → Type 0
 Below n Fine = Unit {0}
-Below n (Bad why) = detail why ≤ n
+Below n (Bad why) = Told n why
 
-below-three : (n : ℕ) (t u v : Bool) (x y z : Reason) → detail x ≤ n → detail y ≤ n → detail z ≤ n
+below-three : (n : ℕ) (t u v : Bool) (x y z : Reason) → Told n x → Told n y → Told n z
     → Below n (cond t (cond u (cond v Fine (Bad x)) (Bad y)) (Bad z))
 below-three n true true true x y z h k l = tt
 below-three n true true false x y z h k l = h
@@ -65,15 +69,15 @@ below-three n false u v x y z h k l = l
 below-ends : (n : ℕ) (t u v : Bool) (w : Verdict) (last : ℕ) → Below n w → last ≤ n → 1 ≤ n
     → Below n (cond t (cond u (cond v w (Bad (Trailer last))) (Bad Header)) (Bad Length))
 below-ends n true true true w last h k l = h
-below-ends n true true false w last h k l = k
-below-ends n true false v w last h k l = l
-below-ends n false u v w last h k l = omega arith
+below-ends n true true false w last h k l = (k, omega arith)
+below-ends n true false v w last h k l = (l, omega arith)
+below-ends n false u v w last h k l = (omega arith, omega arith)
 
 below-else : (n : ℕ) (a b : Verdict) → Below n a → Below n b → Below n (orElse a b)
 below-else n Fine b h k = k
 below-else n (Bad why) b h k = h
 
-module _ (f : Format) (file : List ℕ) (n : ℕ) where
+module _ (f : Format) (near : (rec : List ℕ) → f .fault rec ≤ 170) (file : List ℕ) (n : ℕ) where
   judged-below : (i : ℕ) → i + 1 ≤ n → Below n (judged f file i)
   unfolding judged
   judged-below i h =
@@ -81,10 +85,10 @@ module _ (f : Format) (file : List ℕ) (n : ℕ) where
       (f .between (at f file (i - 1)) (at f file i) (at f file (i + 1)))
       (Follower (i + 1))
       (NotAbove (i + 1))
-      (Malformed (i + 1))
-      h
-      h
-      h
+      (Malformed (i + 1) (f .fault (at f file i)))
+      (h, omega arith)
+      (h, omega arith)
+      (h, omega (arith, near (at f file i)))
 
   scan-below : (k i : ℕ) → k + i ≤ n → Below n (scan (judged f file) k i)
   scan-below zero i h = tt
@@ -106,11 +110,12 @@ module _ (f : Format) (file : List ℕ) (n : ℕ) where
 -- an answer that tells no more than a number
 abbrev Said : ℕ → Answer → Type 0
 Said n (Value k) = k ≤ n
-Said n (Refused file why) = detail why ≤ n
+Said n (Refused file why) = Told n why
 
-checked-said : (f : Format) (file : List ℕ) (n : ℕ) → records f file ≤ n → 1 ≤ n → Said n (checked f file)
+checked-said : (f : Format) → ((rec : List ℕ) → f .fault rec ≤ 170) → (file : List ℕ) (n : ℕ) → records f file ≤ n → 1 ≤ n
+    → Said n (checked f file)
 unfolding checked
-checked-said f file n h k = by-verdict (verdict f file) (verdict-below f file n h k)
+checked-said f near file n h k = by-verdict (verdict f file) (verdict-below f near file n h k)
   where
     by-verdict : (v : Verdict) → Below n v → Said n (answered f file v)
     by-verdict Fine b = h
@@ -156,9 +161,9 @@ forbidden-most a =
 
 abbrev Mild : Resolved → Type 0
 Mild (elements e) = length (labelOf e) ≤ 499
-Mild (refused why) = detail why ≤ 8
+Mild (refused why) = Told 8 why
 
-mild-by : (t u : Bool) (e : Elements) (x y : Reason) → length (labelOf e) ≤ 499 → detail x ≤ 8 → detail y ≤ 8
+mild-by : (t u : Bool) (e : Elements) (x y : Reason) → length (labelOf e) ≤ 499 → Told 8 x → Told 8 y
     → Mild (cond t (cond u (elements e) (refused x)) (refused y))
 mild-by true true e x y h k l = h
 mild-by true false e x y h k l = k
@@ -170,15 +175,15 @@ resolve-mild look a h =
     mild-by (eqb (forbidden a) 0) (eqb (missing look a) 0) (elementsOf look a) (MissingKey (missing look a) 0)
     (Combination (forbidden a) 0)
     h
-    (missing-most look a)
-    (forbidden-most a)
+    (missing-most look a, omega arith)
+    (forbidden-most a, omega arith)
 
 -- the line of a refusal
 number-most : (why : Reason) → number why ≤ 12
 number-most Length = omega arith
 number-most Header = omega arith
 number-most (Trailer last) = omega arith
-number-most (Malformed at) = omega arith
+number-most (Malformed at byte) = omega arith
 number-most (NotAbove at) = omega arith
 number-most (Follower at) = omega arith
 number-most NoSuchNumber = omega arith
@@ -188,19 +193,28 @@ number-most (Room needed) = omega arith
 number-most (BadPack step) = omega arith
 number-most BadCode = omega arith
 
-refused-size : (why : Reason) → detail why ≤ 50_700 → length (refusedLine why) ≤ 20
+byte-size : (why : Reason) → second why ≤ 999 → length (byteText why) ≤ 4
+unfolding byteText
+byte-size why h = by-test (eqb (number why) 4)
+  where
+    by-test : (t : Bool) → length (cond t (spacedNumber (second why)) []) ≤ 4
+    by-test true = omega (arith, decimal-size 2 (second why) (omega arith))
+    by-test false = omega arith
+
+refused-size : (why : Reason) → Told 50_700 why → length (refusedLine why) ≤ 24
 unfolding refusedLine
 refused-size why h =
     simp length-append
     (omega (
       arith,
       decimal-size 4 (number why) (omega (arith, number-most why)),
-      decimal-size 4 (detail why) (omega arith),
+      decimal-size 4 (detail why) (omega (arith, h .0)),
+      byte-size why (h .1),
     ))
 
 resolved-size : (r : Resolved) → Mild r → length (resolvedText r) ≤ 499
 resolved-size (elements e) h = h
-resolved-size (refused why) h = omega (arith, refused-size why (omega arith))
+resolved-size (refused why) h = omega (arith, refused-size why (omega (arith, h .0), h .1))
 
 module _ (table points : List ℕ) (t : Accepted tableFormat table) (p : Accepted pointFormat points) where
   view-size : (place : ℕ) → ViewPlace table points place → length (viewText table points place) ≤ 499
@@ -208,7 +222,7 @@ module _ (table points : List ℕ) (t : Accepted tableFormat table) (p : Accepte
   view-size place v = by-test (eqb place 0) refl
     where
       by-test : (b : Bool) → eqb place 0 ≡ b → length (viewText table points place) ≤ 499
-      by-test true e = rw e (omega (arith, refused-size NoSuchNumber (omega arith)))
+      by-test true e = rw e (omega (arith, refused-size NoSuchNumber (omega arith, omega arith)))
       by-test false e =
           rw e
           (resolved-size (resolvedAt table points place)
@@ -270,7 +284,7 @@ points-size table points t e m = by-test (ltb 50_400 (length points)) refl
         let few = div-le-of-le-mul 168 {m = length points} {n = 50_700} (omega arith) in
         rw q
         (file-size pointsWord (checked pointFormat points) (pairText table points t) (omega arith)
-        (checked-said pointFormat points 50_700 few (omega arith))
+        (checked-said pointFormat point-bound points 50_700 few (omega arith))
         (λ n d s. pair-size table points (accepted tableFormat table t e) (accepted pointFormat points n d) h t n m s))
 
 pub at-most-160000 : (table points : List ℕ) → length (reportOf table points) ≤ 160_000
@@ -284,7 +298,7 @@ at-most-160000 table points = by-test (ltb 50_700 (length table)) refl
         let few = div-le-of-le-mul 169 {m = length table} {n = 50_700} (omega arith) in
         rw q
         (file-size tableWord (checked tableFormat table) (pointsText table points) (omega arith)
-        (checked-said tableFormat table 50_700 few (omega arith))
+        (checked-said tableFormat table-bound table 50_700 few (omega arith))
         (λ t e m. points-size table points t e m))
 
 -- all of it is written where there is so much room

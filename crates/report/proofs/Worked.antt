@@ -3,7 +3,7 @@
 use Prim.Native.Nat.{ℕ, _+_}
 use mathlib.Core.Path.{_≡_, refl}
 use mathlib.Core.List.{List, [], _∷_, _++_}
-use lib.ListN.{take, replicate}
+use lib.ListN.{take, replicate, set}
 use Rattle.text.specs.Digits.{digitsFault, digitValue, value}
 use Rattle.text.specs.Text.{textFault, filledFault, textIn, numericLike}
 use Rattle.record.specs.Ends.{identifier, headerOk, trailerOk}
@@ -24,7 +24,7 @@ use Rattle.source.specs.Addresses.{addressOf}
 use Rattle.source.specs.Rows.{digitsOf, tableLookup}
 use Rattle.label.specs.Label.{labelOf}
 use Rattle.label.specs.Lines.{numberText, linesOf}
-use Rattle.report.specs.Report.{decimal, refusedLine, viewText, block, pairText, pointsText, reportOf}
+use Rattle.report.specs.Report.{decimal, byteText, refusedLine, viewText, block, pairText, pointsText, reportOf}
 
 -- a field of n bytes, padded with spaces
 abbrev field : ℕ → List ℕ → List ℕ
@@ -103,5 +103,14 @@ refused-line = 114 ∷ 101 ∷ 102 ∷ 117 ∷ 115 ∷ 101 ∷ 100 ∷ 32 ∷ 57
 
 pub one-run : reportOf table points
     ≡ pair-line ++ (view-1 ++ (line-1 ++ (line-2 ++ (line-3 ++ (line-4 ++ (view-2 ++ refused-line))))))
-unfolding digitsFault digitValue value textFault filledFault textIn numericLike identifier headerOk trailerOk recordAt inwardLetter inwardFault suffixFault class allowed outwardFault oneOf keyFault pointFault doubleFault tableFault judged verdict checked needed follows placed wanted wantedIn wantedCount wantedAt rowOf found forbidden missing elementsOf resolve addressOf tableLookup labelOf numberText linesOf decimal refusedLine viewText block pairText pointsText reportOf
+unfolding digitsFault digitValue value textFault filledFault textIn numericLike identifier headerOk trailerOk recordAt inwardLetter inwardFault suffixFault class allowed outwardFault oneOf keyFault pointFault doubleFault tableFault judged verdict checked needed follows placed wanted wantedIn wantedCount wantedAt rowOf found forbidden missing elementsOf resolve addressOf tableLookup labelOf numberText linesOf decimal byteText refusedLine viewText block pairText pointsText reportOf
 one-run = refl
+
+-- the same with a small q for the Q of QUARRY, byte 25 of record 3: table refused 4 3 25
+abbrev misspelt-line : List ℕ
+misspelt-line =
+    116 ∷ 97 ∷ 98 ∷ 108 ∷ 101 ∷ 32 ∷ 114 ∷ 101 ∷ 102 ∷ 117 ∷ 115 ∷ 101 ∷ 100 ∷ 32 ∷ 52 ∷ 32 ∷ 51 ∷ 32 ∷ 50 ∷ 53 ∷ 10 ∷ []
+
+pub one-refused : reportOf (set table 362 113) points ≡ misspelt-line
+unfolding digitsFault digitValue value textFault filledFault textIn numericLike identifier headerOk trailerOk recordAt inwardLetter inwardFault suffixFault class allowed outwardFault oneOf keyFault pointFault doubleFault tableFault judged verdict checked needed follows placed wanted wantedIn wantedCount wantedAt rowOf found forbidden missing elementsOf resolve addressOf tableLookup labelOf numberText linesOf decimal byteText refusedLine viewText block pairText pointsText reportOf
+one-refused = refl

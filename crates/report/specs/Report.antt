@@ -9,7 +9,7 @@ use Rattle.refusal.specs.declared.Reason.{Reason}
 use Rattle.refusal.specs.declared.Reason.the-variants.{NoSuchNumber}
 use Rattle.refusal.specs.declared.Answer.{Answer}
 use Rattle.refusal.specs.declared.Answer.the-variants.{Value, Refused}
-use Rattle.refusal.specs.Refusal.{number, detail}
+use Rattle.refusal.specs.Refusal.{number, detail, second}
 use Rattle.record.specs.Parts.{recordAt}
 use Rattle.files.specs.Check.{checked}
 use Rattle.files.specs.Formats.{tableFormat, pointFormat}
@@ -50,9 +50,14 @@ decimal n = decimalIn n n
 abbrev pub spacedNumber : ℕ → List ℕ
 spacedNumber n = 32 ∷ decimal n
 
--- "`refused`, number, detail"
+-- "refusal 4 then carries record and byte of the record .. and the program prints it last" (document 02, No. 1)
+unfoldable pub byteText : Reason → List ℕ
+byteText why = cond (eqb (number why) 4) (spacedNumber (second why)) []
+
+-- "`refused`, number, detail", and that byte
 unfoldable pub refusedLine : Reason → List ℕ
-refusedLine why = refusedWord ++ (spacedNumber (number why) ++ (spacedNumber (detail why) ++ (10 ∷ [])))
+refusedLine why =
+    refusedWord ++ (spacedNumber (number why) ++ (spacedNumber (detail why) ++ (byteText why ++ (10 ∷ []))))
 
 -- "then the label, or `refused`, number, detail"
 abbrev pub resolvedText : Resolved → List ℕ

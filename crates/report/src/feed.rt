@@ -4,7 +4,7 @@ use refusal::Reason;
 ghost use Prim.Native.Nat.{_≤_};
 ghost use lib.ListN.{length};
 ghost use Rattle.report.specs.Fed.{Fed};
-ghost use Rattle.report.specs.Report.{spacedNumber, refusedLine};
+ghost use Rattle.report.specs.Report.{spacedNumber, byteText, refusedLine};
 
 // A text.
 pub fn text_at(t: &[u8], at: usize, out: &mut [u8]) -> usize
@@ -29,7 +29,18 @@ pub fn number_at(n: usize, at: usize, out: &mut [u8]) -> usize
     text_at(&digits[..k], i, out)
 }
 
-// `refused`, number, detail.
+// A space and the byte, where a record is malformed.
+fn fault_at(reason: Reason, at: usize, out: &mut [u8]) -> usize
+    requires { ⌜ at ≤ length (now out) ⌝ }
+    ensures { λ r. ⌜ Fed (byteText reason) (now (out .entry)) at r (now (out .exit)) ⌝ }
+{
+    if refusal::number_of(reason) != 4 {
+        return at;
+    }
+    number_at(refusal::second_of(reason), at, out)
+}
+
+// `refused`, number, detail, and the byte of a malformed record.
 pub fn refused_at(reason: Reason, at: usize, out: &mut [u8]) -> usize
     requires { ⌜ at ≤ length (now out) ⌝ }
     ensures { λ r. ⌜ Fed (refusedLine reason) (now (out .entry)) at r (now (out .exit)) ⌝ }
@@ -37,5 +48,6 @@ pub fn refused_at(reason: Reason, at: usize, out: &mut [u8]) -> usize
     let i = text_at(b"refused", at, out);
     let j = number_at(refusal::number_of(reason), i, out);
     let k = number_at(refusal::detail_of(reason), j, out);
-    text_at(b"\n", k, out)
+    let l = fault_at(reason, k, out);
+    text_at(b"\n", l, out)
 }

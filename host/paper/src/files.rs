@@ -85,8 +85,9 @@ fn check_record(
     fault: fn(&[u8]) -> usize,
 ) -> Result<(), Refusal> {
     let record = record_at(file, rules, number);
-    if fault(record) != 0 {
-        return Err(Refusal::of_file(rules.file, 4, number as u64));
+    let byte = fault(record);
+    if byte != 0 {
+        return Err(Refusal::malformed(rules.file, number, byte));
     }
     if number > 2 {
         let before = record_at(file, rules, number - 1);

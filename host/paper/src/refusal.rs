@@ -8,7 +8,8 @@ pub struct Refusal {
     pub number: u8,
     /// The file to blame: 1 the table file, 2 the point file, 0 neither.
     pub file: u8,
-    /// The view number where building gives 8 or 9, otherwise 0.
+    /// The byte of the record where 4 is given, the view number where building
+    /// gives 8 or 9, otherwise 0.
     pub second: u64,
     /// The detail of document 01's table.
     pub detail: u64,
@@ -27,6 +28,15 @@ impl Refusal {
             file,
             second: 0,
             detail,
+        }
+    }
+
+    /// Refusal 4: a record of a file, and the byte of it at which its first
+    /// fault stands, both counted from 1.
+    pub fn malformed(file: u8, record: usize, byte: usize) -> Refusal {
+        Refusal {
+            second: byte as u64,
+            ..Refusal::of_file(file, 4, record as u64)
         }
     }
 

@@ -49,7 +49,11 @@ fn check_length(name: &str, file: &[u8], rules: &FileRules) -> Result<(), String
     }
 }
 
-/// `refused`, number, detail.
+/// `refused`, number, detail, and the byte of a malformed record last.
 fn refused(refusal: Refusal) -> String {
-    format!("refused {} {}\n", refusal.number, refusal.detail)
+    let line = format!("refused {} {}", refusal.number, refusal.detail);
+    match refusal.number {
+        4 => format!("{line} {}\n", refusal.second),
+        _ => format!("{line}\n"),
+    }
 }

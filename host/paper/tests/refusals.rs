@@ -96,7 +96,10 @@ fn every_table_field_that_is_read_can_be_at_fault() {
             change.apply(&mut broken);
             assert_eq!(table_fault(&broken), change.fault, "{row_type} {change:?}");
             let file = table_file_of(&[broken]);
-            assert_eq!(check_table(&file), Err(refusal(4, 1, 2)));
+            assert_eq!(
+                check_table(&file),
+                Err(Refusal::malformed(1, 2, change.fault))
+            );
         }
     }
 }
@@ -121,7 +124,10 @@ fn every_point_field_that_is_read_can_be_at_fault() {
                 "{record_type} {change:?}"
             );
             let file = point_file_of(&[broken]);
-            assert_eq!(check_points(&file), Err(refusal(4, 2, 2)));
+            assert_eq!(
+                check_points(&file),
+                Err(Refusal::malformed(2, 2, change.fault))
+            );
         }
     }
 }
@@ -180,10 +186,10 @@ fn files_are_refused_in_the_order_1_2_3_then_record_by_record() {
     let mut table = pair.table.clone();
     let last = table.len() - 1;
     table[3 * 169] = b'9';
-    assert_eq!(check_table(&table), Err(refusal(4, 1, 4)));
+    assert_eq!(check_table(&table), Err(Refusal::malformed(1, 4, 1)));
     table[2 * 169 + 1..2 * 169 + 9].copy_from_slice(b"00000001");
     table[2 * 169] = b'1';
-    assert_eq!(check_table(&table), Err(refusal(4, 1, 3)));
+    assert_eq!(check_table(&table), Err(Refusal::malformed(1, 3, 70)));
     table[last - 168] = 0;
     assert_eq!(check_table(&table), Err(refusal(3, 1, 7)));
     table[0] = 1;
@@ -215,12 +221,12 @@ fn followers_are_judged_before_they_are_tested() {
     records[1][42..102].fill(b' ');
     assert_eq!(
         check_points(&point_file_of(&records)),
-        Err(refusal(4, 2, 3))
+        Err(Refusal::malformed(2, 3, 43))
     );
     records[0][40] = b'X';
     assert_eq!(
         check_points(&point_file_of(&records)),
-        Err(refusal(4, 2, 2))
+        Err(Refusal::malformed(2, 2, 41))
     );
 }
 
@@ -264,7 +270,10 @@ fn stray_records_are_tested_before_they_are_stray() {
     stray[0] = b'1';
     assert_eq!(check_points(&file(&stray)), Err(refusal(5, 2, 3)));
     stray[0] = b'X';
-    assert_eq!(check_points(&file(&stray)), Err(refusal(4, 2, 3)));
+    assert_eq!(
+        check_points(&file(&stray)),
+        Err(Refusal::malformed(2, 3, 1))
+    );
 }
 
 /// The refusals of rule 8 and of missing keys, for a view that has all rows.
@@ -526,5 +535,6 @@ fn answers_are_packed_into_bits() {
         detail: 7,
     };
     assert_eq!(packed(Err(refused)), 9 << 56 | 5 << 32 | 7);
-    assert_eq!(refusal(4, 2, 20_000).packed(), 4 << 56 | 2 << 52 | 20_000);
+    let malformed = Refusal::malformed(2, 20_000, 168);
+    assert_eq!(malformed.packed(), 4 << 56 | 2 << 52 | 168 << 32 | 20_000);
 }

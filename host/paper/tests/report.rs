@@ -26,11 +26,11 @@ fn a_refused_file_gives_one_line_the_table_file_first() {
     let mut bad_points = pair.points.clone();
     bad_points[2 * 168 + 14] = b'Q';
     let (table, points) = (Some(&pair.table[..]), Some(&pair.points[..]));
-    assert_eq!(printed(Some(&bad_table), points), "table refused 4 4\n");
-    assert_eq!(printed(table, Some(&bad_points)), "points refused 4 3\n");
+    assert_eq!(printed(Some(&bad_table), points), "table refused 4 4 25\n");
+    assert_eq!(printed(table, Some(&bad_points)), "points refused 4 3 15\n");
     assert_eq!(
         printed(Some(&bad_table), Some(&bad_points)),
-        "table refused 4 4\n"
+        "table refused 4 4 25\n"
     );
 }
 

@@ -41,7 +41,7 @@ point 2: refused 7, file 0, second 0, detail 0
 pack without its last byte: refused 11, file 0, second 0, detail 1
 empty table: refused 1, file 1, second 0, detail 0
 table with another header: refused 2, file 1, second 0, detail 1
-points with another letter: refused 4, file 2, second 0, detail 3
+points with another letter: refused 4, file 2, second 41, detail 3
 ";
 
 /// A folder of its own for one run of a test, removed with all it holds.

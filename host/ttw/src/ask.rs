@@ -16,8 +16,9 @@ pub struct Refusal {
     pub number: u8,
     /// The file to blame: 1 the table file, 2 the point file, 0 no file.
     pub file: u8,
-    /// The view, where building a pack is refused because of one.
-    pub view: u64,
+    /// The byte of a malformed record; the view, where building a pack is
+    /// refused because of one.
+    pub second: u64,
     /// The record, rule, field, step or bytes needed, by the number.
     pub detail: u64,
 }
@@ -31,7 +32,7 @@ pub fn answer(number: u64) -> Result<u64, Refusal> {
     Err(Refusal {
         number: refusal,
         file: (number >> 52 & 0xF) as u8,
-        view: number >> 32 & 0xF_FFFF,
+        second: number >> 32 & 0xF_FFFF,
         detail: number & 0xFFFF_FFFF,
     })
 }

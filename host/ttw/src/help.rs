@@ -82,7 +82,7 @@ const REFUSALS: &str = "\
  1  a file's length is not that of 2 to 20,000 whole records
  2  its header is malformed
  3  its trailer is malformed, or has another count
- 4  a record is malformed
+ 4  a record is malformed; the byte is counted from the first of the record
  5  a record is not above the record before it
  6  a record lacks its organisation record, or is a stray one
  7  no view or point of that number

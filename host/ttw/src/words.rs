@@ -9,7 +9,7 @@ pub fn words(refusal: &Refusal, subject: &str) -> String {
     let who = match refusal.file {
         1 => "table".to_string(),
         2 => "points".to_string(),
-        _ if refusal.view > 0 => format!("{subject}: view {}", refusal.view),
+        _ if refusal.second > 0 => format!("{subject}: view {}", refusal.second),
         _ => subject.to_string(),
     };
     let detail = match refusal.number {
@@ -28,7 +28,7 @@ fn reason(refusal: &Refusal) -> String {
         1 => "the length is not that of 2 to 20,000 whole records".to_string(),
         2 => format!("record {detail} is not the header of such a file"),
         3 => format!("record {detail}, the last, is not a trailer with the right count"),
-        4 => format!("record {detail} is malformed"),
+        4 => format!("record {detail} is malformed at byte {}", refusal.second),
         5 => format!("record {detail} is not above the record before it"),
         6 => format!("record {detail} lacks its organisation record, or is a stray one"),
         7 => "there is none of that number".to_string(),

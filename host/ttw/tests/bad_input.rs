@@ -167,7 +167,7 @@ fn each_refusal_of_a_file_names_file_and_record() {
     let malformed = scratched(&[(2 * 169 + 1, b"X")], &[]);
     malformed
         .ttw(&check)
-        .only_tells(1, "table: record 3 is malformed (refusal 4)");
+        .only_tells(1, "table: record 3 is malformed at byte 2 (refusal 4)");
     let sequence = scratched(&[], &[(2 * 168, b"20110801")]);
     let told = "points: record 3 is not above the record before it (refusal 5)";
     sequence.ttw(&check).only_tells(1, told);

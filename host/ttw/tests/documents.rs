@@ -17,14 +17,22 @@ struct Block {
     lines: Vec<String>,
 }
 
-/// The documents, README first.
-fn documents() -> Vec<PathBuf> {
-    let mut documents: Vec<PathBuf> = fs::read_dir(root().join("docs"))
-        .expect("docs")
+/// The documents in a folder.
+fn documents_in(folder: &str) -> Vec<PathBuf> {
+    let mut documents: Vec<PathBuf> = fs::read_dir(root().join(folder))
+        .expect("a folder")
         .map(|entry| entry.expect("an entry").path())
+        .filter(|path| path.is_file())
         .collect();
     documents.sort();
-    documents.insert(0, root().join("README.md"));
+    documents
+}
+
+/// The documents, README first.
+fn documents() -> Vec<PathBuf> {
+    let mut documents = vec![root().join("README.md")];
+    documents.extend(documents_in("docs"));
+    documents.extend(documents_in("docs/landings"));
     documents.push(root().join("CHANGELOG.md"));
     documents
 }
@@ -192,11 +200,11 @@ fn the_files_that_documents_name_exist() {
     }
 }
 
-fn refusal(number: u8, file: u8, view: u64, detail: u64) -> Refusal {
+fn refusal(number: u8, file: u8, second: u64, detail: u64) -> Refusal {
     Refusal {
         number,
         file,
-        view,
+        second,
         detail,
     }
 }
@@ -207,7 +215,7 @@ fn messages() -> Vec<String> {
         (refusal(1, 1, 0, 0), "files"),
         (refusal(2, 1, 0, 1), "files"),
         (refusal(3, 2, 0, 47), "files"),
-        (refusal(4, 2, 0, 12), "files"),
+        (refusal(4, 2, 83, 12), "files"),
         (refusal(5, 2, 0, 1204), "files"),
         (refusal(6, 2, 0, 7), "files"),
         (refusal(7, 0, 0, 0), "view 42"),

@@ -246,8 +246,12 @@ pub fn damaged_table(rng: &mut Rng, number: u8, place: Place) -> Option<Damaged>
         (1..=3, _) => return damaged_frame(rng, table_file_of(&records), 1, number, place),
         (4 | 5, Place::First | Place::Last) | (5, Place::Second) => return None,
         (4, _) => {
-            let record = &mut records[at - 2];
-            rng.pick(&table_breaks(record[0] - b'0')).apply(record);
+            let breaks = table_breaks(records[at - 2][0] - b'0');
+            let byte = broken(rng, &mut records[at - 2], &breaks);
+            return Some(Damaged {
+                file: table_file_of(&records),
+                refusal: Refusal::malformed(1, at, byte),
+            });
         }
         (5, _) => records[at - 2] = records[rng.below(at - 2)].clone(),
         _ => return None,
@@ -383,8 +387,18 @@ fn malformed_point(rng: &mut Rng, views: &[View], place: Place) -> Damaged {
     if record_type != 1 {
         breaks.retain(|change| change.at >= 42);
     }
-    rng.pick(&breaks).apply(record);
-    damaged_at(&records, 4, at)
+    let byte = broken(rng, record, &breaks);
+    Damaged {
+        file: point_file_of(&records),
+        refusal: Refusal::malformed(2, at, byte),
+    }
+}
+
+/// Does one of the changes: the byte at which the first fault then stands.
+fn broken(rng: &mut Rng, record: &mut [u8], breaks: &[Break]) -> usize {
+    let change = rng.pick(breaks);
+    change.apply(record);
+    change.fault
 }
 
 /// The index of the view that stands at a place, counted in views.

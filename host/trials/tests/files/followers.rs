@@ -40,6 +40,16 @@ fn assert_refused(records: &[Record], number: u8, index: usize) {
     }
 }
 
+/// Fails where that one of these records isn't refused as malformed at that
+/// byte, wherever they stand in a file.
+#[track_caller]
+fn assert_malformed(records: &[Record], index: usize, byte: usize) {
+    for (before, behind) in PLACES {
+        let file = placed(before, records, behind);
+        POINTS.assert_malformed(&file, 2 + before as usize + index, byte);
+    }
+}
+
 /// How many plain views stand before and behind the records of a test.
 const PLACES: [(u32, u32); 7] = [(0, 0), (0, 1), (1, 0), (1, 1), (0, 3), (3, 0), (3, 3)];
 
@@ -204,14 +214,15 @@ fn a_malformed_follower_is_its_own_refusal_only_behind_byte_42() {
         for at in 42..162 {
             let mut malformed = records.clone();
             malformed[1][at] = b'a';
-            assert_refused(&malformed, 4, 1);
+            assert_malformed(&malformed, 1, at + 1);
         }
         for at in 0..42 {
             let mut malformed = records.clone();
             malformed[1][at] = b'!';
             assert_refused(&malformed, 6, 0);
             malformed[0][at] = b'!';
-            assert_refused(&malformed, 4, 0);
+            let first = if (14..18).contains(&at) { 14 } else { at };
+            assert_malformed(&malformed, 0, first + 1);
         }
     }
 }
@@ -220,7 +231,7 @@ fn a_malformed_follower_is_its_own_refusal_only_behind_byte_42() {
 fn a_blank_name_is_allowed_for_large_users_alone() {
     let mut small = View::default().small_user(7, "LEDA", "STORES").records();
     small[1][42..102].fill(b' ');
-    assert_refused(&small, 4, 1);
+    assert_malformed(&small, 1, 43);
     let mut large = View::default().large_user("LEDA", "STORES").records();
     large[1][42..102].fill(b' ');
     assert_taken(&large);
@@ -239,7 +250,7 @@ fn strays_and_owners_are_tested_before_their_followers() {
             lone[0..8].copy_from_slice(b"20110831");
             assert_refused(&behind_plain(&lone), 5, 1);
             lone[40] = b'X';
-            assert_refused(&behind_plain(&lone), 4, 1);
+            assert_malformed(&behind_plain(&lone), 1, 41);
         }
     }
 }

@@ -53,6 +53,13 @@ impl Kind {
         self.assert_answer(file, Err(refusal));
     }
 
+    /// Fails where a file isn't refused with 4 at that record and byte.
+    #[track_caller]
+    fn assert_malformed(&self, file: &[u8], record: usize, byte: usize) {
+        let refusal = Refusal::malformed(self.file, record, byte);
+        self.assert_answer(file, Err(refusal));
+    }
+
     #[track_caller]
     fn assert_answer(&self, file: &[u8], expected: Result<u64, Refusal>) {
         let answer = (self.ask)(file);

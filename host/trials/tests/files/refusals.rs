@@ -30,7 +30,7 @@ fn reach_every_place(kind: &Kind, highest: u8, make: fn(&mut Rng, u8, Place) -> 
                 if let Some(damaged) = make(&mut Rng::new(seed), number, place) {
                     let refusal = damaged.refusal;
                     assert_eq!((refusal.number, refusal.file), (number, kind.file));
-                    kind.assert_refused(&damaged.file, number, refusal.detail as usize);
+                    kind.assert_answer(&damaged.file, Err(refusal));
                     reached += 1;
                 }
             }
@@ -79,7 +79,7 @@ fn every_break_of_a_table_record_is_4_at_that_record() {
             for number in 2..=6 {
                 let mut file = accepted.clone();
                 change.apply(record_of(&TABLE, &mut file, number));
-                TABLE.assert_refused(&file, 4, number);
+                TABLE.assert_malformed(&file, number, change.fault);
                 broken += 1;
             }
         }
@@ -106,7 +106,7 @@ fn every_break_of_a_view_without_follower_is_4_at_that_record() {
         for number in 2..=4 {
             let mut file = accepted.clone();
             change.apply(record_of(&POINTS, &mut file, number));
-            POINTS.assert_refused(&file, 4, number);
+            POINTS.assert_malformed(&file, number, change.fault);
         }
     }
 }
@@ -126,12 +126,13 @@ fn every_break_of_a_view_with_follower_and_of_the_follower() {
             for change in point_breaks(if is_owner { 1 } else { follower_type }) {
                 let mut file = accepted.clone();
                 change.apply(record_of(&POINTS, &mut file, number));
-                let (refusal, named) = match is_owner || change.at >= 42 {
-                    true => (4, number),
-                    false => (6, number - 1),
-                };
-                POINTS.assert_refused(&file, refusal, named);
-                reached[usize::from(refusal)] += 1;
+                if is_owner || change.at >= 42 {
+                    POINTS.assert_malformed(&file, number, change.fault);
+                    reached[4] += 1;
+                } else {
+                    POINTS.assert_refused(&file, 6, number - 1);
+                    reached[6] += 1;
+                }
             }
         }
     }
@@ -149,7 +150,7 @@ fn the_largest_files_name_the_record_at_fault() {
             let follows = kind.file == 2 && record_of(&kind, &mut file, number)[41] != b'1';
             match follows {
                 true => kind.assert_refused(&file, 6, number - 1),
-                false => kind.assert_refused(&file, 4, number),
+                false => kind.assert_malformed(&file, number, 9),
             }
         }
     }
@@ -179,9 +180,9 @@ fn refusals_come_in_their_order() {
         record_of(kind, file, 4).copy_from_slice(&first);
         kind.assert_refused(file, 5, 4);
         record_of(kind, file, 4)[1] = b' ';
-        kind.assert_refused(file, 4, 4);
+        kind.assert_malformed(file, 4, 2);
         record_of(kind, file, 2)[1] = b':';
-        kind.assert_refused(file, 4, 2);
+        kind.assert_malformed(file, 2, 2);
         record_of(kind, file, last)[kind.identifier + 7] ^= 1;
         kind.assert_refused(file, 3, last);
         record_of(kind, file, 1)[kind.identifier] ^= 1;

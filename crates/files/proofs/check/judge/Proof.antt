@@ -3,6 +3,9 @@ use borrow.Author.Needs.{needs}
 use mathlib.Core.Path.{_≡_, refl, sym, ap, _∙_}
 use native.Mathlib.Omega.{arith}
 use borrow.Author.Tests.{not-true, not-false}
+use Prim.Native.Nat.{ℕ, _+_}
+use Rattle.refusal.specs.Refusal.{malformedAt}
+use Rattle.files.specs.declared.check.Verdict.the-variants.{Bad}
 use Rattle.files.specs.Formats.{formatOf}
 use Rattle.files.proofs.Laws.{judged-malformed, judged-falls, judged-stray, judged-fine}
 use Rattle.files.proofs.check.judge.Statement.{statement}
@@ -26,10 +29,10 @@ returns c =
     let f = t .before in
     let r = f .before in
     let a = r .before .before .args in
+    let byte = f .fault-in .ensures ∙ ap (formatOf (a .kind) .fault) (r .record-of .ensures) in
     rw (c .malformed .ensures)
-    (sym
-    (judged-malformed (formatOf (a .kind)) (a .file .now) (a .i)
-    (rw (f .fault-in .ensures, r .record-of .ensures) at (t .if1 .taken))))
+    (ap (λ (b : ℕ). Bad (malformedAt (a .i + 1) b)) byte
+    ∙ sym (judged-malformed (formatOf (a .kind)) (a .file .now) (a .i) (rw byte at (t .if1 .taken))))
 
 sub-record-of : tie.Need-sub-record-of
 sub-record-of c = search needs

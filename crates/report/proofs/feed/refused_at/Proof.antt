@@ -24,6 +24,9 @@ detail-of-requires c κs = search needs
 number-at-requires-2 : tie.Need-number-at-requires-2
 number-at-requires-2 c κs = search needs
 
+fault-at-requires : tie.Need-fault-at-requires
+fault-at-requires c κs = search needs
+
 slice-aggregate-text-at-2 : tie.Need-slice-aggregate-text-at-2
 slice-aggregate-text-at-2 c = search needs
 
@@ -37,13 +40,14 @@ returns : tie.Need-returns
 unfolding refusedLine
 returns c =
     let t = c .before .before in
-    let d = t .before .before .before .before .before in
+    let b = t .before .before .before .before .before in
+    let d = b .before .before .before .before in
     let n = d .before .before .before .before .before in
     let w = n .before .before .before .before .before in
     fed-then (w .text-at .ensures)
     (fed-then (fed-as (ap spacedNumber (n .before .before .number-of .ensures)) (n .number-at .ensures))
     (fed-then (fed-as (ap spacedNumber (d .before .before .detail-of .ensures)) (d .number-at2 .ensures))
-    (t .text-at2 .ensures)))
+    (fed-then (b .fault-at .ensures) (t .text-at2 .ensures))))
 
 pub refused-at-spec : {M : Type 1} → statement M
 refused-at-spec =
@@ -55,6 +59,7 @@ refused-at-spec =
     number-at-requires
     detail-of-requires
     number-at-requires-2
+    fault-at-requires
     slice-aggregate-text-at-2
     text-at-requires-2
     same-length
