@@ -1,2 +1,3 @@
+pub mod Letters
 pub mod Outward
 pub mod Inward

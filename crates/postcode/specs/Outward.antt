@@ -1,13 +1,14 @@
 -- Outward codes.
 -- Assumes nothing.
 use Prim.Native.Nat.{ℕ, zero, suc, _+_, _*_}
-use mathlib.Core.Bool.{Bool, cond, not, _&&_}
+use mathlib.Core.Bool.{Bool, cond, _&&_}
 use mathlib.Core.List.{List, [], _∷_}
 use lib.Dec.{eqb}
 use lib.ListN.{length}
 use Rattle.text.specs.Test.{elem}
 use Rattle.text.specs.Digits.{digit}
 use Rattle.text.specs.Text.{letter}
+use Rattle.postcode.specs.Letters.{firstRow, secondRow, thirdRow, marked}
 
 -- what a byte of a code is: 1 a letter (A), 2 a digit (N), 0 padding, 3 none of these
 unfoldable pub class : ℕ → ℕ
@@ -22,14 +23,11 @@ sequenceFrom q (x ∷ xs) = sequenceFrom (q * 10 + class x) xs
 abbrev pub patterns : List ℕ
 patterns = 1200 ∷ 1220 ∷ 1120 ∷ 1122 ∷ 1210 ∷ 1121 ∷ []
 
--- "the first is not Q, V, X; the second not I, Z; a third is one of A B C D E F G H J K M N P R S T U V W X Y", by how
--- many letters stand before it
+-- whether a letter may stand behind so many letters of the code
 unfoldable pub allowed : ℕ → ℕ → Bool
-allowed zero b = not (elem b (81 ∷ 86 ∷ 88 ∷ []))
-allowed (suc zero) b = not (elem b (73 ∷ 90 ∷ []))
-allowed (suc (suc more)) b =
-    elem b
-    (65 ∷ 66 ∷ 67 ∷ 68 ∷ 69 ∷ 70 ∷ 71 ∷ 72 ∷ 74 ∷ 75 ∷ 77 ∷ 78 ∷ 80 ∷ 82 ∷ 83 ∷ 84 ∷ 85 ∷ 86 ∷ 87 ∷ 88 ∷ 89 ∷ [])
+allowed zero b = marked firstRow b
+allowed (suc zero) b = marked secondRow b
+allowed (suc (suc more)) b = marked thirdRow b
 
 -- "Counting only the letters": the place of the first letter that may not stand where it stands
 abbrev pub lettersFault : ℕ → ℕ → List ℕ → ℕ

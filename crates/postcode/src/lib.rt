@@ -3,7 +3,9 @@
 ghost use mathlib.Core.Path.{_≡_};
 ghost use mathlib.Core.Bool.{cond};
 ghost use mathlib.Core.List.{[], _∷_};
+ghost use lib.ListN.{length};
 ghost use Rattle.postcode.specs.Outward.{class, allowed, outwardFault};
+ghost use Rattle.postcode.specs.Letters.{marked};
 ghost use Rattle.postcode.specs.Inward.{inwardLetter, inwardFault, suffixFault};
 
 // What a byte of an outward code is: 1 a letter, 2 a digit, 0 padding, 3 none of these.
@@ -18,41 +20,27 @@ fn class_of(b: u8) -> usize
     }
 }
 
-// Whether a letter may stand behind so many letters of an outward code.
+// Whether a byte is a letter that has a plus in a row of 26 marks, A to Z.
+fn is_marked(row: &[u8], b: u8) -> bool
+    requires { ⌜ length (now row) ≡ 26 ⌝ }
+    ensures { λ r. ⌜ r ≡ marked (now (row .entry)) b ⌝ }
+{
+    if text::is_letter(b) {
+        row[(b - 65) as usize] == b'+'
+    } else {
+        false
+    }
+}
+
+// Whether a letter may stand behind so many letters of an outward code: a row for the first, the second and the third.
 fn is_allowed(before: usize, b: u8) -> bool
     ensures { λ r. ⌜ r ≡ allowed before b ⌝ }
 {
     match before {
-        0 => may_be_first(b),
-        1 => may_be_second(b),
-        _ => may_be_third(b),
-    }
-}
-
-fn may_be_first(b: u8) -> bool
-    ensures { λ r. ⌜ r ≡ allowed 0 b ⌝ }
-{
-    match b {
-        b'Q' | b'V' | b'X' => false,
-        _ => true,
-    }
-}
-
-fn may_be_second(b: u8) -> bool
-    ensures { λ r. ⌜ r ≡ allowed 1 b ⌝ }
-{
-    match b {
-        b'I' | b'Z' => false,
-        _ => true,
-    }
-}
-
-fn may_be_third(b: u8) -> bool
-    ensures { λ r. ⌜ r ≡ allowed 2 b ⌝ }
-{
-    match b {
-        b'A'..=b'H' | b'J'..=b'K' | b'M'..=b'N' | b'P' | b'R'..=b'Y' => true,
-        _ => false,
+        //               ABCDEFGHIJKLMNOPQRSTUVWXYZ
+        0 => is_marked(b"++++++++++++++++-++++-+-++", b),
+        1 => is_marked(b"++++++++-++++++++++++++++-", b),
+        _ => is_marked(b"++++++++-++-++-+-++++++++-", b),
     }
 }
 
