@@ -2,4 +2,5 @@ pub mod Listed
 pub mod One
 pub mod Two
 pub mod Three
+pub mod Unused
 pub mod Run

@@ -1,3 +1,4 @@
 pub mod Listed
 pub mod One
 pub mod Three
+pub mod Unused

@@ -103,7 +103,7 @@ module _ (table points : List ℕ) where
       by-answers (Refused f w) second e = record { answer-is = e; memory-is = refl }
 
 -- what is wanted is a view
-viewed : (code rec : List ℕ) → wanted code rec ≡ true → getD rec 41 0 ≡ 49
+pub viewed : (code rec : List ℕ) → wanted code rec ≡ true → getD rec 41 0 ≡ 49
 unfolding wanted
 viewed code rec e = eqb-true (getD rec 41 0) 49 (and-left (eqb (getD rec 41 0) 49) _ e)
 
