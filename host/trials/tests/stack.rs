@@ -8,11 +8,11 @@ use std::process::Command;
 
 /// What the header promises: less than so many bytes.
 const PROMISED: [(&str, u64); 10] = [
-    ("ttw_table", 512),
-    ("ttw_points", 512),
-    ("ttw_views", 512),
-    ("ttw_letter", 512),
-    ("ttw_live", 512),
+    ("ttw_table", 1_024),
+    ("ttw_points", 1_024),
+    ("ttw_views", 1_024),
+    ("ttw_letter", 1_024),
+    ("ttw_live", 1_024),
     ("ttw_label", 4_096),
     ("ttw_code_label", 4_096),
     ("ttw_build", 192 << 10),
