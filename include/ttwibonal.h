@@ -5,8 +5,9 @@
  * calls may run on several threads at once, on the same slices too where they only read them. No call writes into the
  * slices that it only reads, asks the system for memory, or opens a file.
  *
- * Stack: a call on files takes less than 1,024 bytes, a label from files less than 4,096, opening a pack or a label from a
- * pack less than 80 KiB, building a pack less than 192 KiB. A thread that is to build needs its stack sized for that.
+ * Stack: a call on files takes less than 1,024 bytes, a label from files less than 4,096, opening a pack or a label
+ * from a pack less than 80 KiB, building a pack less than 192 KiB. A thread that is to build needs its stack sized for
+ * that.
  *
  * Each call answers one number. Take it apart with the macros below and never compare whole words: later calls fill bits
  * that are 0 today.
