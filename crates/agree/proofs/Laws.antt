@@ -10,7 +10,7 @@ use lib.ListN.{take}
 use Rattle.refusal.specs.Packed.{packed}
 use Rattle.refusal.specs.declared.Reason.{Reason}
 use Rattle.refusal.specs.declared.Answer.the-variants.{Value, Refused}
-use Rattle.record.specs.Ends.{order}
+use Rattle.compare.specs.Order.{order}
 use Rattle.rows.proofs.Order.{order-same}
 use Rattle.layout.specs.Points.{packAnswer, packMemory}
 use Rattle.pair.specs.Pair.{codeAnswer, codeMemory}

@@ -26,9 +26,9 @@ fn compare<'a>(
 ) -> usize
     ensures { λ r. ⌜ (r ≡ compared (codeAnswer (now (table .entry)) (now (points .entry)) (now (code .entry)) k (now (ours .entry))) (packAnswer (now (pack .entry)) k (now (theirs .entry))) (codeMemory (now (table .entry)) (now (points .entry)) (now (code .entry)) k (now (ours .entry))) (packMemory (now (pack .entry)) k (now (theirs .entry)))) × ((now (ours .exit) ≡ codeMemory (now (table .entry)) (now (points .entry)) (now (code .entry)) k (now (ours .entry))) × (now (theirs .exit) ≡ packMemory (now (pack .entry)) k (now (theirs .entry)))) ⌝ }
 {
-    let files_say = refusal::packed_answer(pair::label_in_code(table, points, code, k, ours));
+    let files_say = refusal::packed_answer(asked::label_in_code(table, points, code, k, ours));
     let pack_says = refusal::packed_answer(pack::label_of_point(pack, k, theirs));
-    let order = record::order_of(ours, theirs);
+    let order = compare::order_of(ours, theirs);
     one_or_two((files_say == pack_says) & (order == 0))
 }
 

@@ -5,7 +5,7 @@ use mathlib.Core.Path.{_≡_}
 use mathlib.Core.List.{List}
 use lib.ListN.{length, getD}
 use Rattle.postcode.specs.Outward.{outwardFault}
-use Rattle.files.specs.declared.check.Verdict.the-variants.{Fine}
+use Rattle.files.specs.declared.verdict.Verdict.the-variants.{Fine}
 use Rattle.files.specs.Formats.{tableFormat, pointFormat}
 use Rattle.files.proofs.Accepted.{Accepted}
 use Rattle.views.specs.Views.{wantedIn}

@@ -31,9 +31,9 @@ fn write_if_room(
     requires { ⌜ Marked (now table) (now points) (now code) (now starts) × Refs (now table) (now refs) ⌝ }
     ensures { λ r. ⌜ (r ≡ roomAnswer (packOf (tableLookup (now (table .entry))) (liveIn (now (table .entry)) (now (points .entry)) (now (code .entry))) (now (code .entry))) (now (out .entry))) × (now (out .exit) ≡ roomMemory (packOf (tableLookup (now (table .entry))) (liveIn (now (table .entry)) (now (points .entry)) (now (code .entry))) (now (code .entry))) (now (out .entry))) ⌝ }
 {
-    let of_table = marks::inner::place_rows(table, starts);
-    let of_points = marks::inner::organisations_in(points, code);
-    let count = views::count_wanted(points, code);
+    let of_table = placing::inner::place_rows(table, starts);
+    let of_points = placing::inner::organisations_in(points, code);
+    let count = counting::count_wanted(points, code);
     let needed = of_table.bytes + of_points.bytes + POINT * count + TRAILER;
     if out.len() < needed {
         return Answer::Refused {
@@ -42,7 +42,7 @@ fn write_if_room(
         };
     }
     let rows = of_table.rows + of_points.rows;
-    Answer::Value(emit::inner::write_pack(table, refs, points, starts, code, rows, count, out))
+    Answer::Value(emit_pack::inner::write_pack(table, refs, points, starts, code, rows, count, out))
 }
 
 // The pack of a code from files that are accepted.
@@ -53,7 +53,7 @@ fn cut(table: &[u8], points: &[u8], code: &[u8], out: &mut [u8]) -> Answer
     let mut refs = [0u32; RECORDS];
     refs::inner::fill_refs(table, &mut refs);
     let mut starts = [0u32; RECORDS];
-    match marks::inner::mark_views(table, &refs, points, code, &mut starts) {
+    match marking::inner::mark_views(table, &refs, points, code, &mut starts) {
         Verdict::Fine => write_if_room(table, &refs, points, code, &mut starts, out),
         Verdict::Bad(reason) => Answer::Refused { file: 0, reason },
     }
@@ -63,7 +63,7 @@ fn cut(table: &[u8], points: &[u8], code: &[u8], out: &mut [u8]) -> Answer
 pub fn build_pack(table: &[u8], points: &[u8], code: &[u8], out: &mut [u8]) -> Answer
     ensures { λ r. ⌜ (r ≡ buildAnswer (now (table .entry)) (now (points .entry)) (now (code .entry)) (now (out .entry))) × (now (out .exit) ≡ buildMemory (now (table .entry)) (now (points .entry)) (now (code .entry)) (now (out .entry))) ⌝ }
 {
-    match pair::check_pair(table, points) {
+    match asked::check_pair(table, points) {
         Answer::Value(_) => {
             if postcode::outward_fault(code) != 0 {
                 return Answer::Refused {

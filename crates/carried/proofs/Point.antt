@@ -10,7 +10,7 @@ use lib.Dec.{eqb, leb}
 use lib.ListN.{length, getD}
 use Rattle.text.specs.Test.{elem}
 use Rattle.text.specs.Text.{textFault, trim, textIn}
-use Rattle.record.specs.Ends.{same}
+use Rattle.compare.specs.Order.{same}
 use Rattle.rows.proofs.Order.{order-same}
 use Rattle.postcode.specs.Inward.{inwardFault}
 use Rattle.address.specs.Address.{Lookup, Organisation, none-needed, named, lacking, Address}

@@ -18,7 +18,7 @@ use Rattle.text.specs.Text.{part}
 use Rattle.text.proofs.Tests.{and-left, and-right, range-low, range-high}
 use Rattle.text.proofs.Values.{value-whole}
 use Rattle.record.specs.Parts.{recordAt}
-use Rattle.record.specs.Ends.{order}
+use Rattle.compare.specs.Order.{order}
 use Rattle.faults.specs.Fields.{keyFault}
 use Rattle.faults.specs.Table.{tableFault}
 use Rattle.files.specs.Formats.{tableFormat}

@@ -7,7 +7,7 @@ use mathlib.Core.List.{List, [], _∷_}
 use lib.ListN.{replicate}
 use Rattle.text.specs.Digits.{digitsFault, digitValue, value}
 use Rattle.text.specs.Text.{textFault, filledFault, textIn}
-use Rattle.record.specs.Ends.{identifier, headerOk, trailerOk}
+use Rattle.ends.specs.Ends.{identifier, headerOk, trailerOk}
 use Rattle.record.specs.Parts.{recordAt}
 use Rattle.postcode.specs.Inward.{inwardLetter, inwardFault, suffixFault}
 use Rattle.postcode.specs.Outward.{class, allowed, outwardFault}
@@ -27,7 +27,7 @@ use Rattle.label.specs.Label.{roomAnswer, roomMemory}
 use Rattle.layout.specs.Layout.{entriesOf, packBytes, packOf}
 use Rattle.layout.specs.Cutting.{cutAnswer, cutMemory}
 use Rattle.layout.proofs.Worked.{code, worked}
-use Rattle.report.proofs.Worked.{table, points}
+use Rattle.one_run.proofs.Worked.{table, points}
 use Rattle.build.specs.Build.{codeCut, codeCutMemory, buildAnswer, buildMemory}
 
 pub the-pack : buildMemory table points code (replicate 129 0) ≡ worked

@@ -13,7 +13,7 @@ use Rattle.postcode.specs.Outward.{outwardFault}
 use Rattle.refusal.specs.declared.Reason.the-variants.{NoSuchNumber, BadCode}
 use Rattle.refusal.specs.declared.Answer.{Answer}
 use Rattle.refusal.specs.declared.Answer.the-variants.{Refused}
-use Rattle.files.specs.declared.check.Verdict.{Verdict}
+use Rattle.files.specs.declared.verdict.Verdict.{Verdict}
 use Rattle.files.specs.Check.{checked, orElse}
 use Rattle.files.specs.Formats.{tableFormat, pointFormat}
 use Rattle.files.proofs.Accepted.{Accepted, accepts}

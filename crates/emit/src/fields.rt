@@ -51,7 +51,7 @@ pub fn text_at(rec: &[u8], start: usize, end: usize, at: usize, out: &mut [u8]) 
     requires { ⌜ (end - start ≤ 255) × (at + length (sized (textIn (now rec) start end)) ≤ length (now out)) ⌝ }
     ensures { λ r. ⌜ Put (sized (textIn (now (rec .entry)) start end)) (now (out .entry)) at r (now (out .exit)) ⌝ }
 {
-    let t = text::read_text(rec, start, end);
+    let t = reading::read_text(rec, start, end);
     sized_at(t, at, out)
 }
 

@@ -1,29 +1,8 @@
-// The whole pack. Its caller knows what it holds and that there is room for it.
-use crate::organisations::organisations_at;
-use crate::points::points_at;
-use crate::points::trailer_at;
-use crate::used::rows_at;
-ghost use Rattle.label.specs.Put.{Wrote};
-ghost use Rattle.refs.specs.Refs.{Refs};
-ghost use Rattle.emit.specs.Emit.{packAt};
-ghost use Rattle.emit.specs.Ready.{Ready};
-
-// The pack of a code: `starts` has the starts of the rows, there are so many rows in all, and so many views.
-pub fn write_pack(
-    table: &[u8],
-    refs: &[u32],
-    points: &[u8],
-    starts: &[u32],
-    code: &[u8],
-    rows: usize,
-    count: usize,
-    out: &mut [u8],
-) -> usize
-    requires { ⌜ Ready (now table) (now points) (now starts) (now code) rows count (now out) × Refs (now table) (now refs) ⌝ }
-    ensures { λ r. ⌜ Wrote (packAt (now (table .entry)) (now (points .entry)) (now (starts .entry)) (now (code .entry))) (now (out .entry)) r (now (out .exit)) ⌝ }
-{
-    let i = rows_at(table, starts, 0, out);
-    let j = organisations_at(points, code, i, out);
-    let k = points_at(table, refs, points, starts, code, i, j, out);
-    trailer_at(rows, j, count, code, k, out)
-}
+// What the crates that write rows, points and the whole pack have in common.
+pub use crate::fields::part_at;
+pub use crate::fields::short_at;
+pub use crate::fields::text_at;
+pub use crate::fields::two_texts_at;
+pub use crate::fields::word_at;
+pub use crate::starts::above;
+pub use crate::starts::start_of;

@@ -1,7 +1,4 @@
-// The bytes of a pack, written into a lent buffer that is known to be long enough.
+// The fields of a pack, written into a lent buffer that is known to be long enough.
 mod fields;
 pub mod inner;
-mod organisations;
-mod points;
 mod starts;
-mod used;

@@ -36,7 +36,7 @@ pub fn digits_at(rec: &[u8], start: usize, end: usize) -> usize
     requires { ⌜ (start ≤ end) × (end ≤ 255) ⌝ }
     ensures { λ r. ⌜ r ≡ place start (digitsFault (part (now (rec .entry)) start end)) ⌝ }
 {
-    placed(start, text::digits_fault(part_of(rec, start, end)))
+    placed(start, form::digits_fault(part_of(rec, start, end)))
 }
 
 pub fn key_at(rec: &[u8], start: usize, end: usize) -> usize
@@ -44,10 +44,10 @@ pub fn key_at(rec: &[u8], start: usize, end: usize) -> usize
     ensures { λ r. ⌜ r ≡ place start (keyFault (part (now (rec .entry)) start end)) ⌝ }
 {
     let key = part_of(rec, start, end);
-    if text::all_are(key, b'0') {
+    if form::all_are(key, b'0') {
         placed(start, 1)
     } else {
-        placed(start, text::digits_fault(key))
+        placed(start, form::digits_fault(key))
     }
 }
 
@@ -55,14 +55,14 @@ pub fn text_at(rec: &[u8], start: usize, end: usize) -> usize
     requires { ⌜ (start ≤ end) × (end ≤ 255) ⌝ }
     ensures { λ r. ⌜ r ≡ place start (textFault (part (now (rec .entry)) start end)) ⌝ }
 {
-    placed(start, text::text_fault(part_of(rec, start, end)))
+    placed(start, form::text_fault(part_of(rec, start, end)))
 }
 
 pub fn filled_at(rec: &[u8], start: usize, end: usize) -> usize
     requires { ⌜ (start ≤ end) × (end ≤ 255) ⌝ }
     ensures { λ r. ⌜ r ≡ place start (filledFault (part (now (rec .entry)) start end)) ⌝ }
 {
-    placed(start, text::filled_fault(part_of(rec, start, end)))
+    placed(start, form::filled_fault(part_of(rec, start, end)))
 }
 
 pub fn outward_at(rec: &[u8], start: usize, end: usize) -> usize
@@ -76,12 +76,12 @@ pub fn inward_at(rec: &[u8], start: usize, end: usize) -> usize
     requires { ⌜ (start ≤ end) × (end ≤ 255) ⌝ }
     ensures { λ r. ⌜ r ≡ place start (inwardFault (part (now (rec .entry)) start end)) ⌝ }
 {
-    placed(start, postcode::inward_fault(part_of(rec, start, end)))
+    placed(start, inward::inward_fault(part_of(rec, start, end)))
 }
 
 pub fn suffix_at(rec: &[u8], start: usize, end: usize) -> usize
     requires { ⌜ (start ≤ end) × (end ≤ 255) ⌝ }
     ensures { λ r. ⌜ r ≡ place start (suffixFault (part (now (rec .entry)) start end)) ⌝ }
 {
-    placed(start, postcode::suffix_fault(part_of(rec, start, end)))
+    placed(start, inward::suffix_fault(part_of(rec, start, end)))
 }

@@ -1,7 +1,3 @@
-// Where the first fault of a table record or a point record stands.
+// What a fault is and where it stands: the fields of each record, and the test of a field at its place.
 mod at;
-mod points;
-mod tables;
-
-pub use points::point_fault;
-pub use tables::table_fault;
+pub mod inner;

@@ -9,13 +9,13 @@ use native.Mathlib.Omega.{arith}
 use native.Mathlib.Nat.{eq-or-lt-of-le}
 use borrow.Author.Tests.{eqb-true}
 use lib.Dec.{eqb}
-use Rattle.record.specs.Ends.{headerOk, trailerOk}
+use Rattle.ends.specs.Ends.{headerOk, trailerOk}
 use Rattle.refusal.specs.Refusal.{malformedAt}
 use Rattle.refusal.specs.declared.Reason.{Reason}
 use Rattle.refusal.specs.declared.Reason.the-variants.{NotAbove, Follower}
 use Rattle.refusal.specs.declared.Answer.the-variants.{Value, Refused}
-use Rattle.files.specs.declared.check.Verdict.{Verdict}
-use Rattle.files.specs.declared.check.Verdict.the-variants.{Fine, Bad}
+use Rattle.files.specs.declared.verdict.Verdict.{Verdict}
+use Rattle.files.specs.declared.verdict.Verdict.the-variants.{Fine, Bad}
 use Rattle.files.specs.Check.{Format, records, whole, at, rises, judged, orElse, scan, verdict, answered, checked}
 use Rattle.files.proofs.Laws.{judged-fine, verdict-length, verdict-header, verdict-trailer, verdict-scan}
 

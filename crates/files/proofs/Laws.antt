@@ -9,12 +9,12 @@ use borrow.Author.Tests.{leb-true, eq-eqb, ne-eqb}
 use lib.Dec.{leb, eqb}
 use lib.ListN.{length}
 use Rattle.text.proofs.Tests.{and-left, and-right}
-use Rattle.record.specs.Ends.{headerOk, trailerOk}
+use Rattle.ends.specs.Ends.{headerOk, trailerOk}
 use Rattle.refusal.specs.Refusal.{malformedAt}
 use Rattle.refusal.specs.declared.Reason.{Reason}
 use Rattle.refusal.specs.declared.Reason.the-variants.{Length, Header, Trailer, NotAbove, Follower}
-use Rattle.files.specs.declared.check.Verdict.{Verdict}
-use Rattle.files.specs.declared.check.Verdict.the-variants.{Fine, Bad}
+use Rattle.files.specs.declared.verdict.Verdict.{Verdict}
+use Rattle.files.specs.declared.verdict.Verdict.the-variants.{Fine, Bad}
 use Rattle.files.specs.Check.{Format, records, whole, at, rises, judged, scan, verdict}
 use Rattle.files.specs.Formats.{tableFormat, pointFormat, formatOf}
 

@@ -9,14 +9,15 @@ use lib.Dec.{leb, eqb}
 use lib.ListN.{length}
 use Rattle.text.specs.Text.{part}
 use Rattle.record.specs.Parts.{recordAt}
-use Rattle.record.specs.Ends.{above, headerOk, trailerOk}
+use Rattle.compare.specs.Order.{above}
+use Rattle.ends.specs.Ends.{headerOk, trailerOk}
 use Rattle.refusal.specs.Refusal.{malformedAt}
 use Rattle.refusal.specs.declared.Reason.{Reason}
 use Rattle.refusal.specs.declared.Reason.the-variants.{Length, Header, Trailer, NotAbove, Follower}
 use Rattle.refusal.specs.declared.Answer.{Answer}
 use Rattle.refusal.specs.declared.Answer.the-variants.{Value, Refused}
-use Rattle.files.specs.declared.check.Verdict.{Verdict}
-use Rattle.files.specs.declared.check.Verdict.the-variants.{Fine, Bad}
+use Rattle.files.specs.declared.verdict.Verdict.{Verdict}
+use Rattle.files.specs.declared.verdict.Verdict.the-variants.{Fine, Bad}
 
 pub record Format : Type 0 where
   -- the file to blame

@@ -7,7 +7,7 @@ use lib.Dec.{eqb}
 use lib.ListN.{getD}
 use Rattle.text.specs.Digits.{value}
 use Rattle.text.specs.Text.{part}
-use Rattle.record.specs.Ends.{same}
+use Rattle.compare.specs.Order.{same}
 use Rattle.faults.specs.Table.{tableFault}
 use Rattle.faults.specs.Point.{pointFault}
 use Rattle.files.specs.Check.{Format}

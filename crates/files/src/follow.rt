@@ -14,7 +14,7 @@ pub fn needed_next(rec: &[u8]) -> u8
         return b'3';
     }
     let key = record::part_of(rec, Point::ORGANISATION_KEY, Point::LETTER);
-    if text::says_zero(key) { 0 } else { b'2' }
+    if values::says_zero(key) { 0 } else { b'2' }
 }
 
 // Whether a record is the one that its owner needs.
@@ -23,7 +23,7 @@ fn is_follower(owner: &[u8], rec: &[u8]) -> bool
 {
     let need = needed_next(owner);
     let kind = record::byte_of(rec, Point::TYPE);
-    let order = record::order_of(
+    let order = compare::order_of(
         record::part_of(rec, 0, Point::TYPE),
         record::part_of(owner, 0, Point::TYPE),
     );

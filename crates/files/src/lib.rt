@@ -1,9 +1,7 @@
-// Table files and point files: accepted, or the first refusal.
-mod check;
+// Table files and point files: when one is accepted, and how owners and followers stand in a point file.
 mod follow;
-mod format;
+mod verdict;
 
-pub use check::Verdict;
-pub use check::check_points;
-pub use check::check_table;
+pub use follow::is_placed;
 pub use follow::needed_next;
+pub use verdict::Verdict;

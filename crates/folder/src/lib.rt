@@ -22,7 +22,7 @@ fn read_file(name: &[u8], into: &mut [u8]) -> usize {
 fn show_read<'a>(table: &'a [u8], t: usize, points: &'a [u8], p: usize, out: &mut [u8]) {
     if t <= table.len() {
         if p <= points.len() {
-            let n = report::write_report(&table[..t], &points[..p], out);
+            let n = reporting::write_report(&table[..t], &points[..p], out);
             io::write_all(STDOUT_FILENO, &out[..n]);
         }
     }

@@ -8,8 +8,8 @@ use lib.Dec.{eqb}
 use Rattle.text.specs.Digits.{value}
 use Rattle.text.specs.Text.{part}
 use Rattle.refusal.specs.declared.Reason.the-variants.{Combination, MissingKey}
-use Rattle.files.specs.declared.check.Verdict.{Verdict}
-use Rattle.files.specs.declared.check.Verdict.the-variants.{Fine, Bad}
+use Rattle.files.specs.declared.verdict.Verdict.{Verdict}
+use Rattle.files.specs.declared.verdict.Verdict.the-variants.{Fine, Bad}
 use Rattle.rows.specs.Search.{found}
 use Rattle.address.specs.Resolve.{forbiddenOf}
 

@@ -1,25 +1,14 @@
-// The label of elements whose texts stand in two lent slices: which lines it has, and its length.
-pub mod inner;
-mod lens;
+// The label of elements whose texts stand in two lent slices: its definition and laws, and where the texts stand.
 mod shape;
 
-use lens::head_len;
-use lens::pair_len;
-use lens::places_len;
-use lens::premises_len;
 pub use shape::Front;
 pub use shape::Lines;
 pub use shape::Shape;
-use shape::front_of;
-use shape::lines_of;
-use shape::shape_of;
 use text::lesser;
 ghost use mathlib.Core.Path.{_≡_};
 ghost use Prim.Native.Nat.{_+_};
-ghost use lib.ListN.{length};
 ghost use Rattle.text.specs.Text.{part};
-ghost use Rattle.label.specs.Label.{labelOf};
-ghost use Rattle.label.specs.Spans.{textIn2, elementsIn};
+ghost use Rattle.label.specs.Spans.{textIn2};
 
 // Where a text stands: so many bytes at a place of the first slice or of the second.
 pub struct Span {
@@ -72,19 +61,4 @@ pub fn text_of<'a>(a: &'a [u8], b: &'a [u8], s: Span) -> &'a [u8]
     } else {
         bytes_at(b, at, len)
     }
-}
-
-// How many bytes the label has.
-pub fn label_len<'a>(a: &'a [u8], b: &'a [u8], e: Spans) -> usize
-    ensures { λ r. ⌜ r ≡ length (labelOf (elementsIn (now (a .entry)) (now (b .entry)) e)) ⌝ }
-{
-    let shape = shape_of(a, b, e);
-    let lines = lines_of(shape, e);
-    let front = front_of(shape, e);
-    let outward = e.outward;
-    let inward = e.inward;
-    let i = head_len(a, b, e);
-    let j = premises_len(a, b, lines);
-    let k = places_len(a, b, front, e);
-    i + j + k + pair_len(a, b, outward, inward)
 }

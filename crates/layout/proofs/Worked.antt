@@ -5,7 +5,7 @@ use mathlib.Core.Path.{_≡_, refl}
 use mathlib.Core.List.{List, [], _∷_, _++_}
 use lib.ListN.{length}
 use Rattle.text.specs.Text.{trim, textIn, textFault, numericLike}
-use Rattle.record.specs.Ends.{order}
+use Rattle.compare.specs.Order.{order}
 use Rattle.postcode.specs.Outward.{class, allowed, outwardFault}
 use Rattle.postcode.specs.Inward.{inwardLetter, inwardFault}
 use Rattle.refusal.specs.declared.Reason.the-variants.{BadPack, NoSuchNumber}

@@ -4,12 +4,12 @@
 use Prim.Native.Nat.{ℕ}
 use mathlib.Core.Bool.{cond}
 use mathlib.Core.List.{List, [], _∷_}
-use Rattle.record.specs.Ends.{same}
+use Rattle.compare.specs.Order.{same}
 use Rattle.refusal.specs.Refusal.{withView}
 use Rattle.refusal.specs.declared.Answer.{Answer}
 use Rattle.refusal.specs.declared.Answer.the-variants.{Refused}
-use Rattle.files.specs.declared.check.Verdict.{Verdict}
-use Rattle.files.specs.declared.check.Verdict.the-variants.{Fine, Bad}
+use Rattle.files.specs.declared.verdict.Verdict.{Verdict}
+use Rattle.files.specs.declared.verdict.Verdict.the-variants.{Fine, Bad}
 use Rattle.files.specs.Check.{orElse}
 use Rattle.address.specs.Address.{Lookup, Address}
 use Rattle.address.specs.Resolve.{Resolved, elements, refused, resolve}

@@ -7,7 +7,7 @@ use lib.Dec.{eqb, leb}
 use lib.ListN.{length, take, getD}
 use Rattle.text.specs.Test.{elem, every}
 use Rattle.text.specs.Text.{textByte, textFault, fromEnd, part}
-use Rattle.record.specs.Ends.{same}
+use Rattle.compare.specs.Order.{same}
 use Rattle.postcode.specs.Outward.{outwardFault}
 use Rattle.postcode.specs.Inward.{inwardFault}
 use Rattle.refusal.specs.declared.Reason.the-variants.{BadPack}

@@ -10,28 +10,28 @@ ghost use lib.ListN.{length};
 pub extern "C" fn leaf_digits_fault(s: &[u8]) -> usize
     ensures { λ r. ⌜ r ≡ digitsFault (now (s .entry)) ⌝ }
 {
-    text::digits_fault(s)
+    form::digits_fault(s)
 }
 
 #[no_mangle]
 pub extern "C" fn leaf_text_fault(s: &[u8]) -> usize
     ensures { λ r. ⌜ r ≡ textFault (now (s .entry)) ⌝ }
 {
-    text::text_fault(s)
+    form::text_fault(s)
 }
 
 #[no_mangle]
 pub extern "C" fn leaf_filled_fault(s: &[u8]) -> usize
     ensures { λ r. ⌜ r ≡ filledFault (now (s .entry)) ⌝ }
 {
-    text::filled_fault(s)
+    form::filled_fault(s)
 }
 
 #[no_mangle]
 pub extern "C" fn leaf_value(s: &[u8]) -> usize
     ensures { λ r. ⌜ r ≡ value (now (s .entry)) ⌝ }
 {
-    text::value_of(s)
+    values::value_of(s)
 }
 
 // The text's length: where it stands is known, since it starts at `start`.
@@ -39,14 +39,14 @@ pub extern "C" fn leaf_value(s: &[u8]) -> usize
 pub extern "C" fn leaf_text_length(rec: &[u8], start: usize, end: usize) -> usize
     ensures { λ r. ⌜ r ≡ length (textIn (now (rec .entry)) start end) ⌝ }
 {
-    text::read_text(rec, start, end).len()
+    reading::read_text(rec, start, end).len()
 }
 
 #[no_mangle]
 pub extern "C" fn leaf_numeric_like(s: &[u8]) -> bool
     ensures { λ r. ⌜ r ≡ numericLike (now (s .entry)) ⌝ }
 {
-    text::is_numeric_like(s)
+    reading::is_numeric_like(s)
 }
 
 #[no_mangle]
@@ -60,12 +60,12 @@ pub extern "C" fn leaf_outward_fault(code: &[u8]) -> usize
 pub extern "C" fn leaf_inward_fault(code: &[u8]) -> usize
     ensures { λ r. ⌜ r ≡ inwardFault (now (code .entry)) ⌝ }
 {
-    postcode::inward_fault(code)
+    inward::inward_fault(code)
 }
 
 #[no_mangle]
 pub extern "C" fn leaf_suffix_fault(suffix: &[u8]) -> usize
     ensures { λ r. ⌜ r ≡ suffixFault (now (suffix .entry)) ⌝ }
 {
-    postcode::suffix_fault(suffix)
+    inward::suffix_fault(suffix)
 }

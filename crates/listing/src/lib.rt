@@ -8,8 +8,8 @@ ghost use Rattle.listing.specs.Listing.{viewsAnswer, letterAt, letterAns
 pub fn views_in(points: &[u8]) -> Answer
     ensures { λ r. ⌜ r ≡ viewsAnswer (now (points .entry)) ⌝ }
 {
-    match files::check_points(points) {
-        Answer::Value(_) => Answer::Value(views::count_wanted(points, &points[..0])),
+    match checking::check_points(points) {
+        Answer::Value(_) => Answer::Value(counting::count_wanted(points, &points[..0])),
         Answer::Refused { file, reason } => Answer::Refused { file, reason },
     }
 }
@@ -18,8 +18,8 @@ pub fn views_in(points: &[u8]) -> Answer
 pub fn letter_of(points: &[u8], view: usize) -> Answer
     ensures { λ r. ⌜ r ≡ letterAnswer (now (points .entry)) view ⌝ }
 {
-    match files::check_points(points) {
-        Answer::Value(_) => letter_at(points, views::wanted_at(points, &points[..0], view)),
+    match checking::check_points(points) {
+        Answer::Value(_) => letter_at(points, counting::wanted_at(points, &points[..0], view)),
         Answer::Refused { file, reason } => Answer::Refused { file, reason },
     }
 }
@@ -42,7 +42,7 @@ fn letter_at(points: &[u8], place: usize) -> Answer
 pub fn live_in(points: &[u8], code: &[u8]) -> Answer
     ensures { λ r. ⌜ r ≡ liveAnswer (now (points .entry)) (now (code .entry)) ⌝ }
 {
-    match files::check_points(points) {
+    match checking::check_points(points) {
         Answer::Value(_) => live_at(points, code),
         Answer::Refused { file, reason } => Answer::Refused { file, reason },
     }
@@ -53,7 +53,7 @@ fn live_at(points: &[u8], code: &[u8]) -> Answer
     ensures { λ r. ⌜ r ≡ liveAt (now (points .entry)) (now (code .entry)) ⌝ }
 {
     if postcode::outward_fault(code) == 0 {
-        Answer::Value(views::count_wanted(points, code))
+        Answer::Value(counting::count_wanted(points, code))
     } else {
         Answer::Refused {
             file: 0,

@@ -15,7 +15,7 @@ use Rattle.text.specs.Text.{textIn}
 use Rattle.record.specs.Parts.{recordAt}
 use Rattle.refusal.specs.Refusal.{withView}
 use Rattle.refusal.specs.declared.Reason.{Reason}
-use Rattle.files.specs.declared.check.Verdict.the-variants.{Fine, Bad}
+use Rattle.files.specs.declared.verdict.Verdict.the-variants.{Fine, Bad}
 use Rattle.files.specs.Formats.{needed}
 use Rattle.views.specs.Views.{viewNumber}
 use Rattle.rows.specs.Rows.{lastOf}

@@ -9,8 +9,8 @@ use Rattle.text.specs.Test.{elem}
 use Rattle.text.specs.Text.{textIn}
 use Rattle.record.specs.Parts.{recordAt}
 use Rattle.refusal.specs.Refusal.{withView}
-use Rattle.files.specs.declared.check.Verdict.{Verdict}
-use Rattle.files.specs.declared.check.Verdict.the-variants.{Fine, Bad}
+use Rattle.files.specs.declared.verdict.Verdict.{Verdict}
+use Rattle.files.specs.declared.verdict.Verdict.the-variants.{Fine, Bad}
 use Rattle.files.specs.Check.{orElse}
 use Rattle.files.specs.Formats.{needed}
 use Rattle.views.specs.Views.{viewNumber}

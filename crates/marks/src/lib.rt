@@ -1,7 +1,5 @@
 // What a builder finds out before it writes: whether a packed view is refused, which records of the table file the packed
 // views refer to, where their rows will stand, and how long the organisations' rows are.
-pub mod inner;
-
 use record::Table;
 ghost use mathlib.Core.Path.{_≡_};
 ghost use Prim.Native.Nat.{_≤_};

@@ -9,7 +9,7 @@ use lib.ListN.{getD}
 use Rattle.text.proofs.Tests.{and-left}
 use Rattle.record.specs.Parts.{recordAt}
 use Rattle.refusal.specs.declared.Reason.{Reason}
-use Rattle.files.specs.declared.check.Verdict.the-variants.{Fine, Bad}
+use Rattle.files.specs.declared.verdict.Verdict.the-variants.{Fine, Bad}
 use Rattle.files.specs.Check.{records}
 use Rattle.files.specs.Formats.{tableFormat, pointFormat}
 use Rattle.files.proofs.Accepted.{Accepted}

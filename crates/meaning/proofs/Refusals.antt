@@ -13,8 +13,8 @@ use Rattle.text.specs.Text.{part, textIn}
 use Rattle.record.specs.Parts.{recordAt}
 use Rattle.refusal.specs.declared.Reason.{Reason}
 use Rattle.refusal.specs.declared.Reason.the-variants.{Combination, MissingKey}
-use Rattle.files.specs.declared.check.Verdict.{Verdict}
-use Rattle.files.specs.declared.check.Verdict.the-variants.{Fine, Bad}
+use Rattle.files.specs.declared.verdict.Verdict.{Verdict}
+use Rattle.files.specs.declared.verdict.Verdict.the-variants.{Fine, Bad}
 use Rattle.files.specs.Formats.{needed, tableFormat}
 use Rattle.files.proofs.Accepted.{Accepted}
 use Rattle.rows.specs.Rows.{rowOf}

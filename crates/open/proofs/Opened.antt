@@ -8,7 +8,7 @@ use native.Mathlib.Omega.{arith}
 use Rattle.refusal.specs.declared.Reason.the-variants.{BadPack}
 use Rattle.refusal.specs.declared.Answer.the-variants.{Value, Refused}
 use Rattle.layout.specs.Opening.{pointCount, trailerGood, allRowsGood, allPointsGood, opened}
-use Rattle.open.specs.Ready.{Sized}
+use Rattle.open_points.specs.Ready.{Sized}
 use Rattle.open.proofs.Trailers.{trailer-sized}
 
 -- all three steps passed, and the answer is the number of points

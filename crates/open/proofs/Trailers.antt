@@ -12,8 +12,8 @@ use lib.ListN.{length, replicate, length-replicate}
 use Rattle.text.proofs.Tests.{and-left, and-right}
 use Rattle.postcode.specs.Outward.{outwardFault}
 use Rattle.layout.specs.Opening.{edition, rowCount, pointsStart, pointCount, outward, lengthSaid, trailerGood}
-use Rattle.open.specs.Walks.{GoodRows, Cut, Starts}
-use Rattle.open.specs.Ready.{Sized, Area, Ready}
+use Rattle.open_rows.specs.Walks.{GoodRows, Cut, Starts}
+use Rattle.open_points.specs.Ready.{Sized, Area, Ready}
 
 module _ (pack : List ℕ) where
   pub trailer-short : length pack < 21 → trailerGood pack ≡ false

@@ -1,23 +1,17 @@
 // Opening any bytes as a pack.
-pub mod inner;
-mod kinds;
-mod points;
-mod rows;
-mod starts;
-
-use inner::trailer_number;
-pub use kinds::PackPoint;
-pub use kinds::PackTrailer;
-use points::points_good;
+use open_points::inner::points_good;
+use open_rows::inner::keep_starts;
+use open_rows::inner::rows_good;
+use packed::PackPoint;
+use packed::PackTrailer;
+use packed::inner::trailer_number;
 use refusal::Answer;
 use refusal::Reason;
-use rows::rows_good;
-use starts::keep_starts;
 ghost use mathlib.Core.Path.{_≡_};
 ghost use Rattle.refusal.specs.declared.Reason.the-variants.{BadPack};
 ghost use Rattle.refusal.specs.declared.Answer.the-variants.{Refused};
 ghost use Rattle.layout.specs.Opening.{trailerGood, allPointsGood, opened};
-ghost use Rattle.open.specs.Ready.{Sized, Area};
+ghost use Rattle.open_points.specs.Ready.{Sized, Area};
 
 // Into how many stretches the row area is cut, so that the walk to an offset is short.
 const STRETCHES: usize = 16384;

@@ -1,10 +1,8 @@
 // Labels asked of a pack.
-mod places;
-
-use open::PackPoint;
-use open::PackTrailer;
-use open::inner::trailer_number;
-use places::spans_at;
+use packed::PackPoint;
+use packed::PackTrailer;
+use packed::inner::trailer_number;
+use point_spans::inner::spans_at;
 use refusal::Answer;
 use refusal::Reason;
 ghost use mathlib.Core.Path.{_≡_};
@@ -12,7 +10,7 @@ ghost use Prim.Native.Nat.{_≤_};
 ghost use Rattle.label.specs.Label.{labelOf, roomAnswer, roomMemory};
 ghost use Rattle.layout.specs.Opening.{pointCount};
 ghost use Rattle.layout.specs.Points.{elementsAt, pointPlace, packAnswer, packMemory};
-ghost use Rattle.open.specs.Ready.{Sized};
+ghost use Rattle.open_points.specs.Ready.{Sized};
 
 // The label of point k of a pack that has so many.
 fn point_label<'a>(pack: &'a [u8], k: usize, out: &mut [u8]) -> Answer

@@ -16,7 +16,7 @@ pub fn label_at<'a>(table: &'a [u8], points: &'a [u8], place: usize, out: &mut [
             reason: Reason::NoSuchNumber,
         };
     }
-    match keys::refusal_in(table, record::point_record(points, place)) {
+    match missing::refusal_in(table, record::point_record(points, place)) {
         Verdict::Fine => print::print_label(
             table,
             points,

@@ -1,8 +1,8 @@
 // Pieces of a line, written at a place of a lent buffer. All else stays as it was.
 use label::Front;
 use label::Span;
-use label::inner::front_len;
 use label::text_of;
+use lengths::inner::front_len;
 ghost use mathlib.Core.List.{[], _∷_};
 ghost use Prim.Native.Nat.{_+_, _/_, _%_, _≤_};
 ghost use lib.ListN.{length};

@@ -1,12 +1,13 @@
-// Outward codes, inward codes and delivery point suffixes, of any bytes and any length.
+// Outward codes, of any bytes and any length; the definitions of inward codes and delivery point suffixes too.
 // Each test answers the byte at which its first fault stands, counted from 1, and 0 where there is none.
+pub mod inner;
+
+use inner::unless;
 ghost use mathlib.Core.Path.{_≡_};
-ghost use mathlib.Core.Bool.{cond};
 ghost use mathlib.Core.List.{[], _∷_};
 ghost use lib.ListN.{length};
 ghost use Rattle.postcode.specs.Outward.{class, allowed, outwardFault};
 ghost use Rattle.postcode.specs.Letters.{marked};
-ghost use Rattle.postcode.specs.Inward.{inwardLetter, inwardFault, suffixFault};
 
 // What a byte of an outward code is: 1 a letter, 2 a digit, 0 padding, 3 none of these.
 fn class_of(b: u8) -> usize
@@ -44,13 +45,6 @@ fn is_allowed(before: usize, b: u8) -> bool
     }
 }
 
-// The place where a test failed, or what the rest found.
-fn unless(ok: bool, place: usize, rest: usize) -> usize
-    ensures { λ r. ⌜ r ≡ cond ok rest place ⌝ }
-{
-    if ok { rest } else { place }
-}
-
 // The fault of a code of four bytes. The class sequence decides the pattern, and with it where the letters stand.
 fn pattern_fault(a: u8, b: u8, c: u8, d: u8) -> usize
     ensures { λ r. ⌜ r ≡ outwardFault (a ∷ b ∷ c ∷ d ∷ []) ⌝ }
@@ -78,42 +72,4 @@ pub fn outward_fault(code: &[u8]) -> usize
         return 1;
     }
     pattern_fault(code[0], code[1], code[2], code[3])
-}
-
-fn is_inward_letter(b: u8) -> bool
-    ensures { λ r. ⌜ r ≡ inwardLetter b ⌝ }
-{
-    match b {
-        b'C' | b'I' | b'K' | b'M' | b'O' | b'V' => false,
-        _ => text::is_letter(b),
-    }
-}
-
-// The first fault of an inward code.
-pub fn inward_fault(code: &[u8]) -> usize
-    ensures { λ r. ⌜ r ≡ inwardFault (now (code .entry)) ⌝ }
-{
-    if code.len() != 3 {
-        return 1;
-    }
-    let letters = unless(
-        is_inward_letter(code[1]),
-        2,
-        unless(is_inward_letter(code[2]), 3, 0),
-    );
-    unless(text::is_digit(code[0]), 1, letters)
-}
-
-// The first fault of a delivery point suffix.
-pub fn suffix_fault(suffix: &[u8]) -> usize
-    ensures { λ r. ⌜ r ≡ suffixFault (now (suffix .entry)) ⌝ }
-{
-    if suffix.len() != 2 {
-        return 1;
-    }
-    unless(
-        text::is_digit(suffix[0]),
-        1,
-        unless(text::is_letter(suffix[1]), 2, 0),
-    )
 }

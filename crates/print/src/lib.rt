@@ -1,8 +1,7 @@
 // The printing of a label into a lent buffer.
-pub mod inner;
-
 use label::Spans;
-use label::label_len;
+use lengths::label_len;
+use lines::inner::write_label;
 use refusal::Answer;
 use refusal::Reason;
 ghost use mathlib.Core.Path.{_≡_};
@@ -20,5 +19,5 @@ pub fn print_label<'a>(a: &'a [u8], b: &'a [u8], e: Spans, out: &mut [u8]) -> An
             reason: Reason::Room { needed },
         };
     }
-    Answer::Value(inner::write_label(a, b, e, out))
+    Answer::Value(write_label(a, b, e, out))
 }

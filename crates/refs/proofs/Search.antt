@@ -12,7 +12,7 @@ use lib.Dec.{eqb, ltb}
 use lib.ListN.{length, getD, set}
 use lib.Seq.{getD-set-same, getD-set-other}
 use Rattle.text.specs.Digits.{value}
-use Rattle.record.specs.Ends.{order, above}
+use Rattle.compare.specs.Order.{order, above}
 use Rattle.rows.specs.Rows.{keyAt, lastOf}
 use Rattle.rows.specs.Search.{middle, bisect, upperBound, found}
 use Rattle.rows.proofs.Order.{order-equal, order-same}

@@ -17,7 +17,7 @@ const TYPE_UNIT: usize = 100_000_000;
 fn ref_at(table: &[u8], i: usize) -> usize
     ensures { λ r. ⌜ (r ≡ refAt (now (table .entry)) i) × (r < 1_000_000_000) ⌝ }
 {
-    text::value_of(record::part_of(record::table_record(table, i), 0, 9))
+    values::value_of(record::part_of(record::table_record(table, i), 0, 9))
 }
 
 // Gives each record's place in the array its number.
@@ -55,7 +55,7 @@ fn upper_ref(refs: &[u32], last: usize, want: usize) -> usize
 fn are_nine_digits(kind: u8, key: &[u8]) -> bool
     ensures { λ r. ⌜ r ≡ nineDigits (kind ∷ now (key .entry)) ⌝ }
 {
-    let fault = text::digits_fault(key);
+    let fault = form::digits_fault(key);
     (key.len() == 8) & (text::is_digit(kind) & (fault == 0))
 }
 
@@ -64,7 +64,7 @@ fn number_of(kind: u8, key: &[u8]) -> usize
     requires { ⌜ nineDigits (kind ∷ now key) ≡ true ⌝ }
     ensures { λ r. ⌜ r ≡ value (kind ∷ now (key .entry)) ⌝ }
 {
-    (kind - b'0') as usize * TYPE_UNIT + text::value_of(key)
+    (kind - b'0') as usize * TYPE_UNIT + values::value_of(key)
 }
 
 // The row that a type and key find, 0 where there is none.

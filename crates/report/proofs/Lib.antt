@@ -1,7 +1,2 @@
 pub mod Feeds
 pub mod Decimals
-pub mod Labels
-pub mod Runs
-pub mod Unique
-pub mod Sizes
-pub mod Worked

@@ -11,7 +11,7 @@ use borrow.Author.Tests.{lt-ltb, le-ltb, ne-eqb, leb-true, leb-false}
 use lib.Dec.{leb, ltb}
 use lib.ListN.{length, getD}
 use Rattle.text.specs.Text.{part}
-use Rattle.record.specs.Ends.{order, above, same}
+use Rattle.compare.specs.Order.{order, above, same}
 use Rattle.rows.specs.Rows.{keyAt, lastOf}
 use Rattle.rows.specs.Search.{middle, bisect, upperBound, found}
 use Rattle.rows.proofs.Order.{first-below, first-above, first-same, above-yes, above-no}

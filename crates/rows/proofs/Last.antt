@@ -9,7 +9,7 @@ use native.Mathlib.Omega.{arith}
 use native.Mathlib.Nat.{le-refl, eq-or-lt-of-le}
 use borrow.Author.Tests.{ltb-true, ltb-false, eqb-true, eqb-false, ne-eqb}
 use lib.Dec.{ltb, eqb}
-use Rattle.record.specs.Ends.{order, same, above}
+use Rattle.compare.specs.Order.{order, same, above}
 use Rattle.rows.specs.Rows.{keyAt, lastOf, lastFrom, rowOf, KeysRise}
 use Rattle.rows.specs.Search.{upperBound, found}
 use Rattle.rows.proofs.Order.{order-same, order-equal, below-above, order-bound, not-above, above-not, above-yes}

@@ -8,7 +8,7 @@ use lib.Dec.{eqb}
 use lib.ListN.{length}
 use Rattle.text.specs.Text.{part}
 use Rattle.record.specs.Parts.{recordAt}
-use Rattle.record.specs.Ends.{order, same}
+use Rattle.compare.specs.Order.{order, same}
 
 -- type and key of record i: "the first 9 in the table file"
 abbrev pub keyAt : List ℕ → ℕ → List ℕ

@@ -4,7 +4,7 @@ use Prim.Native.Nat.{ℕ, zero, suc, _+_, _-_, _/_}
 use mathlib.Core.Bool.{Bool, cond, _&&_}
 use mathlib.Core.List.{List}
 use lib.Dec.{ltb}
-use Rattle.record.specs.Ends.{above, same}
+use Rattle.compare.specs.Order.{above, same}
 use Rattle.rows.specs.Rows.{keyAt, lastOf}
 
 abbrev pub middle : ℕ → ℕ → ℕ

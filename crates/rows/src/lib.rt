@@ -3,7 +3,7 @@
 use record::Table;
 ghost use mathlib.Core.Path.{_≡_};
 ghost use mathlib.Core.List.{_∷_};
-ghost use Rattle.record.specs.Ends.{order};
+ghost use Rattle.compare.specs.Order.{order};
 ghost use Rattle.rows.specs.Rows.{keyAt, lastOf};
 ghost use Rattle.rows.specs.Search.{upperBound, found};
 
@@ -31,7 +31,7 @@ fn key_order(table: &[u8], i: usize, kind: u8, key: &[u8]) -> usize
     if kind < own {
         return 2;
     }
-    record::order_of(record::part_of(rec, Table::KEY, Table::DATE), key)
+    compare::order_of(record::part_of(rec, Table::KEY, Table::DATE), key)
 }
 
 // Behind the last record whose type and key are not above the wanted ones.

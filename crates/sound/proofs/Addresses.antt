@@ -16,11 +16,11 @@ use Rattle.text.proofs.Texts.{part-bound}
 use Rattle.postcode.specs.Outward.{outwardFault}
 use Rattle.refusal.specs.declared.Reason.the-variants.{Combination, MissingKey}
 use Rattle.record.specs.Parts.{recordAt}
-use Rattle.record.specs.Ends.{order}
+use Rattle.compare.specs.Order.{order}
 use Rattle.rows.proofs.Order.{order-equal}
 use Rattle.faults.specs.Fields.{oneOf}
 use Rattle.faults.proofs.Laws.{one-byte}
-use Rattle.files.specs.declared.check.Verdict.the-variants.{Fine}
+use Rattle.files.specs.declared.verdict.Verdict.the-variants.{Fine}
 use Rattle.files.specs.Formats.{pointFormat}
 use Rattle.files.proofs.Accepted.{Accepted, both-fine}
 use Rattle.files.proofs.Laws.{within-limit}

@@ -17,7 +17,8 @@ use Rattle.text.specs.Digits.{digit, digitsFault, value}
 use Rattle.text.specs.Text.{textFault, part, textIn}
 use Rattle.text.proofs.Tests.{and-left, and-right, range-low, range-high}
 use Rattle.record.specs.Parts.{recordAt}
-use Rattle.record.specs.Ends.{order, same, identifier, trailerOk}
+use Rattle.compare.specs.Order.{order, same}
+use Rattle.ends.specs.Ends.{identifier, trailerOk}
 use Rattle.rows.proofs.Order.{order-equal}
 use Rattle.faults.specs.Point.{pointRest, pointFault}
 use Rattle.files.specs.Check.{records}

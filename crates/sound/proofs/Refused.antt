@@ -10,8 +10,8 @@ use lib.ListN.{getD}
 use Rattle.record.specs.Parts.{recordAt}
 use Rattle.postcode.specs.Outward.{outwardFault}
 use Rattle.refusal.specs.declared.Reason.{Reason}
-use Rattle.files.specs.declared.check.Verdict.{Verdict}
-use Rattle.files.specs.declared.check.Verdict.the-variants.{Fine, Bad}
+use Rattle.files.specs.declared.verdict.Verdict.{Verdict}
+use Rattle.files.specs.declared.verdict.Verdict.the-variants.{Fine, Bad}
 use Rattle.files.specs.Formats.{tableFormat, pointFormat}
 use Rattle.files.proofs.Accepted.{Accepted}
 use Rattle.views.specs.Views.{wanted, lastOf, wantedIn, wantedCount, wantedAt, nextWanted, viewNumber}

@@ -4,7 +4,7 @@ use Prim.Native.Nat.{ℕ}
 use mathlib.Core.Path.{_≡_}
 use mathlib.Core.List.{List}
 use Rattle.postcode.specs.Outward.{outwardFault}
-use Rattle.files.specs.declared.check.Verdict.the-variants.{Fine}
+use Rattle.files.specs.declared.verdict.Verdict.the-variants.{Fine}
 use Rattle.files.specs.Formats.{tableFormat, pointFormat}
 use Rattle.files.proofs.Accepted.{Accepted}
 use Rattle.source.specs.Rows.{tableLookup}

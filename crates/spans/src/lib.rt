@@ -22,7 +22,7 @@ fn table_span(table: &[u8], i: usize, from: usize, to: usize) -> Span
     if i < table.len() / Table::WIDTH {
         let at = i * Table::WIDTH;
         let start = at + from;
-        let text = text::read_text(table, start, at + to);
+        let text = reading::read_text(table, start, at + to);
         Span {
             first: true,
             at: start,
@@ -45,7 +45,7 @@ fn point_span(points: &[u8], i: usize, from: usize, to: usize) -> Span
     if i < points.len() / Point::WIDTH {
         let at = i * Point::WIDTH;
         let start = at + from;
-        let text = text::read_text(points, start, at + to);
+        let text = reading::read_text(points, start, at + to);
         Span {
             first: false,
             at: start,
@@ -98,14 +98,14 @@ fn follower_span(points: &[u8], i: usize, from: usize, to: usize) -> Span
 fn row_of_key(table: &[u8], points: &[u8], i: usize, kind: u8, start: u8) -> usize
     ensures { λ r. ⌜ r ≡ rowOfKey (now (table .entry)) (now (points .entry)) i kind start ⌝ }
 {
-    keys::row_for(table, record::point_record(points, i), kind, start)
+    missing::row_for(table, record::point_record(points, i), kind, start)
 }
 
 // The number of the house, of at most four digits.
 fn number_in(rec: &[u8]) -> u16
     ensures { λ r. ⌜ r ≡ value (part (now (rec .entry)) 82 86) ⌝ }
 {
-    text::value_of(record::part_of(rec, View::NUMBER, View::BUILDING)) as u16
+    values::value_of(record::part_of(rec, View::NUMBER, View::BUILDING)) as u16
 }
 
 // The place of the inward code, whose three bytes have no padding.

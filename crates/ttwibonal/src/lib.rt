@@ -15,7 +15,7 @@ ghost use Rattle.listing.specs.Listing.{viewsAnswer, letterAnswer, liveAnswer};
 pub extern "C" fn ttw_table(table: &[u8]) -> u64
     ensures { λ r. ⌜ r ≡ packed (checked tableFormat (now (table .entry))) ⌝ }
 {
-    refusal::packed_answer(files::check_table(table)) as u64
+    refusal::packed_answer(checking::check_table(table)) as u64
 }
 
 // How many records a point file has.
@@ -23,7 +23,7 @@ pub extern "C" fn ttw_table(table: &[u8]) -> u64
 pub extern "C" fn ttw_points(points: &[u8]) -> u64
     ensures { λ r. ⌜ r ≡ packed (checked pointFormat (now (points .entry))) ⌝ }
 {
-    refusal::packed_answer(files::check_points(points)) as u64
+    refusal::packed_answer(checking::check_points(points)) as u64
 }
 
 // How many views a point file has.
@@ -55,7 +55,7 @@ pub extern "C" fn ttw_live(points: &[u8], code: &[u8]) -> u64
 pub extern "C" fn ttw_label<'a>(table: &'a [u8], points: &'a [u8], view: u64, out: &mut [u8]) -> u64
     ensures { λ r. ⌜ (r ≡ packed (viewAnswer (now (table .entry)) (now (points .entry)) view (now (out .entry)))) × (now (out .exit) ≡ viewMemory (now (table .entry)) (now (points .entry)) view (now (out .entry))) ⌝ }
 {
-    refusal::packed_answer(pair::label_view(table, points, view as usize, out)) as u64
+    refusal::packed_answer(asked::label_view(table, points, view as usize, out)) as u64
 }
 
 // The label of the k-th live view in a code, printed into `out`.
@@ -69,7 +69,7 @@ pub extern "C" fn ttw_code_label<'a>(
 ) -> u64
     ensures { λ r. ⌜ (r ≡ packed (codeAnswer (now (table .entry)) (now (points .entry)) (now (code .entry)) k (now (out .entry)))) × (now (out .exit) ≡ codeMemory (now (table .entry)) (now (points .entry)) (now (code .entry)) k (now (out .entry))) ⌝ }
 {
-    refusal::packed_answer(pair::label_in_code(table, points, code, k as usize, out)) as u64
+    refusal::packed_answer(asked::label_in_code(table, points, code, k as usize, out)) as u64
 }
 
 // The pack of an outward code, cut from both files into `out`.

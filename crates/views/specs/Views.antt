@@ -8,7 +8,7 @@ use lib.ListN.{length, getD}
 use Rattle.text.specs.Test.{elem}
 use Rattle.text.specs.Text.{part}
 use Rattle.record.specs.Parts.{recordAt}
-use Rattle.record.specs.Ends.{same}
+use Rattle.compare.specs.Order.{same}
 
 -- "A view is a type 1 record of the point file"
 abbrev pub isView : List ℕ → Bool

@@ -1,7 +1,7 @@
-// Views and live views of a point file: the step to the next one, the k-th, and how many there are. Any bytes may be
-// asked; only of an accepted file is the answer what document 01 calls a view.
+// Views and live views of a point file, and the step to the next one. Any bytes may be asked; only of an accepted file is
+// the answer what document 01 calls a view.
 ghost use mathlib.Core.Path.{_≡_};
-ghost use Rattle.views.specs.Views.{wanted, lastOf, nextWanted, wantedCount, wantedAt, viewNumber};
+ghost use Rattle.views.specs.Views.{wanted, lastOf, nextWanted};
 
 // Whether a record is wanted: a live view of the code; where no code is given, any view.
 pub fn is_wanted(rec: &[u8], code: &[u8]) -> bool
@@ -15,7 +15,7 @@ pub fn is_wanted(rec: &[u8], code: &[u8]) -> bool
     }
     let letter = record::byte_of(rec, record::Point::LETTER);
     let outward = record::part_of(rec, record::Point::OUTWARD, record::Point::INWARD);
-    let order = record::order_of(outward, code);
+    let order = compare::order_of(outward, code);
     ((letter == b'I') | (letter == b'C')) & (order == 0)
 }
 
@@ -39,52 +39,6 @@ pub fn next_wanted(points: &[u8], code: &[u8], i: usize) -> usize
             return at;
         }
         at += 1;
-    }
-    at
-}
-
-// How many are wanted.
-pub fn count_wanted(points: &[u8], code: &[u8]) -> usize
-    ensures { λ r. ⌜ r ≡ wantedCount (now (code .entry)) (now (points .entry)) ⌝ }
-{
-    let last = last_of(points);
-    let mut n = 0;
-    let mut at = next_wanted(points, code, 1);
-    while at < last {
-        n += 1;
-        at = next_wanted(points, code, at + 1);
-    }
-    n
-}
-
-// The number of the view at a place: how many views stand up to it.
-pub fn number_at(points: &[u8], place: usize) -> usize
-    ensures { λ r. ⌜ r ≡ viewNumber (now (points .entry)) place ⌝ }
-{
-    let mut views = 0;
-    let mut i = 0;
-    while i < place {
-        i += 1;
-        if is_wanted(record::point_record(points, i), &points[..0]) {
-            views += 1;
-        }
-    }
-    views
-}
-
-// The place of the `k`-th that is wanted, counted from 1; 0 where there is none.
-pub fn wanted_at(points: &[u8], code: &[u8], k: usize) -> usize
-    ensures { λ r. ⌜ r ≡ wantedAt (now (code .entry)) (now (points .entry)) k ⌝ }
-{
-    let last = last_of(points);
-    let mut left = k;
-    let mut at = 0;
-    while 0 < left {
-        at = next_wanted(points, code, at + 1);
-        if last <= at {
-            return 0;
-        }
-        left -= 1;
     }
     at
 }

@@ -8,7 +8,7 @@ use mathlib.Core.Bool.{true}
 use Prim.Native.Nat.{ℕ, _≤_}
 use lib.ListN.{length, take}
 use mathlib.Core.List.{List}
-use Rattle.open.specs.Ready.{Sized, Area}
+use Rattle.open_points.specs.Ready.{Sized, Area}
 use Rattle.layout.specs.Opening.{rowsGood, trailerGood, allRowsGood, opened}
 use Rattle.open.proofs.Trailers.{trailer-room, trailer-sized}
 use Rattle.open.proofs.open_pack.Statement.{statement}

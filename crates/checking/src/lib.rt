@@ -1,0 +1,100 @@
+// The check of a whole file: one pass, and the first refusal.
+use files::Verdict;
+use formats::inner::fault_in;
+use formats::inner::is_above;
+use formats::inner::is_between;
+use formats::inner::is_header;
+use formats::inner::is_trailer;
+use formats::inner::is_whole;
+use formats::inner::record_of;
+use formats::inner::records_in;
+use record::Cursor;
+use refusal::Answer;
+use refusal::Reason;
+ghost use mathlib.Core.Path.{_≡_};
+ghost use Prim.Native.Nat.{_-_, _≤_};
+ghost use Rattle.files.specs.Check.{judged, scan, verdict, answered, checked};
+ghost use Rattle.files.specs.Formats.{formatOf, tableFormat, pointFormat};
+
+// Record `i`, counted from 0, between header and trailer: 4, then 5, then 6.
+fn judge(kind: usize, file: &[u8], i: usize) -> Verdict
+    requires { ⌜ (1 ≤ i) × (i ≤ 1000000) ⌝ }
+    ensures { λ r. ⌜ r ≡ judged (formatOf kind) (now (file .entry)) i ⌝ }
+{
+    let rec = record_of(kind, file, i);
+    let fault = fault_in(kind, rec);
+    if fault != 0 {
+        return Verdict::Bad(told::malformed(i + 1, fault));
+    }
+    let before = record_of(kind, file, i - 1);
+    if !is_above(kind, i, before, rec) {
+        return Verdict::Bad(Reason::NotAbove { record: i + 1 });
+    }
+    if is_between(kind, before, rec, record_of(kind, file, i + 1)) {
+        Verdict::Fine
+    } else {
+        Verdict::Bad(Reason::Follower { record: i + 1 })
+    }
+}
+
+// The first refusal of the records between header and trailer.
+fn scan_records(kind: usize, file: &[u8], n: usize) -> Verdict
+    requires { ⌜ (2 ≤ n) × (n ≤ 1000000) ⌝ }
+    ensures { λ r. ⌜ r ≡ scan (judged (formatOf kind) (now (file .entry))) (n - 2) 1 ⌝ }
+{
+    let start = Cursor::fresh();
+    let mut i = start.at;
+    while i < n - 1 {
+        match judge(kind, file, i) {
+            Verdict::Fine => {}
+            Verdict::Bad(why) => {
+                return Verdict::Bad(why);
+            }
+        }
+        i += 1;
+    }
+    Verdict::Fine
+}
+
+// The first refusal of a file: 1, 2, 3, then record by record.
+fn verdict_of(kind: usize, file: &[u8]) -> Verdict
+    ensures { λ r. ⌜ r ≡ verdict (formatOf kind) (now (file .entry)) ⌝ }
+{
+    if !is_whole(kind, file) {
+        return Verdict::Bad(Reason::Length);
+    }
+    let n = records_in(kind, file);
+    if !is_header(kind, record_of(kind, file, 0)) {
+        return Verdict::Bad(Reason::Header);
+    }
+    if !is_trailer(kind, record_of(kind, file, n - 1), n) {
+        return Verdict::Bad(Reason::Trailer { record: n });
+    }
+    scan_records(kind, file, n)
+}
+
+// How many records an accepted file has, or its first refusal.
+fn check(kind: usize, file: &[u8], blame: usize) -> Answer
+    requires { ⌜ blame ≡ formatOf kind .file ⌝ }
+    ensures { λ r. ⌜ r ≡ checked (formatOf kind) (now (file .entry)) ⌝ }
+{
+    match verdict_of(kind, file) {
+        Verdict::Fine => Answer::Value(records_in(kind, file)),
+        Verdict::Bad(reason) => Answer::Refused {
+            file: blame,
+            reason,
+        },
+    }
+}
+
+pub fn check_table(file: &[u8]) -> Answer
+    ensures { λ r. ⌜ r ≡ checked tableFormat (now (file .entry)) ⌝ }
+{
+    check(1, file, 1)
+}
+
+pub fn check_points(file: &[u8]) -> Answer
+    ensures { λ r. ⌜ r ≡ checked pointFormat (now (file .entry)) ⌝ }
+{
+    check(2, file, 2)
+}

@@ -1,0 +1,4 @@
+// The rows of a pack, written into a lent buffer that is known to be long enough.
+pub mod inner;
+mod organisations;
+mod used;

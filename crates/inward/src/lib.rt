@@ -1,0 +1,43 @@
+// Inward codes and delivery point suffixes, of any bytes and any length.
+// Each test answers the byte at which its first fault stands, counted from 1, and 0 where there is none.
+use postcode::inner::unless;
+ghost use mathlib.Core.Path.{_≡_};
+ghost use Rattle.postcode.specs.Inward.{inwardLetter, inwardFault, suffixFault};
+
+fn is_inward_letter(b: u8) -> bool
+    ensures { λ r. ⌜ r ≡ inwardLetter b ⌝ }
+{
+    match b {
+        b'C' | b'I' | b'K' | b'M' | b'O' | b'V' => false,
+        _ => text::is_letter(b),
+    }
+}
+
+// The first fault of an inward code.
+pub fn inward_fault(code: &[u8]) -> usize
+    ensures { λ r. ⌜ r ≡ inwardFault (now (code .entry)) ⌝ }
+{
+    if code.len() != 3 {
+        return 1;
+    }
+    let letters = unless(
+        is_inward_letter(code[1]),
+        2,
+        unless(is_inward_letter(code[2]), 3, 0),
+    );
+    unless(text::is_digit(code[0]), 1, letters)
+}
+
+// The first fault of a delivery point suffix.
+pub fn suffix_fault(suffix: &[u8]) -> usize
+    ensures { λ r. ⌜ r ≡ suffixFault (now (suffix .entry)) ⌝ }
+{
+    if suffix.len() != 2 {
+        return 1;
+    }
+    unless(
+        text::is_digit(suffix[0]),
+        1,
+        unless(text::is_letter(suffix[1]), 2, 0),
+    )
+}

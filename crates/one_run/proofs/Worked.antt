@@ -1,0 +1,116 @@
+-- Document 01's run, computed: two files, byte by byte, and their report.
+-- Assumes nothing.
+use Prim.Native.Nat.{ℕ, _+_}
+use mathlib.Core.Path.{_≡_, refl}
+use mathlib.Core.List.{List, [], _∷_, _++_}
+use lib.ListN.{take, replicate, set}
+use Rattle.text.specs.Digits.{digitsFault, digitValue, value}
+use Rattle.text.specs.Text.{textFault, filledFault, textIn, numericLike}
+use Rattle.ends.specs.Ends.{identifier, headerOk, trailerOk}
+use Rattle.record.specs.Parts.{recordAt}
+use Rattle.postcode.specs.Inward.{inwardLetter, inwardFault, suffixFault}
+use Rattle.postcode.specs.Outward.{class, allowed, outwardFault}
+use Rattle.faults.specs.Fields.{oneOf, keyFault}
+use Rattle.faults.specs.Point.{pointFault}
+use Rattle.faults.specs.Table.{doubleFault, tableFault}
+use Rattle.files.specs.Check.{judged, verdict, checked}
+use Rattle.files.specs.Formats.{changes, needed, follows, placed}
+use Rattle.views.specs.Views.{wanted, wantedIn, wantedCount, wantedAt}
+use Rattle.rows.specs.Rows.{rowOf}
+use Rattle.rows.specs.Search.{found}
+use Rattle.address.proofs.Worked.{bay, quarry, lane, range, attic}
+use Rattle.address.specs.Resolve.{forbidden, missing, elementsOf, resolve}
+use Rattle.source.specs.Addresses.{addressOf}
+use Rattle.source.specs.Rows.{digitsOf, tableLookup}
+use Rattle.label.specs.Label.{labelOf}
+use Rattle.label.specs.Lines.{numberText, linesOf}
+use Rattle.report.specs.Report.{decimal, byteText, refusedLine, viewText, block, pairText, pointsText, reportOf}
+
+-- a field of n bytes, padded with spaces
+abbrev field : ℕ → List ℕ → List ℕ
+field n t = take n (t ++ replicate n 32)
+
+-- a table record: type, key, date, time, letter, then its fields
+abbrev row : ℕ → ℕ → List ℕ → List ℕ
+row kind key rest = (48 + kind) ∷ (digitsOf 8 key ++ (replicate 14 48 ++ (32 ∷ field 145 rest)))
+
+-- "locality 1 HARTWELL BAY, thoroughfare 7 QUARRY, descriptor 3 LANE, building 9 `110-114`, sub building 4 ATTIC FLAT"
+abbrev pub table : List ℕ
+table =
+    (replicate 9 0 ++ (changes 49 ++ replicate 152 32))
+    ++ (row 1 1 (replicate 45 32 ++ bay)
+    ++ (row 2 7 quarry
+    ++ (row 3 3 lane
+    ++ (row 4 9 range
+    ++ (row 5 4 attic
+    ++ (replicate 9 255 ++ (digitsOf 8 7 ++ replicate 152 32)))))))
+
+-- a view of AB1 9ZZ on a day, with a letter and a building key; it "uses all five"
+abbrev view : ℕ → ℕ → ℕ → List ℕ
+view day letter building =
+    digitsOf 8 day
+    ++ (digitsOf 6 101_501
+    ++ ((65 ∷ 66 ∷ 49 ∷ 32 ∷ 57 ∷ 90 ∷ 90 ∷ 49 ∷ 65 ∷ 83 ∷ [])
+    ++ (digitsOf 8 1
+    ++ (digitsOf 8 0
+    ++ (letter ∷ 49 ∷ (digitsOf 8 1
+    ++ (digitsOf 8 7
+    ++ (digitsOf 8 3
+    ++ (digitsOf 8 0
+    ++ (digitsOf 8 0
+    ++ (digitsOf 4 0
+    ++ (digitsOf 8 building
+    ++ (digitsOf 8 4
+    ++ (digitsOf 4 1 ++ (replicate 8 32 ++ (digitsOf 2 1 ++ replicate 52 32))))))))))))))))
+
+abbrev pub points : List ℕ
+points =
+    (replicate 14 0 ++ (changes 50 ++ replicate 146 32))
+    ++ (view 20_110_901 73 9
+    ++ (view 20_110_902 68 10 ++ (replicate 14 255 ++ (digitsOf 8 4 ++ replicate 146 32))))
+
+-- pair 7 4 2
+abbrev pair-line : List ℕ
+pair-line = 112 ∷ 97 ∷ 105 ∷ 114 ∷ 32 ∷ 55 ∷ 32 ∷ 52 ∷ 32 ∷ 50 ∷ 10 ∷ []
+
+-- view 1 I
+abbrev view-1 : List ℕ
+view-1 = 118 ∷ 105 ∷ 101 ∷ 119 ∷ 32 ∷ 49 ∷ 32 ∷ 73 ∷ 10 ∷ []
+
+-- ATTIC FLAT
+abbrev line-1 : List ℕ
+line-1 = 65 ∷ 84 ∷ 84 ∷ 73 ∷ 67 ∷ 32 ∷ 70 ∷ 76 ∷ 65 ∷ 84 ∷ 10 ∷ []
+
+-- 110-114 QUARRY LANE
+abbrev line-2 : List ℕ
+line-2 = 49 ∷ 49 ∷ 48 ∷ 45 ∷ 49 ∷ 49 ∷ 52 ∷ 32 ∷ 81 ∷ 85 ∷ 65 ∷ 82 ∷ 82 ∷ 89 ∷ 32 ∷ 76 ∷ 65 ∷ 78 ∷ 69 ∷ 10 ∷ []
+
+-- HARTWELL BAY
+abbrev line-3 : List ℕ
+line-3 = 72 ∷ 65 ∷ 82 ∷ 84 ∷ 87 ∷ 69 ∷ 76 ∷ 76 ∷ 32 ∷ 66 ∷ 65 ∷ 89 ∷ 10 ∷ []
+
+-- AB1 9ZZ
+abbrev line-4 : List ℕ
+line-4 = 65 ∷ 66 ∷ 49 ∷ 32 ∷ 57 ∷ 90 ∷ 90 ∷ 10 ∷ []
+
+-- view 2 D
+abbrev view-2 : List ℕ
+view-2 = 118 ∷ 105 ∷ 101 ∷ 119 ∷ 32 ∷ 50 ∷ 32 ∷ 68 ∷ 10 ∷ []
+
+-- refused 9 6
+abbrev refused-line : List ℕ
+refused-line = 114 ∷ 101 ∷ 102 ∷ 117 ∷ 115 ∷ 101 ∷ 100 ∷ 32 ∷ 57 ∷ 32 ∷ 54 ∷ 10 ∷ []
+
+pub one-run : reportOf table points
+    ≡ pair-line ++ (view-1 ++ (line-1 ++ (line-2 ++ (line-3 ++ (line-4 ++ (view-2 ++ refused-line))))))
+unfolding digitsFault digitValue value textFault filledFault textIn numericLike identifier headerOk trailerOk recordAt inwardLetter inwardFault suffixFault class allowed outwardFault oneOf keyFault pointFault doubleFault tableFault judged verdict checked needed follows placed wanted wantedIn wantedCount wantedAt rowOf found forbidden missing elementsOf resolve addressOf tableLookup labelOf numberText linesOf decimal byteText refusedLine viewText block pairText pointsText reportOf
+one-run = refl
+
+-- the same with a small q for the Q of QUARRY, byte 25 of record 3: table refused 4 3 25
+abbrev misspelt-line : List ℕ
+misspelt-line =
+    116 ∷ 97 ∷ 98 ∷ 108 ∷ 101 ∷ 32 ∷ 114 ∷ 101 ∷ 102 ∷ 117 ∷ 115 ∷ 101 ∷ 100 ∷ 32 ∷ 52 ∷ 32 ∷ 51 ∷ 32 ∷ 50 ∷ 53 ∷ 10 ∷ []
+
+pub one-refused : reportOf (set table 362 113) points ≡ misspelt-line
+unfolding digitsFault digitValue value textFault filledFault textIn numericLike identifier headerOk trailerOk recordAt inwardLetter inwardFault suffixFault class allowed outwardFault oneOf keyFault pointFault doubleFault tableFault judged verdict checked needed follows placed wanted wantedIn wantedCount wantedAt rowOf found forbidden missing elementsOf resolve addressOf tableLookup labelOf numberText linesOf decimal byteText refusedLine viewText block pairText pointsText reportOf
+one-refused = refl

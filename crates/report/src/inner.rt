@@ -1,0 +1,4 @@
+// The pieces that the crates of views and of the whole report write.
+pub use crate::feed::number_at;
+pub use crate::feed::refused_at;
+pub use crate::feed::text_at;
