@@ -1,7 +1,8 @@
-/* What a handset does with a pack: loads it, prints the label of a point, or says why it cannot.
+/* What a handset does with a pack: loads it, prints the label of a point or of many, or says why it cannot.
  *
  *     handset AB1.pack        how many points the pack has
  *     handset AB1.pack 3      the label of point 3
+ *     handset AB1.pack 3 40   the labels of 40 points, from point 3 on
  *
  * Exit status: 0 done, 1 refused, 2 could not. */
 #include "ttwibonal.h"
@@ -14,6 +15,8 @@
 
 /* The longest label. */
 #define LABEL 499
+/* Labels for which there is always room at a time. */
+#define ROUND 40
 /* No pack of a pair of files comes near this length. */
 #define LONGEST_PACK (64L << 20)
 
@@ -92,6 +95,23 @@ static int say_label(const struct pack *pack, uint64_t k)
     return DONE;
 }
 
+/* As many labels at a time as there is room for: behind those written, the next are asked for in an empty buffer. */
+static int say_labels(const struct pack *pack, uint64_t first, uint64_t count)
+{
+    static uint8_t labels[ROUND * LABEL];
+    uint64_t answer;
+
+    do {
+        uint64_t bytes = 0;
+
+        answer = ttw_pack_labels(pack->bytes, pack->length, first, count, labels, sizeof labels, &bytes);
+        fwrite(labels, 1, (size_t)bytes, stdout);
+        first += TTW_SECOND(answer);
+        count -= TTW_SECOND(answer);
+    } while (TTW_REFUSAL(answer) == 10);
+    return TTW_REFUSAL(answer) == 0 ? DONE : say_refusal(answer);
+}
+
 /* Whether a text is a number and nothing else. */
 static int read_number(const char *text, uint64_t *number)
 {
@@ -102,14 +122,29 @@ static int read_number(const char *text, uint64_t *number)
     return errno == 0 && text[0] >= '0' && text[0] <= '9' && *end == '\0';
 }
 
+/* The label of a point, those of many, or how many there are, by what is given. */
+static int say(const struct pack *pack, int given, uint64_t k, uint64_t count)
+{
+    switch (given) {
+    case 1:
+        return say_points(pack);
+    case 2:
+        return say_label(pack, k);
+    default:
+        return say_labels(pack, k, count);
+    }
+}
+
 int main(int argc, char **argv)
 {
     struct pack pack = {NULL, 0};
     uint64_t k = 0;
+    uint64_t count = 0;
     int status;
 
-    if (argc < 2 || argc > 3 || (argc == 3 && !read_number(argv[2], &k))) {
-        fputs("usage: handset PACK [NUMBER]\n", stderr);
+    if (argc < 2 || argc > 4 || (argc > 2 && !read_number(argv[2], &k)) ||
+        (argc > 3 && !read_number(argv[3], &count))) {
+        fputs("usage: handset PACK [NUMBER [COUNT]]\n", stderr);
         return COULD_NOT;
     }
     if (!load(argv[1], &pack)) {
@@ -119,7 +154,7 @@ int main(int argc, char **argv)
         free(pack.bytes);
         return COULD_NOT;
     }
-    status = argc == 3 ? say_label(&pack, k) : say_points(&pack);
+    status = say(&pack, argc - 1, k, count);
     free(pack.bytes);
     return fflush(stdout) == 0 ? status : COULD_NOT;
 }

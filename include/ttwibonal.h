@@ -5,9 +5,8 @@
  * calls may run on several threads at once, on the same slices too where they only read them. No call writes into the
  * slices that it only reads, asks the system for memory, or opens a file.
  *
- * Stack: a call on files takes less than 1,024 bytes, a label from files less than 4,096, opening a pack or a label
- * from a pack less than 80 KiB, building a pack less than 192 KiB. A thread that is to build needs its stack sized for
- * that.
+ * Stack: a call on files takes less than 1,024 bytes, labels from files less than 4,096, opening a pack or labels from a
+ * pack less than 80 KiB, building a pack less than 192 KiB. A thread that is to build needs its stack sized for that.
  *
  * Each call answers one number. Take it apart with the macros below and never compare whole words: later calls fill bits
  * that are 0 today.
@@ -32,7 +31,8 @@ extern "C" {
 #define TTW_REFUSAL(answer) ((answer) >> 56)
 /* The file to blame: 1 the table file, 2 the point file, 0 no file. */
 #define TTW_FILE(answer) (((answer) >> 52) & 15u)
-/* The refusal's second detail: the byte for 4, the view where building gives 8 or 9, otherwise 0. */
+/* The refusal's second detail: the byte for 4, the view where building gives 8 or 9, the labels written where a run
+ * stops, otherwise 0. */
 #define TTW_SECOND(answer) (((answer) >> 32) & 0xFFFFFu)
 /* The refusal's detail. */
 #define TTW_DETAIL(answer) ((answer) & 0xFFFFFFFFu)
@@ -67,8 +67,8 @@ uint64_t ttw_letter(const uint8_t *points, size_t points_len, uint64_t view);
  * the code is malformed. */
 uint64_t ttw_live(const uint8_t *points, size_t points_len, const uint8_t *code, size_t code_len);
 
-/* Labels. `out` is the one slice that is written: a refused call leaves all of it as it was, an accepted one everything
- * behind the bytes that it wrote. A label has at most 499 bytes: its lines, each ended by byte 10.
+/* Labels, one at a time. `out` is the one slice that is written: a refused call leaves all of it as it was, an accepted
+ * one everything behind the bytes that it wrote. A label has at most 499 bytes: its lines, each ended by byte 10.
  * Refusals, in this order: the table file's (file 1), the point file's (file 2), 12 where a code is given, then
  *   7 no such view
  *   8 a forbidden combination (1 sub building without name or number, 2 dependent thoroughfare without thoroughfare,
@@ -85,6 +85,36 @@ uint64_t ttw_label(const uint8_t *table, size_t table_len, const uint8_t *points
 /* The label of the k-th live view in an outward code, k counted from 1 in file order: how many bytes were written. */
 uint64_t ttw_code_label(const uint8_t *table, size_t table_len, const uint8_t *points, size_t points_len,
                         const uint8_t *code, size_t code_len, uint64_t k, uint8_t *out, size_t out_len);
+
+/* Runs of labels. `count` labels are written into `out` one behind the other, equal to asking for each in turn: label
+ * `first` in the whole of `out`, the next one in what is left behind it, and so on. `*bytes`, a number of its own that no
+ * slice holds, becomes how many bytes they take together, and what stands behind these in `out` is as it was. The value
+ * is how many labels were written: `count`.
+ *
+ * A run stops before the first label that is refused or does not fit in what is left. The answer is then that label's
+ * own refusal, 7 to 10 as above (for 10 the bytes that this label needs), and the second detail is how many labels were
+ * written before it, modulo 1,048,576. These stay, and `*bytes` counts them.
+ *
+ * Refused as a whole, in this order: the table file's refusals (file 1), the point file's (file 2), 12 where a code is
+ * given; a pack's 11. Then neither `out` nor `*bytes` is written, whatever `first` and `count` are.
+ *
+ *     uint8_t out[40 * 499];
+ *     uint64_t bytes = 0;
+ *     uint64_t answer = ttw_labels(table, table_len, points, points_len, 1, 40, out, sizeof out, &bytes);
+ *     fwrite(out, 1, bytes, stdout);
+ *     if (TTW_REFUSAL(answer) == 9)
+ *         printf("%lu labels, then a key has no row\n", (unsigned long)TTW_SECOND(answer));
+ */
+
+/* The labels of `count` views from view `first` on, counted from 1: how many labels were written. */
+uint64_t ttw_labels(const uint8_t *table, size_t table_len, const uint8_t *points, size_t points_len, uint64_t first,
+                    uint64_t count, uint8_t *out, size_t out_len, uint64_t *bytes);
+
+/* The labels of `count` live views in an outward code from the `first` on, counted from 1 in file order: how many labels
+ * were written. */
+uint64_t ttw_code_labels(const uint8_t *table, size_t table_len, const uint8_t *points, size_t points_len,
+                         const uint8_t *code, size_t code_len, uint64_t first, uint64_t count, uint8_t *out,
+                         size_t out_len, uint64_t *bytes);
 
 /* Packs. A pack holds the labels of the live views in one outward code, and needs no file beside it: its k-th point has
  * the label that ttw_code_label gives for the k-th live view of the files that it was built from.
@@ -112,6 +142,11 @@ uint64_t ttw_pack(const uint8_t *pack, size_t pack_len);
  * written. Refusals, in this order: 11 as above, 7 no such point, 10 `out` is shorter than the label (the bytes
  * needed). */
 uint64_t ttw_pack_label(const uint8_t *pack, size_t pack_len, uint64_t k, uint8_t *out, size_t out_len);
+
+/* The labels of `count` points of a pack from point `first` on, counted from 1: how many labels were written. It is a
+ * run of labels as above, refused as a whole with 11, and stops with 7 or 10. */
+uint64_t ttw_pack_labels(const uint8_t *pack, size_t pack_len, uint64_t first, uint64_t count, uint8_t *out,
+                         size_t out_len, uint64_t *bytes);
 
 #ifdef __cplusplus
 }

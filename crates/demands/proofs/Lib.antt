@@ -4,3 +4,4 @@ pub mod Two
 pub mod Three
 pub mod Unused
 pub mod Run
+pub mod Runs

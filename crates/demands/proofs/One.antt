@@ -15,7 +15,7 @@ use Rattle.files.specs.declared.verdict.Verdict.{Verdict}
 use Rattle.files.specs.declared.verdict.Verdict.the-variants.{Fine, Bad}
 use Rattle.files.specs.Check.{checked}
 use Rattle.files.specs.Formats.{tableFormat, pointFormat}
-use Rattle.files.proofs.Accepted.{refused-value}
+use Rattle.refusal.proofs.Answers.{refused-value}
 use Rattle.address.specs.Resolve.{Resolved, elements, refused}
 use Rattle.label.specs.Label.{labelOf, roomAnswer, roomMemory, resolvedAnswer, resolvedMemory}
 use Rattle.source.specs.Rows.{tableLookup}

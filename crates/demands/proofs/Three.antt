@@ -21,7 +21,8 @@ use Rattle.files.specs.declared.verdict.Verdict.{Verdict}
 use Rattle.files.specs.declared.verdict.Verdict.the-variants.{Fine, Bad}
 use Rattle.files.specs.Check.{records, checked, orElse}
 use Rattle.files.specs.Formats.{tableFormat, pointFormat}
-use Rattle.files.proofs.Accepted.{Accepted, accepted, accepts, refused-value}
+use Rattle.files.proofs.Accepted.{Accepted, accepted, accepts}
+use Rattle.refusal.proofs.Answers.{refused-value}
 use Rattle.views.specs.Views.{wantedCount, wantedAt}
 use Rattle.views.proofs.Laws.{wanted-at-wanted, wanted-at-zero, wanted-at-none}
 use Rattle.address.specs.Address.{Lookup, Address}

@@ -13,6 +13,7 @@ use Rattle.ends.specs.Ends.{headerOk, trailerOk}
 use Rattle.refusal.specs.Refusal.{malformedAt}
 use Rattle.refusal.specs.declared.Reason.{Reason}
 use Rattle.refusal.specs.declared.Reason.the-variants.{NotAbove, Follower}
+use Rattle.refusal.proofs.Answers.{refused-value}
 use Rattle.refusal.specs.declared.Answer.the-variants.{Value, Refused}
 use Rattle.files.specs.declared.verdict.Verdict.{Verdict}
 use Rattle.files.specs.declared.verdict.Verdict.the-variants.{Fine, Bad}
@@ -22,9 +23,6 @@ use Rattle.files.proofs.Laws.{judged-fine, verdict-length, verdict-head
 -- no refusal is no answer that is fine
 bad-fine : (why : Reason) → Bad why ≡ Fine → ⊥
 bad-fine why e = let z : _≡_ {A = ℕ} 0 1 = cc in omega arith
-
-pub refused-value : (file n : ℕ) (why : Reason) → Refused file why ≡ Value n → ⊥
-refused-value file n why e = let z : _≡_ {A = ℕ} 0 1 = cc in omega arith
 
 -- of a scan that found nothing, each verdict is fine
 pub both-fine : (v w : Verdict) → orElse v w ≡ Fine → (v ≡ Fine) × (w ≡ Fine)

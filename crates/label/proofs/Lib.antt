@@ -6,3 +6,4 @@ pub mod Whole
 pub mod Bounds
 pub mod Split
 pub mod Examples
+pub mod Room

@@ -1,43 +1,16 @@
 // Labels asked of a pack.
-use packed::PackPoint;
-use packed::PackTrailer;
-use packed::inner::trailer_number;
-use point_spans::inner::spans_at;
-use refusal::Answer;
-use refusal::Reason;
-ghost use mathlib.Core.Path.{_≡_};
-ghost use Prim.Native.Nat.{_≤_};
-ghost use Rattle.label.specs.Label.{labelOf, roomAnswer, roomMemory};
-ghost use Rattle.layout.specs.Opening.{pointCount};
-ghost use Rattle.layout.specs.Points.{elementsAt, pointPlace, packAnswer, packMemory};
-ghost use Rattle.open_points.specs.Ready.{Sized};
+pub mod inner;
 
-// The label of point k of a pack that has so many.
-fn point_label<'a>(pack: &'a [u8], k: usize, out: &mut [u8]) -> Answer
-    requires { ⌜ Sized (now pack) × ((1 ≤ k) × (k ≤ pointCount (now pack))) ⌝ }
-    ensures { λ r. ⌜ (r ≡ roomAnswer (labelOf (elementsAt (now (pack .entry)) (pointPlace (now (pack .entry)) k))) (now (out .entry))) × (now (out .exit) ≡ roomMemory (labelOf (elementsAt (now (pack .entry)) (pointPlace (now (pack .entry)) k))) (now (out .entry))) ⌝ }
-{
-    let start = trailer_number(pack, PackTrailer::START);
-    let at = start + PackPoint::WIDTH * (k - 1);
-    let rows = &pack[..start];
-    print::print_label(rows, pack, spans_at(pack, rows, at), out)
-}
+use refusal::Answer;
+ghost use mathlib.Core.Path.{_≡_};
+ghost use Rattle.layout.specs.Points.{packAnswer, packMemory};
 
 // The label of point k, counted from 1, of any bytes: the pack is opened first.
 pub fn label_of_point<'a>(pack: &'a [u8], k: usize, out: &mut [u8]) -> Answer
     ensures { λ r. ⌜ (r ≡ packAnswer (now (pack .entry)) k (now (out .entry))) × (now (out .exit) ≡ packMemory (now (pack .entry)) k (now (out .entry))) ⌝ }
 {
     match open::open_pack(pack) {
-        Answer::Value(count) => {
-            let there = (1 <= k) & (k <= count);
-            if !there {
-                return Answer::Refused {
-                    file: 0,
-                    reason: Reason::NoSuchNumber,
-                };
-            }
-            point_label(pack, k, out)
-        }
+        Answer::Value(count) => inner::label_at(pack, count, k, out),
         Answer::Refused { file, reason } => Answer::Refused { file, reason },
     }
 }

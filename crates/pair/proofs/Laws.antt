@@ -17,7 +17,8 @@ use Rattle.refusal.specs.declared.Answer.{Answer}
 use Rattle.refusal.specs.declared.Answer.the-variants.{Value, Refused}
 use Rattle.files.specs.Check.{checked}
 use Rattle.files.specs.Formats.{tableFormat, pointFormat}
-use Rattle.files.proofs.Accepted.{Accepted, accepted, refused-value}
+use Rattle.files.proofs.Accepted.{Accepted, accepted}
+use Rattle.refusal.proofs.Answers.{refused-value}
 use Rattle.views.specs.Views.{wanted, wantedCount, wantedAt}
 use Rattle.views.proofs.Laws.{wanted-at-wanted, wanted-at-zero, wanted-at-none}
 use Rattle.address.specs.Address.{Elements}

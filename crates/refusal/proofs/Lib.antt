@@ -1,1 +1,2 @@
 pub mod Lossless
+pub mod Answers

@@ -87,7 +87,7 @@ pub fn second_of(reason: Reason) -> usize
 }
 
 // The four parts of a refusal in their bits of one word.
-fn word_of(number: usize, file: usize, second: usize, detail: usize) -> usize
+pub fn word_of(number: usize, file: usize, second: usize, detail: usize) -> usize
     ensures { λ r. ⌜ r ≡ word number file second detail ⌝ }
 {
     let high = number % 256 * 72057594037927936 + file % 16 * 4503599627370496;

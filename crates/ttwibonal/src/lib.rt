@@ -9,6 +9,9 @@ ghost use Rattle.layout.specs.Opening.{opened};
 ghost use Rattle.layout.specs.Points.{packAnswer, packMemory};
 ghost use Rattle.build.specs.Build.{buildAnswer, buildMemory};
 ghost use Rattle.listing.specs.Listing.{viewsAnswer, letterAnswer, liveAnswer};
+ghost use Rattle.series.specs.Packed.{packedSeries, seriesBytes};
+ghost use Rattle.runs.specs.Runs.{viewSeries, viewsMemory, codeSeries, codesMemory};
+ghost use Rattle.pack_runs.specs.Runs.{packSeries, packsMemory};
 
 // How many records a table file has.
 #[no_mangle]
@@ -94,4 +97,55 @@ pub extern "C" fn ttw_pack_label<'a>(pack: &'a [u8], k: u64, out: &mut [u8]) -> 
     ensures { λ r. ⌜ (r ≡ packed (packAnswer (now (pack .entry)) k (now (out .entry)))) × (now (out .exit) ≡ packMemory (now (pack .entry)) k (now (out .entry))) ⌝ }
 {
     refusal::packed_answer(pack::label_of_point(pack, k as usize, out)) as u64
+}
+
+// So many labels from a view on, one behind the other in `out`, and their bytes in `bytes`.
+#[no_mangle]
+pub extern "C" fn ttw_labels<'a>(
+    table: &'a [u8],
+    points: &'a [u8],
+    first: u64,
+    count: u64,
+    out: &mut [u8],
+    bytes: &mut u64,
+) -> u64
+    ensures { λ r. ⌜ (r ≡ packedSeries (viewSeries (now (table .entry)) (now (points .entry)) first count (now (out .entry)))) × ((now (out .exit) ≡ viewsMemory (now (table .entry)) (now (points .entry)) first count (now (out .entry))) × (now (bytes .exit) ≡ seriesBytes (viewSeries (now (table .entry)) (now (points .entry)) first count (now (out .entry))) (now (bytes .entry)))) ⌝ }
+{
+    let run = runs::labels_of_views(table, points, first as usize, count as usize, out);
+    *bytes = series::bytes_of(run, *bytes as usize) as u64;
+    series::packed_series(run) as u64
+}
+
+// The same from the k-th live view of a code on.
+#[no_mangle]
+pub extern "C" fn ttw_code_labels<'a>(
+    table: &'a [u8],
+    points: &'a [u8],
+    code: &[u8],
+    first: u64,
+    count: u64,
+    out: &mut [u8],
+    bytes: &mut u64,
+) -> u64
+    ensures { λ r. ⌜ (r ≡ packedSeries (codeSeries (now (table .entry)) (now (points .entry)) (now (code .entry)) first count (now (out .entry)))) × ((now (out .exit) ≡ codesMemory (now (table .entry)) (now (points .entry)) (now (code .entry)) first count (now (out .entry))) × (now (bytes .exit) ≡ seriesBytes (codeSeries (now (table .entry)) (now (points .entry)) (now (code .entry)) first count (now (out .entry))) (now (bytes .entry)))) ⌝ }
+{
+    let run = runs::labels_in_code(table, points, code, first as usize, count as usize, out);
+    *bytes = series::bytes_of(run, *bytes as usize) as u64;
+    series::packed_series(run) as u64
+}
+
+// The same from point k of a pack on.
+#[no_mangle]
+pub extern "C" fn ttw_pack_labels<'a>(
+    pack: &'a [u8],
+    first: u64,
+    count: u64,
+    out: &mut [u8],
+    bytes: &mut u64,
+) -> u64
+    ensures { λ r. ⌜ (r ≡ packedSeries (packSeries (now (pack .entry)) first count (now (out .entry)))) × ((now (out .exit) ≡ packsMemory (now (pack .entry)) first count (now (out .entry))) × (now (bytes .exit) ≡ seriesBytes (packSeries (now (pack .entry)) first count (now (out .entry))) (now (bytes .entry)))) ⌝ }
+{
+    let run = pack_runs::labels_of_points(pack, first as usize, count as usize, out);
+    *bytes = series::bytes_of(run, *bytes as usize) as u64;
+    series::packed_series(run) as u64
 }

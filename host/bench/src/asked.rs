@@ -2,7 +2,8 @@
 
 use crate::input::Input;
 
-/// A call on an input; `room` is a buffer that holds the input's pack.
+/// A call on an input; `room` is a buffer that holds the input's pack, and so
+/// the labels of a round.
 pub type Question = fn(&Input, room: &mut [u8]) -> u64;
 
 /// A call and the same call of the second program. Their answers have to be
@@ -25,7 +26,7 @@ const fn call(name: &'static str, library: Question, plain: Question) -> Call {
 }
 
 /// Every call that the header declares, in its order.
-pub const CALLS: [Call; 10] = [
+pub const CALLS: [Call; 13] = [
     Call {
         file: Some(|input| &input.pair.table),
         ..call("ttw_table", library::table, plain::table)
@@ -39,15 +40,19 @@ pub const CALLS: [Call; 10] = [
     call("ttw_live", library::live, plain::live),
     call("ttw_label", library::label, plain::label),
     call("ttw_code_label", library::code_label, plain::code_label),
+    call("ttw_labels", library::labels, plain::labels),
+    call("ttw_code_labels", library::code_labels, plain::code_labels),
     call("ttw_build", library::build, plain::build),
     call("ttw_pack", library::pack, plain::pack),
     call("ttw_pack_label", library::pack_label, plain::pack_label),
+    call("ttw_pack_labels", library::pack_labels, plain::pack_labels),
 ];
 
 /// The library's calls: letter and label of the last view, the label of the
-/// code's first live view, the pack of the code, the label of its last point.
+/// code's first live view, the pack of the code, the label of its last point;
+/// runs of the last views, of the code's first, and of the last points.
 mod library {
-    use crate::input::{Input, CODE, LABEL};
+    use crate::input::{Input, CODE, LABEL, ROUND};
     use ttw::calls;
 
     pub fn table(input: &Input, _: &mut [u8]) -> u64 {
@@ -80,6 +85,17 @@ mod library {
         calls::code_label(table, points, CODE, 1, &mut [0; LABEL])
     }
 
+    pub fn labels(input: &Input, room: &mut [u8]) -> u64 {
+        let (table, points) = (&input.pair.table, &input.pair.points);
+        let first = input.last_view - ROUND + 1;
+        calls::labels(table, points, first, ROUND, room, &mut 0)
+    }
+
+    pub fn code_labels(input: &Input, room: &mut [u8]) -> u64 {
+        let (table, points) = (&input.pair.table, &input.pair.points);
+        calls::code_labels(table, points, CODE, 1, ROUND, room, &mut 0)
+    }
+
     pub fn build(input: &Input, room: &mut [u8]) -> u64 {
         calls::build(&input.pair.table, &input.pair.points, CODE, room)
     }
@@ -91,11 +107,17 @@ mod library {
     pub fn pack_label(input: &Input, _: &mut [u8]) -> u64 {
         calls::pack_label(&input.pack, input.last_point, &mut [0; LABEL])
     }
+
+    pub fn pack_labels(input: &Input, room: &mut [u8]) -> u64 {
+        let first = input.last_point - ROUND + 1;
+        calls::pack_labels(&input.pack, first, ROUND, room, &mut 0)
+    }
 }
 
 /// The same calls of the second program.
 mod plain {
-    use crate::input::{Input, CODE, LABEL};
+    use crate::input::{Input, CODE, LABEL, ROUND};
+    use paper::packed_run;
 
     /// An answer as the one number that the library answers.
     fn answer(answer: Result<usize, paper::Refusal>) -> u64 {
@@ -137,6 +159,18 @@ mod plain {
         answer(paper::code_label(table, points, CODE, 1, &mut [0; LABEL]))
     }
 
+    pub fn labels(input: &Input, room: &mut [u8]) -> u64 {
+        let (table, points) = (&input.pair.table, &input.pair.points);
+        let first = input.last_view - ROUND + 1;
+        packed_run(paper::labels(table, points, first, ROUND, room), &mut 0)
+    }
+
+    pub fn code_labels(input: &Input, room: &mut [u8]) -> u64 {
+        let (table, points) = (&input.pair.table, &input.pair.points);
+        let run = paper::code_labels(table, points, CODE, 1, ROUND, room);
+        packed_run(run, &mut 0)
+    }
+
     pub fn build(input: &Input, room: &mut [u8]) -> u64 {
         let (table, points) = (&input.pair.table, &input.pair.points);
         answer(paper::build(table, points, CODE, room))
@@ -149,5 +183,10 @@ mod plain {
     pub fn pack_label(input: &Input, _: &mut [u8]) -> u64 {
         let k = input.last_point;
         answer(paper::pack_label(&input.pack, k, &mut [0; LABEL]))
+    }
+
+    pub fn pack_labels(input: &Input, room: &mut [u8]) -> u64 {
+        let first = input.last_point - ROUND + 1;
+        packed_run(paper::pack_labels(&input.pack, first, ROUND, room), &mut 0)
     }
 }

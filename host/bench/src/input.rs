@@ -9,6 +9,9 @@ pub const CODE: &[u8] = b"AB1 ";
 /// The bytes of a fresh label buffer.
 pub const LABEL: usize = 499;
 
+/// How many labels a run asks for: those of a practice round.
+pub const ROUND: u64 = 40;
+
 /// A pair of files, and the pack of its commonest code.
 pub struct Input {
     pub pair: Pair,

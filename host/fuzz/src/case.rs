@@ -3,7 +3,7 @@
 use crate::edge::{Edge, Flush};
 use crate::mutate;
 use paper::make::{self, Rng};
-use paper::{packed, Refusal};
+use paper::{packed, packed_run, Refusal, Run};
 use ttw::calls;
 
 /// What a case's calls were answered with: how often each refusal, 0 for a
@@ -18,6 +18,9 @@ pub struct Case {
     pub code: Vec<u8>,
     pub number: u64,
     pub room: usize,
+    /// How many labels a run asks for, and the room for them.
+    pub count: u64,
+    pub run_room: usize,
 }
 
 /// The case of that number.
@@ -42,6 +45,8 @@ pub fn make(seed: u64, number: u64) -> Case {
         code,
         number: number_of(&mut rng),
         room: rng.below(600),
+        count: number_of(&mut rng),
+        run_room: rng.below(2_000),
     }
 }
 
@@ -82,6 +87,7 @@ pub fn run(case: &Case, reached: &mut Reached) {
         let lent = Lent::new(case, flush);
         lent.ask_reading_calls(case, reached);
         lent.ask_labels(case, reached);
+        lent.ask_runs(case, reached);
         lent.ask_build(case, reached);
     }
 }
@@ -165,6 +171,31 @@ impl Lent {
         );
     }
 
+    /// The calls that print a run of labels.
+    fn ask_runs(&self, case: &Case, reached: &mut Reached) {
+        let (table, points) = (self.table.bytes(), self.points.bytes());
+        let (pack, code) = (self.pack.bytes(), self.code.bytes());
+        let (first, count) = (case.number, case.count);
+        let mut run = |call, ours: &Ours, plain: &PlainRun| {
+            run_written(call, self.flush, case.run_room, ours, plain, reached)
+        };
+        run(
+            "labels",
+            &|out, bytes| calls::labels(table, points, first, count, out, bytes),
+            &|out| paper::labels(&case.table, &case.points, first, count, out),
+        );
+        run(
+            "code labels",
+            &|out, bytes| calls::code_labels(table, points, code, first, count, out, bytes),
+            &|out| paper::code_labels(&case.table, &case.points, &case.code, first, count, out),
+        );
+        run(
+            "pack labels",
+            &|out, bytes| calls::pack_labels(pack, first, count, out, bytes),
+            &|out| paper::pack_labels(&case.pack, first, count, out),
+        );
+    }
+
     /// Building, with some room, with just enough, and with a byte less.
     fn ask_build(&self, case: &Case, reached: &mut Reached) {
         let (table, points) = (self.table.bytes(), self.points.bytes());
@@ -194,15 +225,51 @@ fn written(
     plain: &Plain,
     reached: &mut Reached,
 ) -> u64 {
-    let fresh: Vec<u8> = (0..room).map(|i| (i * 7 + 1) as u8).collect();
-    let mut lent = Edge::writable(&fresh, flush);
-    let mut expected = fresh;
+    let mut expected = telling(room);
+    let mut lent = Edge::writable(&expected, flush);
     let answer = ours(lent.bytes_mut());
     let plain = plain(&mut expected).map(|value| value as u64);
     same(call, answer, plain, reached);
     assert!(lent.bytes() == expected, "{call}: the buffers differ");
     assert!(lent.is_clean_around(), "{call}: bytes beside the buffer");
     answer
+}
+
+/// A run of labels, by the library and by the second program.
+type Ours<'a> = dyn Fn(&mut [u8], &mut u64) -> u64 + 'a;
+type PlainRun<'a> = dyn Fn(&mut [u8]) -> Result<Run, Refusal> + 'a;
+
+/// The same for a run, which also tells how many bytes it wrote: that number
+/// lies at an edge too.
+fn run_written(
+    call: &str,
+    flush: Flush,
+    room: usize,
+    ours: &Ours,
+    plain: &PlainRun,
+    reached: &mut Reached,
+) {
+    let (mut expected, mut expected_bytes) = (telling(room), u64::MAX);
+    let mut lent = Edge::writable(&expected, flush);
+    let mut bytes = Edge::writable(&expected_bytes.to_ne_bytes(), flush);
+    let answer = ours(lent.bytes_mut(), bytes.number_mut());
+    let plain = packed_run(plain(&mut expected), &mut expected_bytes);
+    assert!(
+        answer == plain,
+        "{call}: the library answers {answer:#x}, the second program {plain:#x}"
+    );
+    reached[(answer >> 56) as usize] += 1;
+    assert_eq!(*bytes.number_mut(), expected_bytes, "{call}: bytes told");
+    assert!(lent.bytes() == expected, "{call}: the buffers differ");
+    assert!(
+        lent.is_clean_around() && bytes.is_clean_around(),
+        "{call}: bytes beside what was lent"
+    );
+}
+
+/// So many bytes that tell where they stand.
+fn telling(room: usize) -> Vec<u8> {
+    (0..room).map(|i| (i * 7 + 1) as u8).collect()
 }
 
 fn same(call: &str, answer: u64, plain: Result<u64, Refusal>, reached: &mut Reached) {

@@ -99,6 +99,13 @@ impl Edge {
         unsafe { slice::from_raw_parts_mut(self.mapping.add(self.start), self.length) }
     }
 
+    /// The lent bytes of a writable edge, 8 of them, as one number.
+    pub fn number_mut(&mut self) -> &mut u64 {
+        assert_eq!(self.length, 8, "the bytes of a number");
+        // SAFETY: as above; both ends of a page are aligned for a number.
+        unsafe { &mut *self.mapping.add(self.start).cast() }
+    }
+
     fn inner_mut(&mut self) -> &mut [u8] {
         // SAFETY: as above, for all the pages between the forbidden ones.
         unsafe { slice::from_raw_parts_mut(self.mapping.add(PAGE), self.mapped - 2 * PAGE) }

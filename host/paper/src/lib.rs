@@ -16,6 +16,7 @@
 //! | `address` | What views and points have in common; rule 8 |
 //! | `label` | The label |
 //! | `pair` | Labels asked of two files |
+//! | `runs` | Document 02, Print a street at a time |
 //! | `pack`, `build` | The pack; Pack check |
 //! | `report` | One run, complete |
 //! | [`make`] | Test data: files, damaged files, packs, codes, the guide's examples |
@@ -50,6 +51,7 @@
 //! | Is a double dependent locality alone, or a blank in front, also step 2 in a row no point uses? | yes | step 2 is about all rows |
 //! | Sums in step 1? | without wrapping at 32 bits | they are numbers |
 //! | When is a file longer than 300 records? | when it has more than 300 x 169 or 168 bytes | also if it isn't whole records |
+//! | A run of no labels, or from number 0? | no label is asked for, so none is refused; 7 before the first, if there is to be one | "equal to asking for each in turn" |
 //! | Table file refused, point file too long, or both long? | the table file's one line | "the table file first" |
 //!
 //! The makers and tests date the views of document 01's run themselves, since
@@ -67,6 +69,7 @@ pub mod pair;
 mod records;
 pub mod refusal;
 pub mod report;
+pub mod runs;
 
 pub use build::build;
 pub use files::{check_points, check_table, letter, live, point_fault, table_fault, views};
@@ -75,3 +78,4 @@ pub use pack::{open, pack_label};
 pub use pair::{code_label, label, label_of};
 pub use refusal::{packed, Refusal};
 pub use report::report;
+pub use runs::{code_labels, labels, pack_labels, packed_run, Run};

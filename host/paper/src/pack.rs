@@ -25,7 +25,12 @@ pub fn open(pack: &[u8]) -> Result<usize, Refusal> {
 /// refusals are 11, 7, 10, in this order.
 pub fn pack_label(pack: &[u8], k: u64, out: &mut [u8]) -> Result<usize, Refusal> {
     let point = Pack::accept(pack)?.point(k)?;
-    lend(&label_bytes(&point.elements()), out)
+    lend(&point.label(), out)
+}
+
+/// The points of a pack, in order.
+pub(crate) fn points(pack: &[u8]) -> Result<impl Iterator<Item = Point<'_>>, Refusal> {
+    Ok(Pack::accept(pack)?.all_points())
 }
 
 /// The number that these bytes show.
@@ -156,7 +161,7 @@ fn is_sound_text(text: &[u8], rule: &TextRule) -> bool {
 }
 
 /// A point of a pack that has passed step 1.
-struct Point<'a> {
+pub(crate) struct Point<'a> {
     pack: Pack<'a>,
     bytes: &'a [u8],
 }
@@ -243,6 +248,11 @@ impl<'a> Point<'a> {
             at += 1 + texts[index].len();
         }
         texts
+    }
+
+    /// The label of a point of an accepted pack.
+    pub fn label(&self) -> Vec<u8> {
+        label_bytes(&self.elements())
     }
 
     /// What the label of a point is printed from.

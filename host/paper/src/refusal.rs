@@ -9,7 +9,8 @@ pub struct Refusal {
     /// The file to blame: 1 the table file, 2 the point file, 0 neither.
     pub file: u8,
     /// The byte of the record where 4 is given, the view number where building
-    /// gives 8 or 9, otherwise 0.
+    /// gives 8 or 9, how many labels stand before where a run of labels stops,
+    /// otherwise 0.
     pub second: u64,
     /// The detail of document 01's table.
     pub detail: u64,

@@ -3,7 +3,8 @@
 
 use paper::make::{exact_pair, Rng};
 use paper::{
-    build, check_points, check_table, code_label, label_of, live, open, pack_label, views,
+    build, check_points, check_table, code_label, code_labels, label_of, labels, live, open,
+    pack_label, pack_labels, views,
 };
 use std::time::{Duration, Instant};
 
@@ -43,4 +44,27 @@ fn the_largest_files_take_milliseconds() {
     let mut packed = [0; 499];
     assert!(timed("pack label", || pack_label(pack, k, &mut packed)).is_ok());
     assert_eq!(packed, out);
+}
+
+#[test]
+fn a_run_over_the_largest_files_takes_milliseconds() {
+    let pair = exact_pair(&mut Rng::new(8), 20_000, 20_000);
+    let (table, points) = (&pair.table, &pair.points);
+    let all = pair.views.len() as u64;
+    let mut out = vec![0; 499 * pair.views.len()];
+    let run = timed("labels", || labels(table, points, 1, all, &mut out)).expect("accepted");
+    assert_eq!((run.labels, run.stop), (all, None));
+    let code = b"AB1 ";
+    let most = u64::MAX;
+    let from_files = timed("code labels", || {
+        code_labels(table, points, code, 1, most, &mut out)
+    });
+    let mut pack = vec![0; 10_000_000];
+    let length = build(table, points, code, &mut pack).expect("a pack");
+    let pack = &pack[..length];
+    let mut packed = vec![0; out.len()];
+    let from_pack = timed("pack labels", || pack_labels(pack, 1, most, &mut packed));
+    assert_eq!(from_pack, from_files);
+    let bytes = from_pack.expect("accepted").bytes;
+    assert!(bytes > 100_000 && packed[..bytes] == out[..bytes]);
 }

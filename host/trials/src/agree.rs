@@ -135,7 +135,7 @@ pub fn built_label(pair: &Pair, code: &[u8], pack: &[u8], k: u64, room: usize) -
 const CANARIES: usize = 24;
 
 /// A buffer of so many telling bytes, and canaries behind it.
-fn telling(room: usize) -> Vec<u8> {
+pub(crate) fn telling(room: usize) -> Vec<u8> {
     (0..room + CANARIES).map(|i| (i * 7 + 1) as u8).collect()
 }
 
@@ -157,7 +157,7 @@ fn printed(
 
 /// Makes a call that only reads these bytes, and fails where it wrote.
 #[track_caller]
-fn lent(bytes: &[u8], call: impl FnOnce(&[u8]) -> u64) -> u64 {
+pub(crate) fn lent(bytes: &[u8], call: impl FnOnce(&[u8]) -> u64) -> u64 {
     let before = bytes.to_vec();
     let answer = call(bytes);
     assert!(

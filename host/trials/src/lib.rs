@@ -5,4 +5,5 @@ pub mod annotated;
 pub mod leaves;
 pub mod packs;
 pub mod rooms;
+pub mod runs;
 pub mod samples;

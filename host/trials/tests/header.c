@@ -61,6 +61,37 @@ static void say_label(const char *what, const uint8_t *label, uint64_t answer)
         fwrite(label, 1, (size_t)TTW_VALUE(answer), stdout);
 }
 
+static void say_run(const char *what, const uint8_t *labels, uint64_t answer, uint64_t bytes)
+{
+    say(what, answer);
+    printf("%" PRIu64 " bytes\n", bytes);
+    fwrite(labels, 1, (size_t)bytes, stdout);
+}
+
+/* Runs of labels that come to their end, that stop, and that are refused as a whole. */
+static void say_runs(const uint8_t *table, size_t table_length, const uint8_t *points, size_t points_length,
+                     const uint8_t *pack, size_t pack_length)
+{
+    const uint8_t code[4] = {'A', 'B', '1', ' '};
+    uint8_t labels[2 * 499];
+    uint64_t bytes = 0;
+    uint64_t answer;
+
+    answer = ttw_labels(table, table_length, points, points_length, 1, 2, labels, sizeof labels, &bytes);
+    say_run("labels from 1, 2 of them", labels, answer, bytes);
+    answer = ttw_code_labels(table, table_length, points, points_length, code, sizeof code, 1, 1, labels, sizeof labels,
+                             &bytes);
+    say_run("labels from 1 in AB1, 1 of them", labels, answer, bytes);
+    answer = ttw_pack_labels(pack, pack_length, 1, 40, labels, sizeof labels, &bytes);
+    say_run("points from 1, 40 of them", labels, answer, bytes);
+    answer = ttw_pack_labels(pack, pack_length, 1, 40, labels, 51, &bytes);
+    say_run("points from 1 without room", labels, answer, bytes);
+    bytes = 7;
+    say("labels from 1 in no code",
+        ttw_code_labels(table, table_length, points, points_length, code, 0, 1, 1, labels, sizeof labels, &bytes));
+    printf("%" PRIu64 " bytes are as they were\n", bytes);
+}
+
 /* A label from the files and from the pack that is built from them, with room and without. */
 static void say_labels(const uint8_t *table, size_t table_length, const uint8_t *points, size_t points_length)
 {
@@ -80,6 +111,7 @@ static void say_labels(const uint8_t *table, size_t table_length, const uint8_t 
     say_label("point 1", label, ttw_pack_label(pack, (size_t)TTW_VALUE(built), 1, label, sizeof label));
     say("point 1 without room", ttw_pack_label(pack, (size_t)TTW_VALUE(built), 1, label, 1));
     say("point 2", ttw_pack_label(pack, (size_t)TTW_VALUE(built), 2, label, sizeof label));
+    say_runs(table, table_length, points, points_length, pack, (size_t)TTW_VALUE(built));
     say("pack without its last byte", ttw_pack(pack, (size_t)TTW_VALUE(built) - 1));
 }
 

@@ -38,6 +38,28 @@ HARTWELL BAY
 AB1 9ZZ
 point 1 without room: refused 10, file 0, second 0, detail 52
 point 2: refused 7, file 0, second 0, detail 0
+labels from 1, 2 of them: refused 9, file 0, second 1, detail 6
+52 bytes
+ATTIC FLAT
+110-114 QUARRY LANE
+HARTWELL BAY
+AB1 9ZZ
+labels from 1 in AB1, 1 of them: 1
+52 bytes
+ATTIC FLAT
+110-114 QUARRY LANE
+HARTWELL BAY
+AB1 9ZZ
+points from 1, 40 of them: refused 7, file 0, second 1, detail 0
+52 bytes
+ATTIC FLAT
+110-114 QUARRY LANE
+HARTWELL BAY
+AB1 9ZZ
+points from 1 without room: refused 10, file 0, second 0, detail 52
+0 bytes
+labels from 1 in no code: refused 12, file 0, second 0, detail 0
+7 bytes are as they were
 pack without its last byte: refused 11, file 0, second 0, detail 1
 empty table: refused 1, file 1, second 0, detail 0
 table with another header: refused 2, file 1, second 0, detail 1

@@ -19,6 +19,7 @@ struct slice {
 
 static struct slice table, points, pack, room;
 static const uint8_t code[4] = {'A', 'B', '1', ' '};
+static uint64_t bytes;
 
 /* What runs on the measured stack. */
 static uint64_t none(void) { return 0; }
@@ -35,6 +36,15 @@ static uint64_t code_label_call(void)
 {
     return ttw_code_label(table.bytes, table.length, points.bytes, points.length, code, 4, 5, room.bytes, room.length);
 }
+static uint64_t labels_call(void)
+{
+    return ttw_labels(table.bytes, table.length, points.bytes, points.length, 5, 40, room.bytes, room.length, &bytes);
+}
+static uint64_t code_labels_call(void)
+{
+    return ttw_code_labels(table.bytes, table.length, points.bytes, points.length, code, 4, 5, 40, room.bytes,
+                           room.length, &bytes);
+}
 static uint64_t build_call(void)
 {
     return ttw_build(table.bytes, table.length, points.bytes, points.length, code, 4, room.bytes, room.length);
@@ -43,6 +53,10 @@ static uint64_t pack_call(void) { return ttw_pack(pack.bytes, pack.length); }
 static uint64_t pack_label_call(void)
 {
     return ttw_pack_label(pack.bytes, pack.length, 5, room.bytes, room.length);
+}
+static uint64_t pack_labels_call(void)
+{
+    return ttw_pack_labels(pack.bytes, pack.length, 5, 40, room.bytes, room.length, &bytes);
 }
 
 struct work {
@@ -120,8 +134,11 @@ int main(int argc, char **argv)
     measure("ttw_live", live_call);
     measure("ttw_label", label_call);
     measure("ttw_code_label", code_label_call);
+    measure("ttw_labels", labels_call);
+    measure("ttw_code_labels", code_labels_call);
     measure("ttw_build", build_call);
     measure("ttw_pack", pack_call);
     measure("ttw_pack_label", pack_label_call);
+    measure("ttw_pack_labels", pack_labels_call);
     return 0;
 }

@@ -7,7 +7,7 @@ use std::path::Path;
 use std::process::Command;
 
 /// What the header promises: less than so many bytes.
-const PROMISED: [(&str, u64); 10] = [
+const PROMISED: [(&str, u64); 13] = [
     ("ttw_table", 1_024),
     ("ttw_points", 1_024),
     ("ttw_views", 1_024),
@@ -15,9 +15,12 @@ const PROMISED: [(&str, u64); 10] = [
     ("ttw_live", 1_024),
     ("ttw_label", 4_096),
     ("ttw_code_label", 4_096),
+    ("ttw_labels", 4_096),
+    ("ttw_code_labels", 4_096),
     ("ttw_build", 192 << 10),
     ("ttw_pack", 80 << 10),
     ("ttw_pack_label", 80 << 10),
+    ("ttw_pack_labels", 80 << 10),
 ];
 
 /// What the C program prints about the largest pair and its pack.

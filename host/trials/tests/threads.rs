@@ -3,14 +3,21 @@
 
 use paper::make::{exact_pair, Rng};
 use std::thread;
-use ttw::ask::{self, Refusal};
+use ttw::ask::{self, Refusal, Run};
 
-/// What all ten calls answer about a pair, a pack and a number.
+/// What all thirteen calls answer about a pair, a pack and a number.
 #[derive(Debug, PartialEq, Eq)]
 struct Answers {
     counts: [Result<u64, Refusal>; 5],
     letter: Result<char, Refusal>,
     texts: [Result<Vec<u8>, Refusal>; 4],
+    runs: [(Result<Run, Refusal>, Vec<u8>); 3],
+}
+
+/// A run and the buffer that it leaves.
+fn run(ask: impl FnOnce(&mut [u8]) -> Result<Run, Refusal>) -> (Result<Run, Refusal>, Vec<u8>) {
+    let mut out = vec![0; 2_000];
+    (ask(&mut out), out)
 }
 
 fn answers(table: &[u8], points: &[u8], pack: &[u8], k: u64) -> Answers {
@@ -29,6 +36,11 @@ fn answers(table: &[u8], points: &[u8], pack: &[u8], k: u64) -> Answers {
             ask::code_label(table, points, code, k),
             ask::pack_label(pack, k),
             ask::build(table, points, code, 0),
+        ],
+        runs: [
+            run(|out| ask::labels(table, points, k, 40, out)),
+            run(|out| ask::code_labels(table, points, code, k, 40, out)),
+            run(|out| ask::pack_labels(pack, k, 40, out)),
         ],
     }
 }

@@ -36,6 +36,7 @@ pub struct Arguments {
     pub view: Option<u64>,
     pub code: Option<Code>,
     pub nth: Option<u64>,
+    pub count: Option<u64>,
     pub all: bool,
     pub out: Option<PathBuf>,
     pub help: bool,
@@ -108,6 +109,7 @@ fn set_value(arguments: &mut Arguments, name: &str, value: &OsStr) -> Result<(),
     match name {
         "--view" => once(&mut arguments.view, name, number(name, value)?),
         "--nth" => once(&mut arguments.nth, name, number(name, value)?),
+        "--count" => once(&mut arguments.count, name, number(name, value)?),
         "--code" => once(&mut arguments.code, name, Code::new(value.as_bytes())),
         _ => once(&mut arguments.out, name, PathBuf::from(value)),
     }

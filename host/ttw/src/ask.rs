@@ -3,11 +3,14 @@
 use crate::calls;
 
 /// The longest label.
-const LABEL: usize = 499;
+pub const LABEL: usize = 499;
 
-/// The refusal of a lent buffer that is too short; its detail is the bytes
-/// needed.
-const ROOM: u8 = 10;
+/// The refusal of a number that there is none of, the lowest of a label's own.
+const NO_SUCH: u8 = 7;
+
+/// The refusal of a lent buffer that is too short, the highest of a label's own;
+/// its detail is the bytes needed.
+pub const ROOM: u8 = 10;
 
 /// Why a call was refused.
 #[derive(Clone, Copy, Debug, PartialEq, Eq)]
@@ -17,10 +20,21 @@ pub struct Refusal {
     /// The file to blame: 1 the table file, 2 the point file, 0 no file.
     pub file: u8,
     /// The byte of a malformed record; the view, where building a pack is
-    /// refused because of one.
+    /// refused because of one; the labels before, where a run stops.
     pub second: u64,
     /// The record, rule, field, step or bytes needed, by the number.
     pub detail: u64,
+}
+
+/// How far a run of labels came.
+#[derive(Clone, Copy, Debug, PartialEq, Eq)]
+pub struct Run {
+    /// How many labels were written; of a run that stopped, the last 20 bits.
+    pub labels: u64,
+    /// How many bytes they take together.
+    pub bytes: usize,
+    /// The refusal of the label before which the run stopped.
+    pub stop: Option<Refusal>,
 }
 
 /// What an answer's number says, bit by bit as the header's macros do.
@@ -72,6 +86,29 @@ pub fn code_label(table: &[u8], points: &[u8], code: &[u8], k: u64) -> Result<Ve
     printed(|out| calls::code_label(table, points, code, k, out))
 }
 
+/// The labels of so many views from `first` on, one behind the other in `out`.
+pub fn labels(
+    table: &[u8],
+    points: &[u8],
+    first: u64,
+    count: u64,
+    out: &mut [u8],
+) -> Result<Run, Refusal> {
+    run(|bytes| calls::labels(table, points, first, count, out, bytes))
+}
+
+/// The same for the live views in a code.
+pub fn code_labels(
+    table: &[u8],
+    points: &[u8],
+    code: &[u8],
+    first: u64,
+    count: u64,
+    out: &mut [u8],
+) -> Result<Run, Refusal> {
+    run(|bytes| calls::code_labels(table, points, code, first, count, out, bytes))
+}
+
 /// The pack of a code. Its length is learnt from the refusal of a buffer that
 /// is too short, so that no bound has to be known here; `likely` spares that
 /// round where it is long enough.
@@ -99,6 +136,29 @@ pub fn pack(pack: &[u8]) -> Result<u64, Refusal> {
 /// The label of the k-th point of a pack.
 pub fn pack_label(pack: &[u8], k: u64) -> Result<Vec<u8>, Refusal> {
     printed(|out| calls::pack_label(pack, k, out))
+}
+
+/// The labels of so many points from `first` on, one behind the other in `out`.
+pub fn pack_labels(pack: &[u8], first: u64, count: u64, out: &mut [u8]) -> Result<Run, Refusal> {
+    run(|bytes| calls::pack_labels(pack, first, count, out, bytes))
+}
+
+/// What a run's answer says: a label's own refusal stops it, any other refuses
+/// the whole.
+fn run(call: impl FnOnce(&mut u64) -> u64) -> Result<Run, Refusal> {
+    let mut bytes = 0;
+    let (labels, stop) = match answer(call(&mut bytes)) {
+        Ok(labels) => (labels, None),
+        Err(why) if (NO_SUCH..=ROOM).contains(&why.number) => {
+            (why.second, Some(Refusal { second: 0, ..why }))
+        }
+        Err(why) => return Err(why),
+    };
+    Ok(Run {
+        labels,
+        bytes: bytes as usize,
+        stop,
+    })
 }
 
 /// The label that a call prints into a fresh buffer.

@@ -28,6 +28,30 @@ extern "C" {
         out: *mut u8,
         out_len: usize,
     ) -> u64;
+    fn ttw_labels(
+        table: *const u8,
+        table_len: usize,
+        points: *const u8,
+        points_len: usize,
+        first: u64,
+        count: u64,
+        out: *mut u8,
+        out_len: usize,
+        bytes: *mut u64,
+    ) -> u64;
+    fn ttw_code_labels(
+        table: *const u8,
+        table_len: usize,
+        points: *const u8,
+        points_len: usize,
+        code: *const u8,
+        code_len: usize,
+        first: u64,
+        count: u64,
+        out: *mut u8,
+        out_len: usize,
+        bytes: *mut u64,
+    ) -> u64;
     fn ttw_build(
         table: *const u8,
         table_len: usize,
@@ -45,6 +69,15 @@ extern "C" {
         k: u64,
         out: *mut u8,
         out_len: usize,
+    ) -> u64;
+    fn ttw_pack_labels(
+        pack: *const u8,
+        pack_len: usize,
+        first: u64,
+        count: u64,
+        out: *mut u8,
+        out_len: usize,
+        bytes: *mut u64,
     ) -> u64;
 }
 
@@ -113,6 +146,60 @@ pub fn code_label(table: &[u8], points: &[u8], code: &[u8], k: u64, out: &mut [u
     }
 }
 
+/// The labels of so many views from `first` on, printed into `out` one behind
+/// the other; `bytes` becomes the bytes that they take.
+pub fn labels(
+    table: &[u8],
+    points: &[u8],
+    first: u64,
+    count: u64,
+    out: &mut [u8],
+    bytes: &mut u64,
+) -> u64 {
+    // SAFETY: as above; `bytes` is a number of its own, lent for the call alone.
+    unsafe {
+        ttw_labels(
+            table.as_ptr(),
+            table.len(),
+            points.as_ptr(),
+            points.len(),
+            first,
+            count,
+            out.as_mut_ptr(),
+            out.len(),
+            bytes,
+        )
+    }
+}
+
+/// The same for the live views in a code.
+pub fn code_labels(
+    table: &[u8],
+    points: &[u8],
+    code: &[u8],
+    first: u64,
+    count: u64,
+    out: &mut [u8],
+    bytes: &mut u64,
+) -> u64 {
+    // SAFETY: as above.
+    unsafe {
+        ttw_code_labels(
+            table.as_ptr(),
+            table.len(),
+            points.as_ptr(),
+            points.len(),
+            code.as_ptr(),
+            code.len(),
+            first,
+            count,
+            out.as_mut_ptr(),
+            out.len(),
+            bytes,
+        )
+    }
+}
+
 /// The pack of an outward code, written into `out`.
 pub fn build(table: &[u8], points: &[u8], code: &[u8], out: &mut [u8]) -> u64 {
     // SAFETY: as above.
@@ -140,4 +227,21 @@ pub fn pack(pack: &[u8]) -> u64 {
 pub fn pack_label(pack: &[u8], k: u64, out: &mut [u8]) -> u64 {
     // SAFETY: as above.
     unsafe { ttw_pack_label(pack.as_ptr(), pack.len(), k, out.as_mut_ptr(), out.len()) }
+}
+
+/// The labels of so many points from `first` on, printed into `out` one behind
+/// the other; `bytes` becomes the bytes that they take.
+pub fn pack_labels(pack: &[u8], first: u64, count: u64, out: &mut [u8], bytes: &mut u64) -> u64 {
+    // SAFETY: as above.
+    unsafe {
+        ttw_pack_labels(
+            pack.as_ptr(),
+            pack.len(),
+            first,
+            count,
+            out.as_mut_ptr(),
+            out.len(),
+            bytes,
+        )
+    }
 }

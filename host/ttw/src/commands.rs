@@ -9,8 +9,11 @@ use crate::stop::{tell, Ended, Outcome, Stop};
 use std::io::{self, BufWriter, StdoutLock, Write};
 use std::path::Path;
 use std::slice;
-use ttw::ask::{self, Refusal};
+use ttw::ask::{self, Refusal, Run, LABEL, ROOM};
 use ttw::words::words;
+
+/// How many labels a run has room for at a time.
+const AT_A_TIME: u64 = 512;
 
 /// Room that most packs fit into.
 const LIKELY_PACK: usize = 1 << 16;
@@ -59,7 +62,7 @@ fn live_codes(pair: &Pair) -> Result<Vec<(Code, u64)>, Stop> {
     Ok(codes)
 }
 
-/// `ttw labels`: one label, those of a code, or all.
+/// `ttw labels`: one label, a run of them, those of a code, or all.
 pub fn labels(given: &Arguments) -> Outcome {
     let (view, code, nth) = (given.view, given.code.as_ref(), given.nth);
     if view.is_some() && (code.is_some() || nth.is_some()) {
@@ -69,15 +72,39 @@ pub fn labels(given: &Arguments) -> Outcome {
     if nth.is_some() && code.is_none() {
         return Err(Stop::could_not("--nth needs --code".to_string()));
     }
-    let Pair { table, points } = &Pair::read_accepted(&given.files)?;
+    if given.count.is_some() && view.is_none() && nth.is_none() {
+        let words = "--count needs --view or --nth, to count from";
+        return Err(Stop::could_not(words.to_string()));
+    }
+    let pair = Pair::read_accepted(&given.files)?;
     match (view, code, nth) {
-        (Some(view), _, _) => print_one(&format!("view {view}"), ask::label(table, points, view)),
-        (None, Some(code), Some(k)) => print_one(
-            &format!("{} number {k}", code.name()),
-            ask::code_label(table, points, &code.padded, k),
-        ),
-        (None, Some(code), None) => labels_of_code(table, points, code),
-        (None, None, _) => labels_of_all(table, points),
+        (Some(view), _, _) => labels_from_view(&pair, view, given.count),
+        (None, Some(code), Some(k)) => labels_from_nth(&pair, code, k, given.count),
+        (None, Some(code), None) => labels_of_code(&pair.table, &pair.points, code),
+        (None, None, _) => labels_of_all(&pair.table, &pair.points),
+    }
+}
+
+/// The label of a view, or of so many from it on.
+fn labels_from_view(Pair { table, points }: &Pair, view: u64, count: Option<u64>) -> Outcome {
+    let name = |view| format!("view {view}");
+    match count {
+        None => print_one(&name(view), ask::label(table, points, view)),
+        Some(count) => print_run(view, count, name, |first, count, out| {
+            ask::labels(table, points, first, count, out)
+        }),
+    }
+}
+
+/// The same for the live views of a code.
+fn labels_from_nth(pair: &Pair, code: &Code, k: u64, count: Option<u64>) -> Outcome {
+    let Pair { table, points } = pair;
+    let name = |k| format!("{} number {k}", code.name());
+    match count {
+        None => print_one(&name(k), ask::code_label(table, points, &code.padded, k)),
+        Some(count) => print_run(k, count, name, |first, count, out| {
+            ask::code_labels(table, points, &code.padded, first, count, out)
+        }),
     }
 }
 
@@ -88,6 +115,34 @@ fn print_one(subject: &str, label: Result<Vec<u8>, Refusal>) -> Outcome {
     out.write_all(&label)?;
     out.flush()?;
     Ok(Ended::Done)
+}
+
+/// So many labels one behind the other, as the library writes them: where the
+/// room is full, the next are asked for in the same room again. A refused label
+/// ends them.
+fn print_run(
+    first: u64,
+    count: u64,
+    name: impl Fn(u64) -> String,
+    ask: impl Fn(u64, u64, &mut [u8]) -> Result<Run, Refusal>,
+) -> Outcome {
+    let mut room = vec![0; LABEL * count.clamp(1, AT_A_TIME) as usize];
+    let mut out = output();
+    let (mut next, mut left) = (first, count);
+    let mut stop = None;
+    while left > 0 && stop.is_none() {
+        let run = ask(next, left, &mut room);
+        let run = run.map_err(|why| Stop::Refused(words(&why, &name(next))))?;
+        out.write_all(&room[..run.bytes])?;
+        next = next.saturating_add(run.labels);
+        left -= run.labels;
+        stop = run.stop.filter(|why| why.number != ROOM);
+    }
+    out.flush()?;
+    match stop {
+        None => Ok(Ended::Done),
+        Some(why) => Err(Stop::Refused(words(&why, &name(next)))),
+    }
 }
 
 fn labels_of_code(table: &[u8], points: &[u8], code: &Code) -> Outcome {
@@ -205,11 +260,19 @@ fn cut(pair: &Pair, codes: &[Code], folder: &Path) -> Outcome {
 
 /// `ttw show`: the labels of a pack.
 pub fn show(given: &Arguments) -> Outcome {
+    if given.count.is_some() && given.nth.is_none() {
+        let words = "--count needs --nth, to count from";
+        return Err(Stop::could_not(words.to_string()));
+    }
     let pack = read_pack(&given.files[0])?;
     let points = ask::pack(&pack).map_err(|why| Stop::Refused(words(&why, "pack")))?;
-    match given.nth {
-        Some(k) => print_one(&format!("point {k}"), ask::pack_label(&pack, k)),
-        None => list(points, |k| Entry {
+    let name = |k| format!("point {k}");
+    match (given.nth, given.count) {
+        (Some(k), None) => print_one(&name(k), ask::pack_label(&pack, k)),
+        (Some(k), Some(count)) => print_run(k, count, name, |first, count, out| {
+            ask::pack_labels(&pack, first, count, out)
+        }),
+        (None, _) => list(points, |k| Entry {
             heading: format!("point {k}"),
             subject: format!("point {k}"),
             label: ask::pack_label(&pack, k),

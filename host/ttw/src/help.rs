@@ -6,9 +6,9 @@ ttw prints labels from Royal Mail's Changes files and cuts packs for handsets.
 
   ttw check  CHANGES1 CHANGES2                     are both files accepted?
   ttw codes  CHANGES1 CHANGES2                     outward codes with live views
-  ttw labels CHANGES1 CHANGES2 [--view N | --code AB1 [--nth K]]
+  ttw labels CHANGES1 CHANGES2 [--view N | --code AB1 [--nth K]] [--count N]
   ttw pack   CHANGES1 CHANGES2 (--code AB1 | --all) --out FOLDER
-  ttw show   PACK [--nth K]                        the labels of a pack
+  ttw show   PACK [--nth K [--count N]]            the labels of a pack
 
   ttw help TOPIC      a command, or: files, refusals, status
   ttw --version
@@ -36,7 +36,7 @@ live if its amendment letter is I or C.
 ";
 
 pub const LABELS: &str = "\
-ttw labels CHANGES1 CHANGES2 [--view N | --code AB1 [--nth K]]
+ttw labels CHANGES1 CHANGES2 [--view N | --code AB1 [--nth K]] [--count N]
 
 Prints labels. Without options those of all views, each under its number and
 amendment letter; with --code those of the live views in that code.
@@ -44,9 +44,11 @@ amendment letter; with --code those of the live views in that code.
   --view N     the label of view N alone
   --code AB1   the live views of an outward code
   --nth K      with --code: the label of the K-th of them alone
+  --count N    with --view or --nth: so many labels from there on
 
-A single label is printed as it stands, ready to be sent on. In a list a
-refused label says why in its place, and the list goes on.
+A single label, and so many with --count, are printed as they stand, one behind
+the other, ready to be sent on; a refused label ends them. In a list a refused
+label says why in its place, and the list goes on.
 ";
 
 pub const PACK: &str = "\
@@ -63,11 +65,12 @@ disk or a kill leaves an older pack as it was. After a kill a file such as
 ";
 
 pub const SHOW: &str = "\
-ttw show PACK [--nth K]
+ttw show PACK [--nth K [--count N]]
 
 Checks a pack and prints the labels of its points, numbered from 1.
 
   --nth K      the label of point K alone
+  --count N    with --nth: so many labels from there on, one behind the other
 ";
 
 const FILES: &str = "\

@@ -43,7 +43,7 @@ const COMMANDS: [Command; 5] = [
     Command {
         name: "labels",
         files: 2,
-        options: &["--view", "--code", "--nth"],
+        options: &["--view", "--code", "--nth", "--count"],
         help: help::LABELS,
         run: commands::labels,
     },
@@ -57,7 +57,7 @@ const COMMANDS: [Command; 5] = [
     Command {
         name: "show",
         files: 1,
-        options: &["--nth"],
+        options: &["--nth", "--count"],
         help: help::SHOW,
         run: commands::show,
     },

@@ -3,7 +3,7 @@
 
 mod support;
 
-use paper::make::{exact_pair, pair, worked_pair, Pair, Rng, View};
+use paper::make::{exact_pair, pair, worked_pair, Pair, Rng, TableRow, View};
 use support::Folder;
 
 /// The second program's pack.
@@ -109,6 +109,67 @@ fn every_label_of_random_pairs_is_the_second_programs() {
         assert_eq!(lines.next(), None);
     }
     assert!(refused > 0);
+}
+
+/// A pair of so many views, of which the last is refused with 9.
+fn pair_with_a_refused_view(views: u32) -> Pair {
+    let rows = vec![TableRow::locality(1, "HARTWELL BAY", "", "")];
+    let views = (1..=views)
+        .map(|n| View {
+            address_key: n,
+            locality: 1,
+            building: if n == views { 7 } else { 0 },
+            ..View::default()
+        })
+        .collect();
+    Pair::new(rows, views)
+}
+
+/// So many labels from a view on, one behind the other.
+fn plain_run(pair: &Pair, first: u64, count: u64) -> String {
+    let mut out = vec![0; 499 * count as usize];
+    let run = paper::labels(&pair.table, &pair.points, first, count, &mut out);
+    out.truncate(run.expect("accepted files").bytes);
+    String::from_utf8(out).expect("text")
+}
+
+#[test]
+fn runs_are_the_labels_in_turn() {
+    let Pair {
+        rows, mut views, ..
+    } = pair_with_a_refused_view(100);
+    views.pop();
+    let pair = Pair::new(rows, views);
+    let folder = Folder::with_pair(&pair);
+    folder.put("a.pack", &plain_pack(&pair, b"AB1 "));
+    let files = ["labels", "changes1", "changes2"];
+    let by_view = folder.ttw(&[&files[..], &["--view", "3", "--count", "40"]].concat());
+    by_view.prints(&plain_run(&pair, 3, 40));
+    let by_code = ["--code", "AB1", "--nth", "3", "--count", "40"];
+    let by_code = folder.ttw(&[&files[..], &by_code].concat());
+    by_code.prints(&plain_run(&pair, 3, 40));
+    let of_pack = folder.ttw(&["show", "a.pack", "--nth", "3", "--count", "40"]);
+    of_pack.prints(&plain_run(&pair, 3, 40));
+    let of_none = folder.ttw(&["show", "a.pack", "--nth", "3", "--count", "0"]);
+    of_none.prints("");
+}
+
+#[test]
+fn a_run_longer_than_its_room_goes_on_and_ends_at_a_refused_label() {
+    let views = 18_000;
+    let pair = pair_with_a_refused_view(views);
+    let folder = Folder::with_pair(&pair);
+    let files = ["labels", "changes1", "changes2", "--view"];
+    let many = folder.ttw(&[&files[..], &["1", "--count", "1000000"]].concat());
+    let expected = plain_run(&pair, 1, u64::from(views));
+    assert!(expected.len() > 499 * 512, "{}", expected.len());
+    assert!(many.out == expected);
+    let told =
+        "view 18000: the building name's key has no row in the table file (refusal 9, field 6)\n";
+    assert_eq!((many.status, many.told.as_str()), (Some(1), told));
+    let behind = folder.ttw(&[&files[..], &["18001", "--count", "2"]].concat());
+    assert_eq!((behind.status, behind.out.as_str()), (Some(1), ""));
+    assert!(behind.told.contains("(refusal 7)"), "{}", behind.told);
 }
 
 #[test]

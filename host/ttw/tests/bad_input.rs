@@ -239,7 +239,7 @@ fn damaged_packs_name_the_step() {
 }
 
 /// Wrong usage, and what is told about it.
-const MISUSES: [(&[&str], &str); 16] = [
+const MISUSES: [(&[&str], &str); 18] = [
     (&[], "no command is given; see: ttw help"),
     (&["chekc"], "there is no command \"chekc\"; see: ttw help"),
     (&["help", "me"], "there is no help on \"me\"; see: ttw help"),
@@ -256,6 +256,14 @@ const MISUSES: [(&[&str], &str); 16] = [
         "there is no option --all here",
     ),
     (&["labels", "a", "b", "--nth", "1"], "--nth needs --code"),
+    (
+        &["labels", "a", "b", "--count", "3"],
+        "--count needs --view or --nth, to count from",
+    ),
+    (
+        &["show", "a", "--count", "3"],
+        "--count needs --nth, to count from",
+    ),
     (&["labels", "a", "b", "--view"], "--view needs a value"),
     (
         &["labels", "a", "b", "--view", "x"],

@@ -3,10 +3,11 @@
 
 mod support;
 
-use paper::make::{damaged_packs, worked_pair};
+use paper::make::{damaged_packs, exact_pair, worked_pair, Rng};
 use std::path::{Path, PathBuf};
 use std::process::Command;
 use support::{is_emulated, is_installed, root, run, Folder, Run};
+use ttw::ask;
 
 const LABEL: &str = "ATTIC FLAT\n110-114 QUARRY LANE\nHARTWELL BAY\nAB1 9ZZ\n";
 
@@ -43,9 +44,22 @@ fn packs() -> Folder {
 }
 
 /// What the program is asked, its exit status and what it prints.
-const ASKED: [(&[&str], i32, &str); 8] = [
+const ASKED: [(&[&str], i32, &str); 12] = [
     (&["AB1.pack"], 0, "points: 1\n"),
     (&["AB1.pack", "1"], 0, LABEL),
+    (&["AB1.pack", "1", "1"], 0, LABEL),
+    (&["AB1.pack", "1", "0"], 0, ""),
+    (
+        &["AB1.pack", "1", "40"],
+        1,
+        "ATTIC FLAT\n110-114 QUARRY LANE\nHARTWELL BAY\nAB1 9ZZ\n\
+         This pack has no point of that number.\n",
+    ),
+    (
+        &["damaged2.pack", "1", "40"],
+        1,
+        "This pack is damaged: its rows. Load it again.\n",
+    ),
     (
         &["AB1.pack", "0"],
         1,
@@ -102,12 +116,36 @@ fn the_example_prints_labels_and_says_refusals() {
         2,
         "handset: cannot load none.pack: No such file or directory",
     );
-    for arguments in [&[][..], &["AB1.pack", "x"], &["AB1.pack", "1", "2"]] {
+    let misuses: [&[&str]; 4] = [
+        &[],
+        &["AB1.pack", "x"],
+        &["AB1.pack", "1", "x"],
+        &["AB1.pack", "1", "2", "3"],
+    ];
+    for arguments in misuses {
         let misused = run(Command::new(&program)
             .args(arguments)
             .current_dir(&folder.0));
-        misused.only_tells(2, "usage: handset PACK [NUMBER]");
+        misused.only_tells(2, "usage: handset PACK [NUMBER [COUNT]]");
     }
+}
+
+/// More labels than the example has room for at a time.
+#[test]
+fn the_example_prints_many_labels() {
+    let pair = exact_pair(&mut Rng::new(65), 2_000, 2_000);
+    let pack = ask::build(&pair.table, &pair.points, b"AB1 ", 0).expect("a pack");
+    let points = ask::pack(&pack).expect("it opens");
+    let label = |k| ask::pack_label(&pack, k).expect("a label");
+    let labels: Vec<u8> = (2..=points).flat_map(label).collect();
+    assert!(labels.len() > 40 * 499, "{}", labels.len());
+    let folder = Folder::new();
+    folder.put("long.pack", &pack);
+    let count = (points - 1).to_string();
+    let printed = run(Command::new(compiled(&folder))
+        .args(["long.pack", "2", &count])
+        .current_dir(&folder.0));
+    printed.prints(&String::from_utf8_lossy(&labels));
 }
 
 fn under_valgrind(program: &Path) -> Command {

@@ -1,4 +1,4 @@
--- `pack::point_label` meets its contract. Assumes nothing.
+-- `pack::inner::point_label` meets its contract. Assumes nothing.
 use borrow.Author.Needs.{needs}
 use mathlib.Core.Path.{sym, ap, _∙_}
 use native.Mathlib.Omega.{arith}
@@ -6,8 +6,8 @@ use Prim.Native.Nat.{_+_, _-_, _*_, _≤_}
 use lib.ListN.{take, length}
 use Rattle.layout.specs.Points.{elementsAt}
 use lib.Seq.{length-take-le}
-use Rattle.pack.proofs.point_label.Statement.{statement}
-use Rattle.pack.proofs.point_label.Tie as tie
+use Rattle.pack.proofs.inner.point_label.Statement.{statement}
+use Rattle.pack.proofs.inner.point_label.Tie as tie
 
 -- the rows end within the pack
 within : (c : tie.After-trailer-number)

@@ -1,0 +1,133 @@
+//! Runs of labels: the library asked beside the second program, and beside its own calls for each label in turn. Answer,
+//! buffer and bytes told have to be the same three times.
+
+use crate::agree::{lent, telling};
+use crate::rooms::refusal;
+use paper::{packed_run, Refusal, Run};
+use std::hint::black_box;
+use ttw::calls;
+
+/// Labels from number `first` on, so many, in a buffer of so many bytes.
+#[derive(Clone, Copy, Debug)]
+pub struct Asked {
+    pub first: u64,
+    pub count: u64,
+    pub room: usize,
+}
+
+impl Asked {
+    pub fn new(first: u64, count: u64, room: usize) -> Asked {
+        Asked { first, count, room }
+    }
+}
+
+/// A run over the views of a pair: its answer.
+#[track_caller]
+pub fn labels(table: &[u8], points: &[u8], asked: Asked) -> u64 {
+    let Asked { first, count, .. } = asked;
+    let library = |out: &mut [u8], bytes: &mut u64| {
+        lent(table, |table| {
+            lent(points, |points| {
+                calls::labels(table, points, first, count, out, bytes)
+            })
+        })
+    };
+    let one = |view, out: &mut [u8]| calls::label(table, points, view, out);
+    let plain = |out: &mut [u8]| paper::labels(table, points, first, count, out);
+    same_thrice(asked, library, one, plain)
+}
+
+/// A run over the live views of a pair in a code: its answer.
+#[track_caller]
+pub fn code_labels(table: &[u8], points: &[u8], code: &[u8], asked: Asked) -> u64 {
+    let Asked { first, count, .. } = asked;
+    let library = |out: &mut [u8], bytes: &mut u64| {
+        lent(code, |code| {
+            lent(points, |points| {
+                calls::code_labels(table, points, code, first, count, out, bytes)
+            })
+        })
+    };
+    let one = |k, out: &mut [u8]| calls::code_label(table, points, code, k, out);
+    let plain = |out: &mut [u8]| paper::code_labels(table, points, code, first, count, out);
+    same_thrice(asked, library, one, plain)
+}
+
+/// A run over the points of a pack: its answer.
+#[track_caller]
+pub fn pack_labels(pack: &[u8], asked: Asked) -> u64 {
+    let Asked { first, count, .. } = asked;
+    let library = |out: &mut [u8], bytes: &mut u64| {
+        lent(pack, |pack| {
+            calls::pack_labels(pack, first, count, out, bytes)
+        })
+    };
+    let one = |k, out: &mut [u8]| calls::pack_label(pack, k, out);
+    let plain = |out: &mut [u8]| paper::pack_labels(pack, first, count, out);
+    same_thrice(asked, library, one, plain)
+}
+
+/// What a run leaves behind.
+#[derive(PartialEq, Eq)]
+struct Left {
+    answer: u64,
+    out: Vec<u8>,
+    bytes: u64,
+}
+
+/// What stands where the bytes are told before they are.
+const UNTOLD: u64 = 0xA5A5_A5A5_A5A5_A5A5;
+
+/// What a run leaves behind that is lent telling bytes.
+fn left(room: usize, run: impl FnOnce(&mut [u8], &mut u64) -> u64) -> Left {
+    let (mut out, mut bytes) = (telling(room), UNTOLD);
+    let answer = run(&mut out[..room], &mut bytes);
+    let (out, bytes) = (black_box(out), black_box(bytes));
+    Left { answer, out, bytes }
+}
+
+#[track_caller]
+fn same_thrice(
+    asked: Asked,
+    library: impl FnOnce(&mut [u8], &mut u64) -> u64,
+    one: impl Fn(u64, &mut [u8]) -> u64,
+    plain: impl FnOnce(&mut [u8]) -> Result<Run, Refusal>,
+) -> u64 {
+    let ours = left(asked.room, library);
+    let turned = left(asked.room, |out, bytes| in_turn(asked, one, out, bytes));
+    let plain = left(asked.room, |out, bytes| packed_run(plain(out), bytes));
+    for (other, left) in [("in turn", turned), ("the second program", plain)] {
+        assert!(
+            left == ours,
+            "{asked:?}: {:#x} with {} bytes, {other} {:#x} with {}",
+            ours.answer,
+            ours.bytes,
+            left.answer,
+            left.bytes
+        );
+    }
+    ours.answer
+}
+
+/// The same labels asked for one by one, each in what is left behind those before it. What is refused with another number
+/// than a label's own, 7 to 10, is refused as a whole.
+fn in_turn(
+    asked: Asked,
+    one: impl Fn(u64, &mut [u8]) -> u64,
+    out: &mut [u8],
+    bytes: &mut u64,
+) -> u64 {
+    let unlent = one(asked.first, &mut []);
+    if !(7..=10).contains(&refusal(unlent)) {
+        return unlent;
+    }
+    *bytes = 0;
+    for written in 0..asked.count {
+        let answer = one(asked.first + written, &mut out[*bytes as usize..]);
+        if refusal(answer) != 0 {
+            return answer | written << 32;
+        }
+        *bytes += answer;
+    }
+    asked.count
+}
