@@ -21,7 +21,7 @@ use Rattle.files.specs.Check.{Format, records, whole, at, rises, judged,
 use Rattle.files.proofs.Laws.{judged-fine, verdict-length, verdict-header, verdict-trailer, verdict-scan}
 
 -- no refusal is no answer that is fine
-bad-fine : (why : Reason) → Bad why ≡ Fine → ⊥
+pub bad-fine : (why : Reason) → Bad why ≡ Fine → ⊥
 bad-fine why e = let z : _≡_ {A = ℕ} 0 1 = cc in omega arith
 
 -- of a scan that found nothing, each verdict is fine

@@ -84,23 +84,28 @@ put-then {p} {l} {o} {x} {y} {at} {i} {r} v w h =
 pub wrote : {l o y : List ℕ} {r : ℕ} → Put l o 0 r y → Wrote l o r y
 wrote {l} v = record { size = v .size ∙ zero-add (length l); is = v .is ∙ rw zero-add }
 
+-- the rest of a buffer, lent and given back
+pub lent : (x : List ℕ) (at : ℕ) → take (length x - at) (drop at x) ≡ drop at x
+lent x at = take-all (length x - at) (drop at x) (omega (arith, length-drop at x))
+
+pub given-back : (x ys : List ℕ) (at : ℕ) → take at x ++ (ys ++ drop (length x - at) (drop at x)) ≡ take at x ++ ys
+given-back x ys at =
+    let none : drop (length x - at) (drop at x) ≡ [] =
+    drop-of-length-le (drop at x) {i = length x - at} (omega (arith, length-drop at x)) in
+    ap (λ (z : List ℕ). take at x ++ z) (ap (λ (z : List ℕ). ys ++ z) none ∙ append-nil ys)
+
 -- what a part that was lent from `at` says of the whole
 pub put-part : (l x ys : List ℕ) (at r : ℕ) → at ≤ length x → Wrote l (take (length x - at) (drop at x)) r ys
     → Put l x at (at + r) (take at x ++ (ys ++ drop (length x - at) (drop at x)))
 put-part l x ys at r h w =
-    let none : drop (length x - at) (drop at x) ≡ [] =
-    drop-of-length-le (drop at x) {i = length x - at} (omega (arith, length-drop at x)) in
-    let all : take (length x - at) (drop at x) ≡ drop at x =
-    take-all (length x - at) (drop at x) (omega (arith, length-drop at x)) in
     record {
       size = omega (arith, w .size);
       is =
-          ap (λ (z : List ℕ). take at x ++ z)
-          (ap (λ (z : List ℕ). ys ++ z) none
-          ∙ (append-nil ys
-          ∙ (w .is
-          ∙ (ap (λ (z : List ℕ). l ++ drop (length l) z) all
-          ∙ ap (λ (z : List ℕ). l ++ z) (drop-drop (length l) at x)))));
+          given-back x ys at
+          ∙ ap (λ (z : List ℕ). take at x ++ z)
+          (w .is
+          ∙ (ap (λ (z : List ℕ). l ++ drop (length l) z) (lent x at)
+          ∙ ap (λ (z : List ℕ). l ++ z) (drop-drop (length l) at x)));
     }
 
 -- the same text, said otherwise

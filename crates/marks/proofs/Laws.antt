@@ -48,9 +48,6 @@ module _ (table rec : List ℕ) (type start : ℕ) where
   unfolding rowFor
   row-before = found-before table _
 
-pub bad-fine : (why : Reason) → Bad why ≡ Fine → ⊥
-bad-fine why e = let z : _≡_ {A = ℕ} 0 1 = cc in omega arith
-
 -- the first refusal of the views at some places
 module _ (table points : List ℕ) (place : ℕ) (places : List ℕ) where
   pub stop-here : (why : Reason) → refusalIn table (recordAt 168 points place) ≡ Bad why

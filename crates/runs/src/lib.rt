@@ -1,7 +1,7 @@
 // Runs of labels of a pair of files, by view and by code.
-pub mod inner;
+mod places;
 
-use inner::run_places;
+use places::run_places;
 use refusal::Answer;
 use refusal::Reason;
 use series::Series;

@@ -2,11 +2,11 @@
 -- Assumes nothing.
 use Prim.Native.Nat.{ℕ, zero, suc, _+_, _-_, _≤_, _<_}
 use mathlib.Core.Path.{_≡_, refl, sym, ap, _∙_}
-use mathlib.Core.List.{List, [], _∷_, _++_, append-assoc, append-nil}
+use mathlib.Core.List.{List, [], _∷_, _++_, append-assoc}
 use native.Mathlib.Omega.{arith}
 use native.Mathlib.Nat.{zero-add}
-use lib.ListN.{length, take, drop, length-append, length-drop, drop-of-length-le, take-append-drop}
-use lib.Seq.{length-take-le, take-all, take-append-add, drop-append-add}
+use lib.ListN.{length, take, drop, length-append, take-append-drop}
+use lib.Seq.{length-take-le, take-append-add, drop-append-add}
 use Rattle.refusal.specs.declared.Reason.{Reason}
 use Rattle.refusal.specs.declared.Answer.{Answer}
 use Rattle.refusal.specs.declared.Answer.the-variants.{Value, Refused}
@@ -35,16 +35,6 @@ behind-more labels bytes b (Done l c) =
     let n : labels + (1 + l) ≡ labels + 1 + l = omega arith in
     let m : bytes + (b + c) ≡ bytes + b + c = omega arith in
     rw (n, m)
-
--- the rest of a buffer, lent and given back
-pub lent : (x : List ℕ) (at : ℕ) → take (length x - at) (drop at x) ≡ drop at x
-lent x at = take-all (length x - at) (drop at x) (omega (arith, length-drop at x))
-
-pub given-back : (x ys : List ℕ) (at : ℕ) → take at x ++ (ys ++ drop (length x - at) (drop at x)) ≡ take at x ++ ys
-given-back x ys at =
-    let none : drop (length x - at) (drop at x) ≡ [] =
-    drop-of-length-le (drop at x) {i = length x - at} (omega (arith, length-drop at x)) in
-    ap (λ (z : List ℕ). take at x ++ z) (ap (λ (z : List ℕ). ys ++ z) none ∙ append-nil ys)
 
 -- `done` labels are written in the first `at` bytes of the buffer, which was `out` and is `here`
 pub record Going (a : Asking) (first count : ℕ) (out : List ℕ) (done at : ℕ) (here : List ℕ) : Type 0 where

@@ -3,7 +3,7 @@ use borrow.Author.Needs.{needs}
 use mathlib.Core.Path.{_≡_, refl, sym, ap, _∙_}
 use borrow.Author.Tests.{eq-eqb, ne-eqb}
 use Rattle.keys.specs.Keys.{refusalIn}
-use Rattle.marks.proofs.Laws.{bad-fine}
+use Rattle.files.proofs.Accepted.{bad-fine}
 use native.Mathlib.Omega.{arith}
 use Rattle.marking.proofs.inner.mark_view.Statement.{statement}
 use Rattle.marking.proofs.inner.mark_view.Tie as tie

@@ -8,7 +8,8 @@ use Rattle.views.proofs.Laws.{next-range, next-next, places-start, places-step,
 use Rattle.marks.specs.Places.{firstRefused, rowsOf, markRows, markPlaces}
 use mathlib.Core.List.{List}
 use Rattle.keys.specs.Keys.{refusalIn}
-use Rattle.marks.proofs.Laws.{bad-fine, stop-here, go-on}
+use Rattle.files.proofs.Accepted.{bad-fine}
+use Rattle.marks.proofs.Laws.{stop-here, go-on}
 use native.Mathlib.Omega.{arith}
 use Rattle.marking.proofs.inner.mark_views.Statement.{statement}
 use Rattle.marking.proofs.inner.mark_views.Tie as tie

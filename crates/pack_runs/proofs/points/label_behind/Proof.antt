@@ -4,7 +4,7 @@ use mathlib.Core.Path.{_≡_, ap, _∙_}
 use mathlib.Core.List.{List, _++_}
 use Prim.Native.Nat.{ℕ}
 use lib.ListN.{take}
-use Rattle.series.proofs.Going.{lent, given-back}
+use Rattle.label.proofs.Puts.{lent, given-back}
 use Rattle.pack_runs.proofs.points.label_behind.Statement.{statement}
 use Rattle.pack_runs.proofs.points.label_behind.Tie as tie
 

@@ -1,12 +1,12 @@
--- `runs::inner::label_behind` meets its contract. Assumes nothing.
+-- `runs::places::label_behind` meets its contract. Assumes nothing.
 use borrow.Author.Needs.{needs}
 use mathlib.Core.Path.{_≡_, ap, _∙_}
 use mathlib.Core.List.{List, _++_}
 use Prim.Native.Nat.{ℕ}
 use lib.ListN.{take}
-use Rattle.series.proofs.Going.{lent, given-back}
-use Rattle.runs.proofs.inner.label_behind.Statement.{statement}
-use Rattle.runs.proofs.inner.label_behind.Tie as tie
+use Rattle.label.proofs.Puts.{lent, given-back}
+use Rattle.runs.proofs.places.label_behind.Statement.{statement}
+use Rattle.runs.proofs.places.label_behind.Tie as tie
 
 sub-label-at : tie.Need-sub-label-at
 sub-label-at c = search needs

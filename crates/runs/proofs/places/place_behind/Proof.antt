@@ -1,12 +1,12 @@
--- `runs::inner::place_behind` meets its contract. Assumes nothing.
+-- `runs::places::place_behind` meets its contract. Assumes nothing.
 use borrow.Author.Needs.{needs}
 use mathlib.Core.Path.{_∙_}
 use Prim.Native.Nat.{_+_, _≤_, _<_}
 use native.Mathlib.Omega.{arith}
 use borrow.Author.Tests.{lt-ltb, le-ltb}
 use Rattle.views.specs.Views.{lastOf, nextWanted}
-use Rattle.runs.proofs.inner.place_behind.Statement.{statement}
-use Rattle.runs.proofs.inner.place_behind.Tie as tie
+use Rattle.runs.proofs.places.place_behind.Statement.{statement}
+use Rattle.runs.proofs.places.place_behind.Tie as tie
 
 add-next-wanted : tie.Need-add-next-wanted
 add-next-wanted c = search needs

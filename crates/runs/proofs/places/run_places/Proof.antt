@@ -1,4 +1,4 @@
--- `runs::inner::run_places` meets its contract. The invariant: `place` is that of the next label, and the rest decides.
+-- `runs::places::run_places` meets its contract. The invariant: `place` is that of the next label, and the rest decides.
 -- Assumes nothing.
 use borrow.Author.Needs.{needs}
 use mathlib.Core.Path.{_≡_, refl, sym, ap, subst, _∙_}
@@ -15,8 +15,8 @@ use Rattle.pair.proofs.Laws.{wanted-place}
 use Rattle.series.proofs.Going.{Going, going-start, going-step, going-stop, going-end}
 use Rattle.runs.specs.Runs.{placesAsked}
 use Rattle.runs.proofs.Laws.{next-place, place-bound, place-some, place-fits}
-use Rattle.runs.proofs.inner.run_places.Statement.{statement}
-use Rattle.runs.proofs.inner.run_places.Tie as tie
+use Rattle.runs.proofs.places.run_places.Statement.{statement}
+use Rattle.runs.proofs.places.run_places.Tie as tie
 
 abbrev Inv-loop : tie.InvT-loop
 Inv-loop table points code first count out₀ place₀ at₀ done₀ out place at done =
