@@ -74,8 +74,9 @@ uint64_t ttw_live(const uint8_t *points, size_t points_len, const uint8_t *code,
  *   7 no such view
  *   8 a forbidden combination (1 sub building without name or number, 2 dependent thoroughfare without thoroughfare,
  *     3 descriptor without its own name)
- *   9 a key has no row, or the locality key is zero (the field, 1 to 7: locality, thoroughfare, descriptor, dependent
- *     thoroughfare, its descriptor, building name, sub building)
+ *   9 a key has no row in force (none at all, or the last for it has the letter B or D), or the locality key is zero (the
+ *     field, 1 to 7: locality, thoroughfare, descriptor, dependent thoroughfare, its descriptor, building name, sub
+ *     building)
  *  10 `out` is shorter than the label (the bytes needed)
  */
 
@@ -104,7 +105,7 @@ uint64_t ttw_code_label(const uint8_t *table, size_t table_len, const uint8_t *p
  *     uint64_t answer = ttw_labels(table, table_len, points, points_len, 1, 40, out, sizeof out, &bytes);
  *     fwrite(out, 1, bytes, stdout);
  *     if (TTW_REFUSAL(answer) == 9)
- *         printf("%lu labels, then a key has no row\n", (unsigned long)TTW_SECOND(answer));
+ *         printf("%lu labels, then a key has no row in force\n", (unsigned long)TTW_SECOND(answer));
  */
 
 /* The labels of `count` views from view `first` on, counted from 1: how many labels were written. */

@@ -2,7 +2,7 @@
 -- to what their addresses refer to.
 -- Assumes nothing.
 use Prim.Native.Nat.{ℕ, zero, suc, _+_, _-_, _≤_, _<_}
-use mathlib.Core.Path.{_≡_, refl, sym, ap, _∙_}
+use mathlib.Core.Path.{_≡_, refl, sym, ap, subst, _∙_}
 use mathlib.Core.Bool.{Bool, true, false, cond, not, _&&_, _||_}
 use mathlib.Core.List.{List, [], _∷_}
 use native.Mathlib.Omega.{arith}
@@ -32,16 +32,17 @@ use Rattle.carried.specs.Used.{refersIn, refers}
 use Rattle.carried.proofs.Used.{Each}
 use Rattle.carried.proofs.Rows.{and-both}
 use Rattle.refs.specs.Refs.{refAt}
-use Rattle.cut.specs.Refs.{Standing, KeyPlace, keyPlaces, askedAt, rowsAt, lackingAt}
+use Rattle.cut.specs.Refs.{InForce, Standing, KeyPlace, keyPlaces, askedAt, rowsAt, lackingAt}
 use Rattle.cut.proofs.Orders.{nine-digits, or-left, or-right}
 
 -- ---- one key
 
--- the record that a key finds stands for it
+-- the record that a key finds stands for it, and is in force
 pub record Finds (table rec : List ℕ) (kind start : ℕ) : Type 0 where
   pub low : 1 ≤ rowFor table rec (48 + kind) start
   pub high : rowFor table rec (48 + kind) start < lastOf table
   pub is : refAt table (rowFor table rec (48 + kind) start) ≡ ref kind (value (part rec start (start + 8)))
+  pub own : InForce table (rowFor table rec (48 + kind) start)
 
 -- each of the keys at these places, unless it is zero
 abbrev pub AllFind : List ℕ → List ℕ → List KeyPlace → Type 0
@@ -82,6 +83,7 @@ module _ (table : List ℕ) (t : Accepted tableFormat table) (rec : List ℕ) wh
               low = omega (arith, is);
               high = omega (arith, is, r .1);
               is = ap (refAt table) is ∙ (ap value (r .2) ∙ want-ref);
+              own = subst (InForce table) (sym is) (ap (rowOf table) (r .2) ∙ e);
             }
 
     present-finds : lacksRow table rec (48 + kind) start ≡ false → says rec start (start + 8) ≡ true
@@ -237,6 +239,25 @@ module _ (table rec : List ℕ) where
       by-test true h e ih = first h (eqb j row) refl e ih
       by-test false h e ih = ih (rw (ne-eqb j 0 (λ z. omega arith)) at e)
 
+  -- and is in force
+  row-own : (j : ℕ) → 1 ≤ j → (ps : List KeyPlace) → AllFind table rec ps → elem j (rowsAt table rec ps) ≡ true
+      → InForce table j
+  row-own j low [] g e = let z : _≡_ {A = ℕ} 0 1 = cc in absurd (omega arith)
+  row-own j low (p ∷ ps) g e =
+      by-tests (says rec (p .start) (p .start + 8)) (eqb j (keyRow table rec (48 + p .kind) (p .start))) refl refl e
+      (row-own j low ps (g .1))
+    where
+      row : ℕ
+      row = rowFor table rec (48 + p .kind) (p .start)
+
+      by-tests : (b c : Bool) → says rec (p .start) (p .start + 8) ≡ b → eqb j (cond b row 0) ≡ c
+          → c || elem j (rowsAt table rec ps) ≡ true
+          → (elem j (rowsAt table rec ps) ≡ true → InForce table j)
+          → InForce table j
+      by-tests true true h q e ih = subst (InForce table) (sym (eqb-true j row q)) (g .0 h .own)
+      by-tests false true h q e ih = absurd (omega (arith, eqb-true j 0 q))
+      by-tests b false h q e ih = ih e
+
 module _ (table points : List ℕ) where
   -- the same of all the views
   pub referred-row : (r : ℕ) (places : List ℕ) → Each (FindAt table points) places
@@ -281,3 +302,17 @@ module _ (table points : List ℕ) where
       by-test false q e later =
           or-right (refersIn (refAt table j) (askedAt rec keyPlaces)) (refers (refAt table j) (viewsAt points places))
           (later e)
+
+  pub referred-own : (j : ℕ) → 1 ≤ j → (places : List ℕ) → Each (FindAt table points) places
+      → refersTo table points places j ≡ true
+      → InForce table j
+  referred-own j low [] g e = let z : _≡_ {A = ℕ} 0 1 = cc in absurd (omega arith)
+  referred-own j low (place ∷ places) g e =
+      by-test (elem j (rowsAt table (recordAt 168 points place) keyPlaces)) refl e (referred-own j low places (g .1))
+    where
+      by-test : (b : Bool) → elem j (rowsAt table (recordAt 168 points place) keyPlaces) ≡ b
+          → b || refersTo table points places j ≡ true
+          → (refersTo table points places j ≡ true → InForce table j)
+          → InForce table j
+      by-test true q e later = row-own table (recordAt 168 points place) j low keyPlaces (g .0) q
+      by-test false q e later = later e

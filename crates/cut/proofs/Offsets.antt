@@ -21,7 +21,7 @@ use Rattle.layout.specs.Layout.{kindOf, keyOf, textsOr, Entry, entry, tableEntr
 use Rattle.marks.specs.Rows.{rowBytesAt, isMarked, bytesTo, countTo, rowsFrom}
 use Rattle.carried.specs.Used.{Rises}
 use Rattle.refs.specs.Refs.{refAt}
-use Rattle.cut.specs.Refs.{refsFrom, Standing}
+use Rattle.cut.specs.Refs.{InForce, refsFrom, Standing}
 use Rattle.cut.proofs.Orders.{or-right}
 use Rattle.cut.proofs.Refs.{refs-rise, own-entry}
 
@@ -78,26 +78,28 @@ module _ (table marks : List ℕ) where
       by-test true e = omega arith
       by-test false e = omega arith
 
-module _ (table marks : List ℕ) (t : Accepted tableFormat table) where
+-- where a marked record is in force
+module _ (table marks : List ℕ) (t : Accepted tableFormat table)
+    (own : (i : ℕ) → 1 ≤ i → i < lastOf table → isMarked marks i ≡ true → InForce table i) where
   -- "by type then key"
   pub refs-rises : (k i low : ℕ) → 1 ≤ i → i + k ≤ suc (lastOf table - 1)
       → ((j : ℕ) → i ≤ j → j < i + k → low < refAt table j)
       → Rises low (refsFrom table marks k i)
   refs-rises zero i low first end above = tt
   refs-rises (suc k) i low first end above =
-      by-test (isMarked marks i)
+      by-test (isMarked marks i) refl
       (λ (n : ℕ) (h : (j : ℕ) → suc i ≤ j → j < suc i + k → n < refAt table j).
       refs-rises k (suc i) n (omega arith) (omega arith) h)
     where
-      by-test : (b : Bool)
+      by-test : (b : Bool) → isMarked marks i ≡ b
           → ((n : ℕ) → ((j : ℕ) → suc i ≤ j → j < suc i + k → n < refAt table j)
           → Rises n (refsFrom table marks k (suc i)))
           → Rises low (cond b (refAt table i ∷ refsFrom table marks k (suc i)) (refsFrom table marks k (suc i)))
-      by-test true later = (
+      by-test true e later = (
         above i (omega arith) (omega arith),
-        later (refAt table i) (λ j h l. refs-rise table t i j first h (omega arith)),
+        later (refAt table i) (λ j h l. refs-rise table t i j first h (omega arith) (own i first (omega arith) e)),
       )
-      by-test false later = later low (λ j h l. above j (omega arith) (omega arith))
+      by-test false e later = later low (λ j h l. above j (omega arith) (omega arith))
 
   -- ---- what they are in a pack
 
@@ -107,16 +109,17 @@ module _ (table marks : List ℕ) (t : Accepted tableFormat table) where
   pub entries-rows : (k i : ℕ) → 1 ≤ i → i + k ≤ suc (lastOf table - 1)
       → entriesBytes (tableEntries (tableLookup table) (refsFrom table marks k i)) ≡ rowsFrom table marks k i
   entries-rows zero i low high = refl
-  entries-rows (suc k) i low high = by-test (isMarked marks i) (entries-rows k (suc i) (omega arith) (omega arith))
+  entries-rows (suc k) i low high = by-test (isMarked marks i) refl (entries-rows k (suc i) (omega arith) (omega arith))
     where
       rest : List ℕ
       rest = refsFrom table marks k (suc i)
 
-      by-test : (b : Bool) → entriesBytes (tableEntries (tableLookup table) rest) ≡ rowsFrom table marks k (suc i)
+      by-test : (b : Bool) → isMarked marks i ≡ b
+          → entriesBytes (tableEntries (tableLookup table) rest) ≡ rowsFrom table marks k (suc i)
           → entriesBytes (tableEntries (tableLookup table) (cond b (refAt table i ∷ rest) rest))
           ≡ cond b (rowBytesAt table i) [] ++ rowsFrom table marks k (suc i)
-      by-test true later = ap₂ _++_ (own-entry table t i low (omega arith)) later
-      by-test false later = later
+      by-test true e later = ap₂ _++_ (own-entry table t i low (omega arith) (own i low (omega arith) e)) later
+      by-test false e later = later
 
   -- ---- where they stand
 
@@ -129,7 +132,7 @@ module _ (table marks : List ℕ) (t : Accepted tableFormat table) where
     offset-from zero j h l = absurd (omega arith)
     offset-from (suc k) j h l =
         ⊎-elim (λ (e : j ≡ m). here e)
-        (λ (g : j < m). by-test g (isMarked marks (suc j)) (offset-from k (suc j) g (omega arith))) (eq-or-lt-of-le h)
+        (λ (g : j < m). by-test g (isMarked marks (suc j)) refl (offset-from k (suc j) g (omega arith))) (eq-or-lt-of-le h)
       where
         rest : List ℕ
         rest = refsFrom table marks k (suc (suc j))
@@ -143,21 +146,22 @@ module _ (table marks : List ℕ) (t : Accepted tableFormat table) where
             ≡ bytesTo table marks m
         here e = rw (e, marked) (rw (eq-eqb r r refl) (omega arith))
 
-        by-test : j < m → (b : Bool)
+        by-test : j < m → (b : Bool) → isMarked marks (suc j) ≡ b
             → offsetOf (tableEntries (tableLookup table) rest ++ more) r
             + (bytesTo table marks j + cond b (length (rowBytesAt table (suc j))) 0)
             ≡ bytesTo table marks m
             → offsetOf (tableEntries (tableLookup table) (cond b (refAt table (suc j) ∷ rest) rest) ++ more) r
             + bytesTo table marks j
             ≡ bytesTo table marks m
-        by-test g true later =
+        by-test g true e later =
+            let in-force = own (suc j) (omega arith) (omega arith) e in
             let apart : eqb (refAt table (suc j)) r ≡ false =
             ne-eqb (refAt table (suc j)) r
-            (λ q. omega (arith, refs-rise table t (suc j) (suc m) (omega arith) (omega arith) high)) in
+            (λ q. omega (arith, refs-rise table t (suc j) (suc m) (omega arith) (omega arith) high in-force)) in
             let size : length (entryBytes (ownEntry (suc j))) ≡ length (rowBytesAt table (suc j)) =
-            ap length (own-entry table t (suc j) (omega arith) (omega arith)) in
+            ap length (own-entry table t (suc j) (omega arith) (omega arith) in-force) in
             rw apart (omega (arith, size, later))
-        by-test g false later = omega (arith, later)
+        by-test g false e later = omega (arith, later)
 
 -- a number that stands for none of the rows
 module _ (look : Lookup) (more : List Entry) (r : ℕ) where

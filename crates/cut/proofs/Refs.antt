@@ -1,22 +1,19 @@
--- The records of an accepted table file: what their rows stand for rises, each finds itself by its own key, and its entry
--- in a pack is its row.
+-- The records of an accepted table file: what the rows in force stand for rises, and the entry of each in a pack is its
+-- row.
 -- Assumes nothing.
 use Prim.Native.Nat.{ℕ, zero, suc, _+_, _-_, _≤_, _<_}
 use mathlib.Core.Path.{_≡_, refl, sym, ap, ap₂, _∙_}
 use mathlib.Core.Bool.{Bool, true, false, cond, _||_}
 use mathlib.Core.List.{List, [], _∷_}
 use mathlib.Core.Option.{some}
-use mathlib.Core.Logic.{⊎-elim}
 use native.Mathlib.Omega.{arith}
-use native.Mathlib.Nat.{eq-or-lt-of-le}
-use borrow.Author.Tests.{ne-eqb, eqb-true, le-leb, ltb-true, ltb-false}
-use lib.Dec.{eqb, ltb}
+use borrow.Author.Tests.{ne-eqb, eqb-true, le-leb}
+use lib.Dec.{eqb}
 use lib.ListN.{length, getD}
 use Rattle.text.specs.Test.{within, elem, every, only}
 use Rattle.text.specs.Digits.{digit, digitsFault, value}
 use Rattle.text.specs.Text.{part}
 use Rattle.text.proofs.Tests.{and-left, and-right, range-low, range-high}
-use Rattle.text.proofs.Values.{value-whole}
 use Rattle.record.specs.Parts.{recordAt}
 use Rattle.compare.specs.Order.{order}
 use Rattle.faults.specs.Fields.{keyFault}
@@ -24,9 +21,11 @@ use Rattle.faults.specs.Table.{tableFault}
 use Rattle.files.specs.Formats.{tableFormat}
 use Rattle.files.proofs.Accepted.{Accepted}
 use Rattle.rows.specs.Rows.{keyAt, lastOf, rowOf}
-use Rattle.rows.proofs.Last.{row-of-some, row-of-none}
+use Rattle.rows.proofs.Order.{order-equal, order-bound, below-above}
+use Rattle.rows.proofs.Last.{is-one, rises, row-of-last}
 use Rattle.source.specs.Rows.{digitsOf, textsOf, textsAt, tableLookup}
 use Rattle.source.proofs.Digits.{digits-again}
+use Rattle.source.proofs.Table.{keys-rise}
 use Rattle.meaning.proofs.Records.{part-length, record-length}
 use Rattle.meaning.proofs.Fields.{table-passes, digits-pass}
 use Rattle.layout.specs.Layout.{ref, kindOf, keyOf, textsOr, entry, textsBytes, entryBytes}
@@ -35,7 +34,8 @@ use Rattle.sound.proofs.Addresses.{one-passes, eight}
 use Rattle.carried.proofs.Used.{ref-kind, ref-key}
 use Rattle.carried.proofs.Rows.{and-both}
 use Rattle.refs.specs.Refs.{refAt, nineDigits}
-use Rattle.refs.proofs.Digits.{digits-rise, nine-made}
+use Rattle.refs.proofs.Digits.{nine-rise, nine-made}
+use Rattle.cut.specs.Refs.{InForce}
 use Rattle.cut.proofs.Orders.{nine-digits}
 
 -- ---- one record
@@ -144,63 +144,23 @@ module _ (table : List ℕ) (t : Accepted tableFormat table) where
     pub ref-below : refAt table i < 600_000_000
     ref-below = front-below (recordAt 169 table i) headed-at
 
-    above-last : (eqb i 1 ≡ true → ⊥) → order (keyAt table i) (keyAt table (i - 1)) ≡ 2
-    above-last n = by-test (eqb i 1) refl (t .each i low high .rising)
-      where
-        by-test : (b : Bool) → eqb i 1 ≡ b → b || eqb (order (keyAt table i) (keyAt table (i - 1))) 2 ≡ true
-            → order (keyAt table i) (keyAt table (i - 1)) ≡ 2
-        by-test true q e = absurd (n q)
-        by-test false q e = eqb-true (order (keyAt table i) (keyAt table (i - 1))) 2 e
+  -- a row in force is the last that stands for its key: those behind it stand for more
+  pub refs-rise : (i j : ℕ) → 1 ≤ i → i < j → j < lastOf table → InForce table i → refAt table i < refAt table j
+  refs-rise zero j low up high own = absurd (omega arith)
+  refs-rise (suc p) j low up high own =
+      let a = keyAt table (suc p) in
+      let b = keyAt table j in
+      let below : order a b ≡ 1 =
+      is-one (order a b) (λ e. row-of-last table a p own j up high (sym (order-equal a b e)))
+      (rises table (keys-rise table t) (suc p) j low (omega arith) high) (order-bound a b) in
+      nine-rise b a (nine-at j (omega arith) high) (nine-at (suc p) low (omega arith)) (below-above a b below)
 
-  ref-next : (i : ℕ) → 1 ≤ i → suc i < lastOf table → refAt table i < refAt table (suc i)
-  ref-next i low high =
-      let this = headed-at i low (omega arith) in
-      let next = headed-at (suc i) (omega arith) high in
-      let a = keyAt table (suc i) in
-      let b = keyAt table i in
-      let m = nine (recordAt 169 table i) this in
-      let n = nine (recordAt 169 table (suc i)) next in
-      let back : suc i - 1 ≡ i = omega arith in
-      let up : order a b ≡ 2 =
-      rw back at (above-last (suc i) (omega arith) high (λ q. omega (arith, eqb-true (suc i) 1 q))) in
-      rw (value-whole a (omega (arith, n)), value-whole b (omega (arith, m)))
-      (digits-rise a b (n ∙ sym m) (all-digits (recordAt 169 table (suc i)) next)
-      (all-digits (recordAt 169 table i) this) up)
-
-  -- "each record but the first of them is above the one before"
-  pub refs-rise : (i j : ℕ) → 1 ≤ i → i < j → j < lastOf table → refAt table i < refAt table j
-  refs-rise i zero low up high = absurd (omega arith)
-  refs-rise i (suc j) low up high =
-      let next = ref-next j (omega arith) high in
-      ⊎-elim (λ (e : i ≡ j). rw e next)
-      (λ (h : i < j). omega (arith, refs-rise i j low h (omega arith)))
-      (eq-or-lt-of-le (let z : i ≤ j = omega arith in z))
-
-  -- so a number stands for one record
-  pub ref-once : (i j : ℕ) → 1 ≤ i → i < lastOf table → 1 ≤ j → j < lastOf table → refAt table i ≡ refAt table j → i ≡ j
-  ref-once i j low high low′ high′ e = by-tests (ltb i j) (ltb j i) refl refl
-    where
-      by-tests : (s u : Bool) → ltb i j ≡ s → ltb j i ≡ u → i ≡ j
-      by-tests true u p q = absurd (omega (arith, refs-rise i j low (ltb-true i j p) high′))
-      by-tests false true p q = absurd (omega (arith, refs-rise j i low′ (ltb-true j i q) high))
-      by-tests false false p q = omega (arith, ltb-false i j p, ltb-false j i q)
-
-  module _ (i : ℕ) (low : 1 ≤ i) (high : i < lastOf table) where
-    -- a record is what its key finds
-    own-row : rowOf table (keyAt table i) ≡ i
-    own-row = by-row (rowOf table (keyAt table i)) refl
-      where
-        by-row : (r : ℕ) → rowOf table (keyAt table i) ≡ r → r ≡ i
-        by-row zero e = absurd (row-of-none table (keyAt table i) e i low high refl)
-        by-row (suc p) e =
-            let r = row-of-some table (keyAt table i) p e in
-            ref-once (suc p) i (r .0) (r .1) low high (ap value (r .2))
-
+  module _ (i : ℕ) (low : 1 ≤ i) (high : i < lastOf table) (own : InForce table i) where
     own-texts : tableLookup table (kindOf (refAt table i)) (keyOf (refAt table i)) ≡ some (textsOf (recordAt 169 table i))
     unfolding tableLookup
     own-texts =
         ap (λ (s : List ℕ). textsAt table (rowOf table s)) (front-again (recordAt 169 table i) (headed-at i low high))
-        ∙ (ap (textsAt table) own-row ∙ rw (ne-eqb i 0 (λ z. omega arith)))
+        ∙ (ap (textsAt table) own ∙ rw (ne-eqb i 0 (λ z. omega arith)))
 
     -- its entry is its row
     pub own-entry :

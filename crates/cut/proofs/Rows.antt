@@ -29,11 +29,11 @@ use Rattle.sound.proofs.Packed.{packed-views, all-wanted}
 use Rattle.carried.proofs.Used.{used-exactly, used-rises, Each, each-of}
 use Rattle.cut.specs.Started.{Started}
 use Rattle.refs.specs.Refs.{refAt}
-use Rattle.cut.specs.Refs.{refsFrom, KeyPlace, keyPlaces, askedAt, rowsAt, offsetsAt}
+use Rattle.cut.specs.Refs.{InForce, refsFrom, KeyPlace, keyPlaces, askedAt, rowsAt, offsetsAt}
 use Rattle.cut.proofs.Orders.{rises-same, or-left, or-right}
 use Rattle.cut.proofs.Refs.{ref-above, ref-below}
 use Rattle.cut.proofs.Marked.{marked-exactly, start-marked, start-is}
-use Rattle.cut.proofs.Keys.{AllFind, FindAt, all-find-at, referred-row, row-referred}
+use Rattle.cut.proofs.Keys.{AllFind, FindAt, all-find-at, referred-row, row-referred, referred-own}
 use Rattle.cut.proofs.Offsets.{refs-elem, refs-standing, refs-count, refs-rises, entries-rows, offset-from, offset-behind}
 
 module _ {table points code fresh starts : List ℕ} (s : Started table points code fresh starts) where
@@ -56,6 +56,10 @@ module _ {table points code fresh starts : List ℕ} (s : Started table points c
       start-marked table marks starts (s .placed) i low high
       ∙ marked-exactly i low table points places fresh (omega (arith, s .long)) (s .no-marks i)
 
+  -- and then it is in force
+  in-force : (i : ℕ) → 1 ≤ i → i < lastOf table → isMarked starts i ≡ true → InForce table i
+  in-force i low high e = referred-own table points i low places finds (sym (started i low high) ∙ e)
+
   used-in : (r : ℕ) → elem r (usedBy (viewsAt points places)) ≡ true → elem r refs ≡ true
   used-in r e =
       let st = referred-row table points r places finds (sym (used-exactly r (viewsAt points places)) ∙ e) in
@@ -77,7 +81,7 @@ module _ {table points code fresh starts : List ℕ} (s : Started table points c
   used-refs =
       ap usedBy (packed-views points code (s .of-code))
       ∙ rises-same 0 0 (usedBy (viewsAt points places)) refs (used-rises (viewsAt points places))
-      (refs-rises table starts (s .of-table) (lastOf table - 1) 1 0 (omega arith) (omega arith)
+      (refs-rises table starts (s .of-table) in-force (lastOf table - 1) 1 0 (omega arith) (omega arith)
       (λ j h l. ref-above table (s .of-table) j h (omega arith)))
       used-in in-used
 
@@ -85,7 +89,7 @@ module _ {table points code fresh starts : List ℕ} (s : Started table points c
   pub rows-bytes : entriesBytes (tableEntries (tableLookup table) (usedBy (packed points code))) ≡ tableRows table starts
   rows-bytes =
       ap (λ rs. entriesBytes (tableEntries (tableLookup table) rs)) used-refs
-      ∙ entries-rows table starts (s .of-table) (lastOf table - 1) 1 (omega arith) (omega arith)
+      ∙ entries-rows table starts (s .of-table) in-force (lastOf table - 1) 1 (omega arith) (omega arith)
 
   pub rows-count : length (tableEntries (tableLookup table) (usedBy (packed points code)))
       ≡ countTo starts (lastOf table - 1)
@@ -115,7 +119,7 @@ module _ {table points code fresh starts : List ℕ} (s : Started table points c
   row-offset es zero low high e = absurd (omega arith)
   row-offset es (suc m) low high e =
       let back : suc m - 1 ≡ m = omega arith in
-      let o = offset-from table starts (s .of-table) m high e es (lastOf table - 1) 0 (omega arith) (omega arith) in
+      let o = offset-from table starts (s .of-table) in-force m high e es (lastOf table - 1) 0 (omega arith) (omega arith) in
       ap (λ rs. offsetOf (tableEntries (tableLookup table) rs ++ es) (refAt table (suc m))) used-refs
       ∙ omega (arith, o, start-is table marks starts (s .placed) (suc m) low high e, ap (bytesTo table starts) back)
 

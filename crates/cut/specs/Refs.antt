@@ -6,7 +6,7 @@ use mathlib.Core.Bool.{Bool, true, cond}
 use mathlib.Core.List.{List, [], _∷_, _++_}
 use Rattle.text.specs.Digits.{value}
 use Rattle.text.specs.Text.{part}
-use Rattle.rows.specs.Rows.{lastOf}
+use Rattle.rows.specs.Rows.{keyAt, lastOf, rowOf}
 use Rattle.address.specs.Address.{Asked, asked}
 use Rattle.keys.specs.Keys.{lacksRow}
 use Rattle.refs.specs.Refs.{refAt}
@@ -14,6 +14,10 @@ use Rattle.layout.specs.Numbers.{bytesOf}
 use Rattle.marks.specs.Places.{keyRow}
 use Rattle.marks.specs.Rows.{isMarked}
 use Rattle.emit.specs.Emit.{keyOffset}
+
+-- a record that is the row in force for its own type and key
+abbrev pub InForce : List ℕ → ℕ → Type 0
+InForce table i = rowOf table (keyAt table i) ≡ i
 
 -- of the marked ones among k records from i on
 abbrev pub refsFrom : List ℕ → List ℕ → ℕ → ℕ → List ℕ

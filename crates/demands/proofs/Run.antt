@@ -18,7 +18,7 @@ use Rattle.faults.specs.Table.{doubleFault, tableFault}
 use Rattle.files.specs.Check.{judged, verdict, checked}
 use Rattle.files.specs.Formats.{needed, follows, placed}
 use Rattle.views.specs.Views.{wanted, wantedIn}
-use Rattle.rows.specs.Rows.{rowOf}
+use Rattle.rows.specs.Rows.{lastRow, inForce, rowOf}
 use Rattle.address.specs.Resolve.{forbidden, missing, resolve}
 use Rattle.source.specs.Addresses.{addressOf, addressesIn}
 use Rattle.source.specs.Pair.{pairSource}
@@ -27,13 +27,18 @@ use Rattle.label.specs.Label.{roomAnswer, roomMemory}
 use Rattle.layout.specs.Layout.{entriesOf, packBytes, packOf}
 use Rattle.layout.specs.Cutting.{cutAnswer, cutMemory}
 use Rattle.layout.proofs.Worked.{code, worked}
-use Rattle.one_run.proofs.Worked.{table, points}
+use Rattle.one_run.proofs.Worked.{table, respelt, points}
 use Rattle.build.specs.Build.{codeCut, codeCutMemory, buildAnswer, buildMemory}
 
 pub the-pack : buildMemory table points code (replicate 129 0) ≡ worked
-unfolding digitsFault digitValue value textFault filledFault textIn identifier headerOk trailerOk recordAt inwardLetter inwardFault suffixFault class allowed outwardFault oneOf keyFault pointFault doubleFault tableFault judged verdict checked needed follows placed wanted wantedIn rowOf forbidden missing resolve addressOf addressesIn pairSource tableLookup roomAnswer roomMemory entriesOf packBytes packOf cutAnswer cutMemory codeCut codeCutMemory buildAnswer buildMemory
+unfolding digitsFault digitValue value textFault filledFault textIn identifier headerOk trailerOk recordAt inwardLetter inwardFault suffixFault class allowed outwardFault oneOf keyFault pointFault doubleFault tableFault judged verdict checked needed follows placed wanted wantedIn lastRow inForce rowOf forbidden missing resolve addressOf addressesIn pairSource tableLookup roomAnswer roomMemory entriesOf packBytes packOf cutAnswer cutMemory codeCut codeCutMemory buildAnswer buildMemory
 the-pack = refl
 
 pub its-answer : buildAnswer table points code (replicate 129 0) ≡ Value 129
-unfolding digitsFault digitValue value textFault filledFault textIn identifier headerOk trailerOk recordAt inwardLetter inwardFault suffixFault class allowed outwardFault oneOf keyFault pointFault doubleFault tableFault judged verdict checked needed follows placed wanted wantedIn rowOf forbidden missing resolve addressOf addressesIn pairSource tableLookup roomAnswer roomMemory entriesOf packBytes packOf cutAnswer cutMemory codeCut codeCutMemory buildAnswer buildMemory
+unfolding digitsFault digitValue value textFault filledFault textIn identifier headerOk trailerOk recordAt inwardLetter inwardFault suffixFault class allowed outwardFault oneOf keyFault pointFault doubleFault tableFault judged verdict checked needed follows placed wanted wantedIn lastRow inForce rowOf forbidden missing resolve addressOf addressesIn pairSource tableLookup roomAnswer roomMemory entriesOf packBytes packOf cutAnswer cutMemory codeCut codeCutMemory buildAnswer buildMemory
 its-answer = refl
+
+-- document 02, No. 3: with the building respelt, its last spelling stands there once and the first not at all
+pub respelt-pack : buildMemory respelt points code (replicate 129 0) ≡ worked
+unfolding digitsFault digitValue value textFault filledFault textIn identifier headerOk trailerOk recordAt inwardLetter inwardFault suffixFault class allowed outwardFault oneOf keyFault pointFault doubleFault tableFault judged verdict checked needed follows placed wanted wantedIn lastRow inForce rowOf forbidden missing resolve addressOf addressesIn pairSource tableLookup roomAnswer roomMemory entriesOf packBytes packOf cutAnswer cutMemory codeCut codeCutMemory buildAnswer buildMemory
+respelt-pack = refl

@@ -21,7 +21,7 @@ use Rattle.build.specs.Build.{liveIn}
 
 -- "it opens, and for every number k and every buffer length answers label k as the files do for the k-th live view of its
 -- code: same answer, same bytes written, same bytes untouched. It holds each table row that its views refer to once, and
--- no other."
+-- no other." (document 02: "Demands 2 and 3 read 'row' as 'row in force'", which is what the look-up finds)
 pub record Carries (table points code pack : List ℕ) : Type 0 where
   pub opens : opened pack ≡ Value (wantedCount code points)
   pub answers : (k : ℕ) (out : List ℕ) → packAnswer pack k out ≡ codeAnswer table points code k out

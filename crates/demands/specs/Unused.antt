@@ -13,14 +13,14 @@ use Rattle.source.specs.Addresses.{addressAt}
 use Rattle.pair.specs.Pair.{viewAnswer, viewMemory, codeAnswer, codeMemory}
 use Rattle.build.specs.Build.{buildAnswer, buildMemory}
 
--- of these keys, each that is not zero finds the same row in both, or none in either
+-- of these keys, each that is not zero has the same row in force in both, or none in either
 abbrev pub SameFor : Lookup → Lookup → List Asked → Type 0
 SameFor look other [] = Unit {0}
 SameFor look other (a ∷ more) =
     (present (a .key) ≡ true → look (a .kind) (a .key) ≡ other (a .kind) (a .key)) × SameFor look other more
 
--- "two accepted table files which, for every key that any view refers to, have the same row or both none"; a view is a
--- type 1 record between header and trailer
+-- "two accepted table files which, for every key that any view refers to, have the same row or both none", a row being the
+-- row in force; a view is a type 1 record between header and trailer
 pub record SameRows (one other points : List ℕ) : Type 0 where
   pub each : (place : ℕ) → 1 ≤ place → place < lastOf points → getD (recordAt 168 points place) 41 0 ≡ 49
       → SameFor (tableLookup one) (tableLookup other) (keysOf (addressAt points 0 place))

@@ -16,7 +16,8 @@ use Rattle.files.specs.Check.{Format}
 abbrev pub changes : ℕ → List ℕ
 changes digit = 67 ∷ 72 ∷ 65 ∷ 78 ∷ 71 ∷ 69 ∷ 83 ∷ digit ∷ []
 
--- "Table file, 169 bytes a record. Header: identifier 9"; "the first 9 in the table file (so a key stands once in its type)"
+-- "Table file, 169 bytes a record. Header: identifier 9"; "Sequence in the table file is to be over the first 24 bytes
+-- (type, key, date, time, letter), still strictly rising"
 abbrev pub tableFormat : Format
 tableFormat =
     record {
@@ -25,7 +26,7 @@ tableFormat =
       identifier = 9;
       name = changes 49;
       limit = 20_000;
-      sequence = 9;
+      sequence = 24;
       fault = tableFault;
       between = λ before rec next. true;
     }

@@ -88,7 +88,7 @@ pub fn fault_in(kind: usize, rec: &[u8]) -> usize
 fn sequence_of(kind: usize) -> usize
     ensures { λ r. ⌜ r ≡ formatOf kind .sequence ⌝ }
 {
-    if kind == 1 { Table::DATE } else { Point::REST }
+    if kind == 1 { Table::TEXT } else { Point::REST }
 }
 
 // Whether record `i` is above the one before it; the first behind the header has none before it.

@@ -23,11 +23,11 @@ forbiddenIn rec =
     forbiddenOf (says rec 94 102) (says rec 86 94) (says rec 82 86) (says rec 50 58) (says rec 58 66) (says rec 66 74)
     (says rec 74 82)
 
--- the record that a key finds: its type byte and its eight bytes; 0 where it finds none
+-- the row in force for a key, by its type byte and its eight bytes; 0 where none is in force
 unfoldable pub rowFor : List ℕ → List ℕ → ℕ → ℕ → ℕ
 rowFor table rec type start = found table (type ∷ part rec start (start + 8))
 
--- a key that isn't zero and has no row
+-- "a key that isn't zero has no row", or none that is in force: "the key counts as missing"
 abbrev pub lacksRow : List ℕ → List ℕ → ℕ → ℕ → Bool
 lacksRow table rec type start = says rec start (start + 8) && eqb (rowFor table rec type start) 0
 

@@ -8,7 +8,7 @@ use refusal::Reason;
 ghost use mathlib.Core.Path.{_≡_};
 ghost use Rattle.keys.specs.Keys.{rowFor, lacksRow, laterMissing, missingIn, refusalIn};
 
-// The record that the key at `start` finds among the rows of a type, 0 where it finds none.
+// The row in force for the key at `start` among the rows of a type, 0 where none is.
 pub fn row_for(table: &[u8], rec: &[u8], kind: u8, start: u8) -> usize
     ensures { λ r. ⌜ r ≡ rowFor (now (table .entry)) (now (rec .entry)) kind start ⌝ }
 {

@@ -78,7 +78,8 @@ unfolding nineDigits
 nine-made s n e = simp (eq-eqb (length s) 9 n, e)
 
 module _ (a b : List ℕ) (p : nineDigits a ≡ true) (q : nineDigits b ≡ true) where
-  nine-rise : order a b ≡ 2 → value b < value a
+  -- above as bytes, above as numbers
+  pub nine-rise : order a b ≡ 2 → value b < value a
   nine-rise o =
       let m = nine-long a p in
       let n = nine-long b q in
@@ -97,7 +98,7 @@ by-order {P} n h zero-case one-case two-case = by-tests (eqb n 0) (eqb n 1) refl
         rest a b = omega arith
 
 module _ (a b : List ℕ) (p : nineDigits a ≡ true) (q : nineDigits b ≡ true) where
-  -- above as bytes, above as numbers
+  -- the same, as a test
   pub above-number : above a b ≡ ltb (value b) (value a)
   above-number =
       by-order (order a b) (order-bound a b)

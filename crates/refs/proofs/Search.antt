@@ -14,10 +14,10 @@ use lib.Seq.{getD-set-same, getD-set-other}
 use Rattle.text.specs.Digits.{value}
 use Rattle.compare.specs.Order.{order, above}
 use Rattle.rows.specs.Rows.{keyAt, lastOf}
-use Rattle.rows.specs.Search.{middle, bisect, upperBound, found}
+use Rattle.rows.specs.Search.{middle, bisect, upperBound, lastFound}
 use Rattle.rows.proofs.Order.{order-equal, order-same}
 use Rattle.rows.proofs.Bisect.{bisect-fuel, bisect-end, bisect-to, bisect-low, bisect-high}
-use Rattle.rows.proofs.Keys.{found-none, found-row, found-other}
+use Rattle.rows.proofs.Keys.{last-found-none, last-found-row, last-found-other}
 use Rattle.refs.specs.Refs.{refAt, upperRef, nineDigits, Filled, Refs}
 use Rattle.refs.proofs.Digits.{above-number, same-number}
 
@@ -103,19 +103,19 @@ module _ (table refs want : List ℕ) (r : Refs table refs) where
           ))
 
   -- other than nine digits finds nothing
-  pub find-nothing : nineDigits want ≡ false → found table want ≡ 0
+  pub find-nothing : nineDigits want ≡ false → lastFound table want ≡ 0
   find-nothing n = by-test (ltb 1 (upperBound table want)) refl
     where
-      by-test : (t : Bool) → ltb 1 (upperBound table want) ≡ t → found table want ≡ 0
+      by-test : (t : Bool) → ltb 1 (upperBound table want) ≡ t → lastFound table want ≡ 0
       by-test true e =
           let h = ltb-true 1 (upperBound table want) e in
           let u = upperBound table want - 1 in
-          found-other table want h
+          last-found-other table want h
           (λ o.
           true≢false
           (sym (r .digits u (omega arith) (upper-to h))
           ∙ (ap nineDigits (order-equal (keyAt table u) want o) ∙ n)))
-      by-test false e = found-none table want (ltb-false 1 (upperBound table want) e)
+      by-test false e = last-found-none table want (ltb-false 1 (upperBound table want) e)
 
   module _ (w : nineDigits want ≡ true) where
     pub upper-is : upperRef refs (lastOf table) (value want) ≡ upperBound table want
@@ -126,8 +126,8 @@ module _ (table refs want : List ℕ) (r : Refs table refs) where
         ∙ sym (above-number (keyAt table i) want (r .digits i low high) w))
 
     module _ (end : ℕ) (is : end ≡ upperRef refs (lastOf table) (value want)) where
-      pub find-none : end ≤ 1 → found table want ≡ 0
-      find-none h = found-none table want (omega (arith, upper-is))
+      pub find-none : end ≤ 1 → lastFound table want ≡ 0
+      find-none h = last-found-none table want (omega (arith, upper-is))
 
       module _ (h : 1 < end) where
         pub row-inside : end - 1 < length refs
@@ -137,20 +137,20 @@ module _ (table refs want : List ℕ) (r : Refs table refs) where
         row-number =
             r .filled .each (end - 1) (omega arith) (omega (arith, upper-is, upper-to (omega (arith, upper-is))))
 
-        pub find-row : getD refs (end - 1) 0 ≡ value want → found table want ≡ end - 1
+        pub find-row : getD refs (end - 1) 0 ≡ value want → lastFound table want ≡ end - 1
         find-row e =
             let u = is ∙ upper-is in
             let at : upperBound table want - 1 ≡ end - 1 = omega arith in
             let in-file = upper-to (omega arith) in
-            found-row table want (omega arith)
+            last-found-row table want (omega arith)
             (rw at
             (same-number (keyAt table (end - 1)) want (r .digits (end - 1) (omega arith) (omega arith)) w
             (sym row-number ∙ e)))
             ∙ at
 
-        pub find-other : (getD refs (end - 1) 0 ≡ value want → ⊥) → found table want ≡ 0
+        pub find-other : (getD refs (end - 1) 0 ≡ value want → ⊥) → lastFound table want ≡ 0
         find-other n =
             let u = is ∙ upper-is in
             let at : upperBound table want - 1 ≡ end - 1 = omega arith in
-            found-other table want (omega arith)
+            last-found-other table want (omega arith)
             (rw at (λ o. n (row-number ∙ ap value (order-equal (keyAt table (end - 1)) want o))))

@@ -6,7 +6,7 @@ ghost use Prim.Native.Nat.{_≤_, _<_, _+_, _*_};
 ghost use lib.ListN.{length};
 ghost use Rattle.text.specs.Digits.{value};
 ghost use Rattle.rows.specs.Rows.{lastOf};
-ghost use Rattle.rows.specs.Search.{found};
+ghost use Rattle.rows.specs.Search.{lastFound, found};
 ghost use Rattle.keys.specs.Keys.{rowFor};
 ghost use Rattle.refs.specs.Refs.{refAt, upperRef, nineDigits, Filled, Refs};
 
@@ -67,10 +67,10 @@ fn number_of(kind: u8, key: &[u8]) -> usize
     (kind - b'0') as usize * TYPE_UNIT + values::value_of(key)
 }
 
-// The row that a type and key find, 0 where there is none.
-pub fn find_ref(table: &[u8], refs: &[u32], kind: u8, key: &[u8]) -> usize
+// The last record that stands for a type and key, 0 where there is none.
+fn last_ref(table: &[u8], refs: &[u32], kind: u8, key: &[u8]) -> usize
     requires { ⌜ Refs (now table) (now refs) ⌝ }
-    ensures { λ r. ⌜ r ≡ found (now (table .entry)) (kind ∷ now (key .entry)) ⌝ }
+    ensures { λ r. ⌜ r ≡ lastFound (now (table .entry)) (kind ∷ now (key .entry)) ⌝ }
 {
     if !are_nine_digits(kind, key) {
         return 0;
@@ -84,7 +84,15 @@ pub fn find_ref(table: &[u8], refs: &[u32], kind: u8, key: &[u8]) -> usize
     if refs[row] as usize == want { row } else { 0 }
 }
 
-// The record that the key at `start` finds among the rows of a type, 0 where it finds none.
+// The row in force for a type and key, 0 where none is.
+fn find_ref(table: &[u8], refs: &[u32], kind: u8, key: &[u8]) -> usize
+    requires { ⌜ Refs (now table) (now refs) ⌝ }
+    ensures { λ r. ⌜ r ≡ found (now (table .entry)) (kind ∷ now (key .entry)) ⌝ }
+{
+    rows::in_force(table, last_ref(table, refs, kind, key))
+}
+
+// The row in force for the key at `start` among the rows of a type, 0 where none is.
 pub fn row_for(table: &[u8], refs: &[u32], rec: &[u8], kind: u8, start: u8) -> usize
     requires { ⌜ Refs (now table) (now refs) ⌝ }
     ensures { λ r. ⌜ r ≡ rowFor (now (table .entry)) (now (rec .entry)) kind start ⌝ }

@@ -13,7 +13,8 @@ use lib.ListN.{length, getD}
 use Rattle.text.specs.Text.{part}
 use Rattle.compare.specs.Order.{order, above, same}
 use Rattle.rows.specs.Rows.{keyAt, lastOf}
-use Rattle.rows.specs.Search.{middle, bisect, upperBound, found}
+use Rattle.rows.specs.Search.{middle, bisect, upperBound, lastFound, found}
+use Rattle.rows.proofs.Force.{force-low}
 use Rattle.rows.proofs.Order.{first-below, first-above, first-same, above-yes, above-no}
 use Rattle.rows.proofs.Bisect.{bisect-fuel, bisect-end, bisect-to, bisect-low, bisect-high}
 
@@ -63,24 +64,24 @@ module _ (file want : List ℕ) where
           rw add-one
           (bisect-high (λ i. above (keyAt file i) want) low high h (above-no (keyAt file (middle low high)) want e))
 
-  pub found-none : upperBound file want ≤ 1 → found file want ≡ 0
-  unfolding found
-  found-none h = simp (le-ltb 1 (upperBound file want) h)
+  pub last-found-none : upperBound file want ≤ 1 → lastFound file want ≡ 0
+  unfolding lastFound
+  last-found-none h = simp (le-ltb 1 (upperBound file want) h)
 
   module _ (h : 1 < upperBound file want) where
-    pub found-row : order (keyAt file (upperBound file want - 1)) want ≡ 0 → found file want ≡ upperBound file want - 1
-    unfolding found
-    found-row e = simp (lt-ltb 1 (upperBound file want) h, e)
+    pub last-found-row : order (keyAt file (upperBound file want - 1)) want ≡ 0 → lastFound file want ≡ upperBound file want - 1
+    unfolding lastFound
+    last-found-row e = simp (lt-ltb 1 (upperBound file want) h, e)
 
-    pub found-other : (order (keyAt file (upperBound file want - 1)) want ≡ 0 → ⊥) → found file want ≡ 0
-    unfolding found
-    found-other n =
+    pub last-found-other : (order (keyAt file (upperBound file want - 1)) want ≡ 0 → ⊥) → lastFound file want ≡ 0
+    unfolding lastFound
+    last-found-other n =
         simp (lt-ltb 1 (upperBound file want) h, ne-eqb (order (keyAt file (upperBound file want - 1)) want) 0 n)
 
--- a row that is found stands before the trailer
-pub found-before : (file want : List ℕ) → found file want ≤ lastOf file - 1
-unfolding found
-found-before file want = by-range (leb 1 (lastOf file)) refl
+-- what the search gives stands before the trailer
+last-found-before : (file want : List ℕ) → lastFound file want ≤ lastOf file - 1
+unfolding lastFound
+last-found-before file want = by-range (leb 1 (lastOf file)) refl
   where
     end : ℕ
     end = upperBound file want
@@ -98,3 +99,7 @@ found-before file want = by-range (leb 1 (lastOf file)) refl
         let h = bisect-end (λ i. above (keyAt file i) want) (lastOf file) 1 (lastOf file)
         (omega (arith, leb-false 1 (lastOf file) e)) in
         by-tests (omega (arith, h)) (ltb 1 end && same (keyAt file (end - 1)) want)
+
+pub found-before : (file want : List ℕ) → found file want ≤ lastOf file - 1
+unfolding found
+found-before file want = omega (arith, force-low file (lastFound file want), last-found-before file want)

@@ -1,7 +1,7 @@
 -- The search by halves finds the last record that stands for a type and key.
 -- Assumes nothing.
 use Prim.Native.Nat.{ℕ, zero, suc, _+_, _-_, _≤_, _<_}
-use mathlib.Core.Path.{_≡_, refl, sym, subst, _∙_}
+use mathlib.Core.Path.{_≡_, refl, sym, ap, subst, _∙_}
 use mathlib.Core.Bool.{Bool, true, false, cond}
 use mathlib.Core.List.{List}
 use mathlib.Core.Logic.{⊎-elim}
@@ -10,11 +10,12 @@ use native.Mathlib.Nat.{le-refl, eq-or-lt-of-le}
 use borrow.Author.Tests.{ltb-true, ltb-false, eqb-true, eqb-false, ne-eqb}
 use lib.Dec.{ltb, eqb}
 use Rattle.compare.specs.Order.{order, same, above}
-use Rattle.rows.specs.Rows.{keyAt, lastOf, lastFrom, rowOf, KeysRise}
-use Rattle.rows.specs.Search.{upperBound, found}
+use Rattle.rows.specs.Rows.{keyAt, lastOf, lastFrom, lastRow, inForce, rowOf, KeysRise}
+use Rattle.rows.specs.Search.{upperBound, lastFound, found}
 use Rattle.rows.proofs.Order.{order-same, order-equal, below-above, order-bound, not-above, above-not, above-yes}
 use Rattle.rows.proofs.Bisect.{Least, Stays, bisect-end, bisect-least}
-use Rattle.rows.proofs.Keys.{found-none, found-row, found-other}
+use Rattle.rows.proofs.Force.{force-some}
+use Rattle.rows.proofs.Keys.{last-found-none, last-found-row, last-found-other}
 
 module _ (file want : List ℕ) where
   abbrev Other : ℕ → Type 0
@@ -120,7 +121,7 @@ module _ (file : List ℕ) (rise : KeysRise file) where
       (above-not (keyAt file i) (keyAt file j) want (eqb-true (order (keyAt file i) want) 2 e) (rises i j o h l))
 
 -- a number up to 2 that is neither 0 nor 2
-is-one : (n : ℕ) → (n ≡ 0 → ⊥) → (n ≡ 2 → ⊥) → n ≤ 2 → n ≡ 1
+pub is-one : (n : ℕ) → (n ≡ 0 → ⊥) → (n ≡ 2 → ⊥) → n ≤ 2 → n ≡ 1
 is-one n a b c = omega arith
 
 module _ (file want : List ℕ) (rise : KeysRise file) where
@@ -152,26 +153,26 @@ module _ (file want : List ℕ) (rise : KeysRise file) where
           by-test false q = behind-other j (ltb-false j u q) l
 
       by-key : (t : Bool) → same (keyAt file (u - 1)) want ≡ t
-          → found file want ≡ lastFrom file want (lastOf file - 1) 1
+          → lastFound file want ≡ lastFrom file want (lastOf file - 1) 1
       by-key true e =
           let here = eqb-true (order (keyAt file (u - 1)) want) 0 e in
-          found-row file want h here
+          last-found-row file want h here
           ∙ sym
           (last-at file want (u - 1) (omega arith) here (lastOf file - 1) 1 (omega arith) (omega (arith, least .to))
           (λ j a b. behind-other j (omega arith) (omega arith)))
       by-key false e =
           let n = eqb-false (order (keyAt file (u - 1)) want) 0 e in
-          found-other file want h n
+          last-found-other file want h n
           ∙ sym (last-none file want (lastOf file - 1) 1 (λ j a b. all-other n j a (omega arith)))
 
-    by-place : (t : Bool) → ltb 1 u ≡ t → found file want ≡ lastFrom file want (lastOf file - 1) 1
+    by-place : (t : Bool) → ltb 1 u ≡ t → lastFound file want ≡ lastFrom file want (lastOf file - 1) 1
     by-place true e = by-key (ltb-true 1 u e) (same (keyAt file (u - 1)) want) refl
     by-place false e =
         let h = ltb-false 1 u e in
-        found-none file want h
+        last-found-none file want h
         ∙ sym (last-none file want (lastOf file - 1) 1 (λ j a b. behind-other j (omega arith) (omega arith)))
 
-  by-size : (t : Bool) → ltb 0 (lastOf file) ≡ t → found file want ≡ lastFrom file want (lastOf file - 1) 1
+  by-size : (t : Bool) → ltb 0 (lastOf file) ≡ t → lastFound file want ≡ lastFrom file want (lastOf file - 1) 1
   by-size true e =
       let some = ltb-true 0 (lastOf file) e in
       let least = bisect-least ok (lastOf file) 1 (lastOf file) some (omega arith) (above-stays file rise want) in
@@ -179,31 +180,28 @@ module _ (file want : List ℕ) (rise : KeysRise file) where
   by-size false e =
       let none = ltb-false 0 (lastOf file) e in
       let one = bisect-end ok (lastOf file) 1 (lastOf file) (omega arith) in
-      found-none file want (omega arith)
+      last-found-none file want (omega arith)
       ∙ sym (last-none file want (lastOf file - 1) 1 (λ j a b. absurd (omega arith)))
 
--- where the keys never fall, the search by halves finds the record that the type and key find
-pub found-is-last : (file want : List ℕ) → KeysRise file → found file want ≡ rowOf file want
-unfolding rowOf
-found-is-last file want rise = by-size file want rise (ltb 0 (lastOf file)) refl
+-- where the keys never fall, the search by halves gives the last record that stands for the type and key
+last-found-is : (file want : List ℕ) → KeysRise file → lastFound file want ≡ lastRow file want
+unfolding lastRow
+last-found-is file want rise = by-size file want rise (ltb 0 (lastOf file)) refl
 
-module _ (file want : List ℕ) where
-  -- a record that is found stands between header and trailer and has the type and key
-  pub row-of-some : (p : ℕ) → rowOf file want ≡ suc p
-      → (1 ≤ suc p) × (suc p < lastOf file) × (keyAt file (suc p) ≡ want)
-  unfolding rowOf
-  row-of-some p e =
-      let r = last-some file want (lastOf file - 1) 1 p e in
-      (r .from, omega (arith, r .below), order-equal (keyAt file (suc p)) want (r .here))
+-- and so the row in force
+pub found-is-last : (file want : List ℕ) → KeysRise file → found file want ≡ rowOf file want
+unfolding found rowOf
+found-is-last file want rise = ap (inForce file) (last-found-is file want rise)
+
+module _ (file want : List ℕ) (p : ℕ) (e : rowOf file want ≡ suc p) where
+  stands : LastAt file want (lastOf file - 1) 1 (suc p)
+  unfolding rowOf lastRow
+  stands = last-some file want (lastOf file - 1) 1 p (force-some file (lastRow file want) p e)
+
+  -- a row in force stands between header and trailer and has the type and key
+  pub row-of-some : (1 ≤ suc p) × (suc p < lastOf file) × (keyAt file (suc p) ≡ want)
+  row-of-some = (stands .from, omega (arith, stands .below), order-equal (keyAt file (suc p)) want (stands .here))
 
   -- and it is the last that has them
-  pub row-of-last : (p : ℕ) → rowOf file want ≡ suc p
-      → (j : ℕ) → suc p < j → j < lastOf file → keyAt file j ≡ want → ⊥
-  unfolding rowOf
-  row-of-last p e j h l k =
-      last-some file want (lastOf file - 1) 1 p e .behind j h (omega arith) (rw k (order-same want))
-
-  pub row-of-none : rowOf file want ≡ 0 → (j : ℕ) → 1 ≤ j → j < lastOf file → keyAt file j ≡ want → ⊥
-  unfolding rowOf
-  row-of-none e j h l k =
-      last-all file want (lastOf file - 1) 1 (le-refl 1) e j h (omega arith) (rw k (order-same want))
+  pub row-of-last : (j : ℕ) → suc p < j → j < lastOf file → keyAt file j ≡ want → ⊥
+  row-of-last j h l k = stands .behind j h (omega arith) (rw k (order-same want))

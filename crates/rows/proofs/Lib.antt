@@ -1,4 +1,5 @@
 pub mod Order
 pub mod Bisect
+pub mod Force
 pub mod Keys
 pub mod Last

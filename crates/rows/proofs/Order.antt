@@ -1,6 +1,6 @@
 -- Laws of bytes compared: an order of all lists of bytes.
 -- Assumes nothing.
-use Prim.Native.Nat.{ℕ, _≤_, _<_}
+use Prim.Native.Nat.{ℕ, zero, suc, _≤_, _<_}
 use mathlib.Core.Path.{_≡_, refl, sym, ap₂, _∙_}
 use mathlib.Core.Bool.{Bool, true, false}
 use mathlib.Core.List.{List, [], _∷_}
@@ -8,6 +8,7 @@ use native.Mathlib.Omega.{arith}
 use native.Mathlib.Nat.{le-of-lt, le-of-eq, le-antisymm}
 use borrow.Author.Tests.{lt-ltb, le-ltb, ltb-true, ltb-false, eq-eqb, ne-eqb, eqb-true, eqb-false}
 use lib.Dec.{ltb, eqb}
+use lib.ListN.{take}
 use Rattle.compare.specs.Order.{order, above}
 
 -- the three ways in which two bytes stand
@@ -63,6 +64,21 @@ above-below (x ∷ a) (y ∷ b) h =
     (λ l. absurd (omega (arith, first-below x y a b l)))
     (λ e. first-same y x b a (sym e) ∙ above-below a b (sym (first-same x y a b e) ∙ h))
     (λ g. first-below y x b a g)
+
+-- what is below by its front is below by a longer one
+pub front-below : (m n : ℕ) (a b : List ℕ) → m ≤ n → order (take m a) (take m b) ≡ 1 → order (take n a) (take n b) ≡ 1
+front-below zero n a b h e = absurd (omega arith)
+front-below (suc m) zero a b h e = absurd (omega arith)
+front-below (suc m) (suc n) [] [] h e = absurd (omega arith)
+front-below (suc m) (suc n) [] (y ∷ b) h e = refl
+front-below (suc m) (suc n) (x ∷ a) [] h e = absurd (omega arith)
+front-below (suc m) (suc n) (x ∷ a) (y ∷ b) h e =
+    by-bytes x y
+    (λ l. first-below x y (take n a) (take n b) l)
+    (λ q.
+    first-same x y (take n a) (take n b) q
+    ∙ front-below m n a b (omega arith) (sym (first-same x y (take m a) (take m b) q) ∙ e))
+    (λ g. absurd (omega (arith, first-above x y (take m a) (take m b) g)))
 
 pub order-bound : (a b : List ℕ) → order a b ≤ 2
 order-bound [] [] = omega arith

@@ -5,7 +5,7 @@ use mathlib.Core.Bool.{Bool, cond, _&&_}
 use mathlib.Core.List.{List}
 use lib.Dec.{ltb}
 use Rattle.compare.specs.Order.{above, same}
-use Rattle.rows.specs.Rows.{keyAt, lastOf}
+use Rattle.rows.specs.Rows.{keyAt, lastOf, inForce}
 
 abbrev pub middle : ℕ → ℕ → ℕ
 middle low high = low + (high - low) / 2
@@ -23,8 +23,12 @@ abbrev pub upperBound : List ℕ → List ℕ → ℕ
 upperBound file want = bisect (λ i. above (keyAt file i) want) (lastOf file) 1 (lastOf file)
 
 -- the record before that, where it has the wanted key; 0 where it has not
-unfoldable pub found : List ℕ → List ℕ → ℕ
-found file want =
+unfoldable pub lastFound : List ℕ → List ℕ → ℕ
+lastFound file want =
     cond (ltb 1 (upperBound file want) && same (keyAt file (upperBound file want - 1)) want)
     (upperBound file want - 1)
     0
+
+-- that record, where it is in force
+unfoldable pub found : List ℕ → List ℕ → ℕ
+found file want = inForce file (lastFound file want)

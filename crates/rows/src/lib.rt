@@ -1,11 +1,11 @@
-// A row of a table file by its type and key: a search by halves. Any bytes may be asked; where the keys never fall, the
-// answer is the last record that stands for the type and key.
+// The row in force of a table file for a type and key: a search by halves. Any bytes may be asked; where the keys never
+// fall, the search gives the last record that stands for the type and key.
 use record::Table;
 ghost use mathlib.Core.Path.{_≡_};
 ghost use mathlib.Core.List.{_∷_};
 ghost use Rattle.compare.specs.Order.{order};
-ghost use Rattle.rows.specs.Rows.{keyAt, lastOf};
-ghost use Rattle.rows.specs.Search.{upperBound, found};
+ghost use Rattle.rows.specs.Rows.{keyAt, lastOf, inForce};
+ghost use Rattle.rows.specs.Search.{upperBound, lastFound, found};
 
 // The trailer's place; 0 where the file has no records.
 pub fn last_of(table: &[u8]) -> usize
@@ -51,9 +51,9 @@ fn upper_bound(table: &[u8], kind: u8, key: &[u8]) -> usize
     low
 }
 
-// The row that a type and key find, counted from the header, which is 0; 0 where there is none.
-pub fn find_row(table: &[u8], kind: u8, key: &[u8]) -> usize
-    ensures { λ r. ⌜ r ≡ found (now (table .entry)) (kind ∷ now (key .entry)) ⌝ }
+// The last record that stands for a type and key, counted from the header, which is 0; 0 where there is none.
+fn last_row(table: &[u8], kind: u8, key: &[u8]) -> usize
+    ensures { λ r. ⌜ r ≡ lastFound (now (table .entry)) (kind ∷ now (key .entry)) ⌝ }
 {
     let end = upper_bound(table, kind, key);
     if end <= 1 {
@@ -65,4 +65,23 @@ pub fn find_row(table: &[u8], kind: u8, key: &[u8]) -> usize
     } else {
         0
     }
+}
+
+// The record itself, or 0 where its letter says that it is not in force.
+pub fn in_force(table: &[u8], row: usize) -> usize
+    ensures { λ r. ⌜ r ≡ inForce (now (table .entry)) row ⌝ }
+{
+    let letter = record::byte_of(record::table_record(table, row), Table::LETTER);
+    if (letter == b'B') | (letter == b'D') {
+        0
+    } else {
+        row
+    }
+}
+
+// The row in force for a type and key; 0 where none is.
+pub fn find_row(table: &[u8], kind: u8, key: &[u8]) -> usize
+    ensures { λ r. ⌜ r ≡ found (now (table .entry)) (kind ∷ now (key .entry)) ⌝ }
+{
+    in_force(table, last_row(table, kind, key))
 }

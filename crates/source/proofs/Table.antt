@@ -1,4 +1,4 @@
--- In an accepted table file the keys rise, so that the search by halves finds the row that the definition names.
+-- In an accepted table file the keys never fall, so that the search by halves finds the row that the definition names.
 -- Assumes nothing.
 use Prim.Native.Nat.{ℕ, suc, _-_, _≤_, _<_}
 use mathlib.Core.Path.{_≡_}
@@ -7,11 +7,14 @@ use mathlib.Core.List.{List}
 use native.Mathlib.Omega.{arith}
 use borrow.Author.Tests.{ne-eqb, eqb-true}
 use lib.Dec.{eqb}
+use Rattle.text.specs.Text.{part}
+use Rattle.record.specs.Parts.{recordAt}
+use Rattle.compare.specs.Order.{order}
 use Rattle.files.specs.Formats.{tableFormat}
 use Rattle.files.proofs.Accepted.{Accepted}
 use Rattle.rows.specs.Rows.{keyAt, lastOf, rowOf, KeysRise}
 use Rattle.rows.specs.Search.{found}
-use Rattle.rows.proofs.Order.{above-below}
+use Rattle.rows.proofs.Order.{above-below, front-below}
 use Rattle.rows.proofs.Last.{found-is-last}
 
 pub keys-rise : (table : List ℕ) → Accepted tableFormat table → KeysRise table
@@ -23,7 +26,10 @@ keys-rise table a =
           let later : eqb (suc i) 1 ≡ false = ne-eqb (suc i) 1 (λ z. omega arith) in
           let back : suc i - 1 ≡ i = omega arith in
           let up = rw (later, back) at (fine .rising) in
-          omega (arith, above-below (keyAt table (suc i)) (keyAt table i) (eqb-true _ 2 up), e);
+          let next = recordAt 169 table (suc i) in
+          let this = recordAt 169 table i in
+          let down = above-below (keyAt table i) (keyAt table (suc i)) e in
+          omega (arith, front-below 9 24 next this (omega arith) down, eqb-true (order (part next 0 24) (part this 0 24)) 2 up);
     }
 
 pub found-row : (table want : List ℕ) → Accepted tableFormat table → found table want ≡ rowOf table want

@@ -1,4 +1,4 @@
--- The rows of a table file, and which row a key finds.
+-- The rows in force of a table file, and which of them a key finds.
 -- Assumes nothing.
 use Prim.Native.Nat.{ℕ, zero, suc, _+_, _-_, _/_, _%_, _^_}
 use mathlib.Core.Bool.{cond}
@@ -9,7 +9,7 @@ use lib.ListN.{getD}
 use Rattle.text.specs.Digits.{value}
 use Rattle.text.specs.Text.{part, textIn}
 use Rattle.record.specs.Parts.{recordAt}
-use Rattle.rows.specs.Rows.{lastOf, rowOf}
+use Rattle.rows.specs.Rows.{keyAt, lastOf, rowOf}
 use Rattle.address.specs.Address.{Row, Lookup}
 
 -- a number as so many digits
@@ -40,15 +40,17 @@ rowAt table i =
 
 abbrev pub rowsFrom : List ℕ → ℕ → ℕ → List Row
 rowsFrom table zero i = []
-rowsFrom table (suc k) i = rowAt table i ∷ rowsFrom table k (suc i)
+rowsFrom table (suc k) i =
+    cond (eqb (rowOf table (keyAt table i)) i) (rowAt table i ∷ rowsFrom table k (suc i)) (rowsFrom table k (suc i))
 
--- the rows between header and trailer
+-- the rows between header and trailer that are in force for their own type and key
 unfoldable pub rowsIn : List ℕ → List Row
 rowsIn table = rowsFrom table (lastOf table - 1) 1
 
--- which row a key finds: the texts of the last record that stands for its kind and key. This is the one place that says so.
+-- the texts of a record, none where its place is 0
 abbrev pub textsAt : List ℕ → ℕ → Option (List (List ℕ))
 textsAt table place = cond (eqb place 0) none (some (textsOf (recordAt 169 table place)))
 
+-- what a kind and a key find: the texts of the row in force for them, none where none is in force
 unfoldable pub tableLookup : List ℕ → Lookup
 tableLookup table kind key = textsAt table (rowOf table ((48 + kind) ∷ digitsOf 8 key))

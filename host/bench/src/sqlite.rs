@@ -70,13 +70,14 @@ fn script(pair: &Pair) -> String {
     script + "COMMIT;\nVACUUM;\n"
 }
 
+/// Of two rows for a key the last stays.
 fn put_row(script: &mut String, row: &TableRow) {
     let mut texts: Vec<String> = row.texts.iter().map(|text| quoted(text)).collect();
     texts.resize(3, "NULL".to_string());
     let texts = texts.join(", ");
     let _ = writeln!(
         script,
-        "INSERT INTO row VALUES ({}, {}, {texts});",
+        "INSERT OR REPLACE INTO row VALUES ({}, {}, {texts});",
         row.row_type, row.key
     );
 }

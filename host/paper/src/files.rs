@@ -1,4 +1,5 @@
-//! Document 01, "Record layouts", "Sequence" and "Followers": a file is
+//! Document 01, "Record layouts", "Sequence" (as document 02, No. 3, has it)
+//! and "Followers": a file is
 //! accepted, or the first refusal in the order 1, 2, 3, then record by record
 //! 4, 5, 6.
 
@@ -167,23 +168,31 @@ impl<'a> TableFile<'a> {
         record_at(self.file, &TABLE, number)
     }
 
-    /// The number of the row for a type and a key: the last record that stands
-    /// for them, looked for by halving, since the records rise.
+    /// The number of the row in force for a type and a key: the last record
+    /// that stands for them. Where its letter is B or D, none is in force.
     pub fn row(self, row_type: u8, key: &[u8]) -> Option<usize> {
+        let last = self.last_row(row_type, key)?;
+        let letter = self.record(last)[table::LETTER.start];
+        (!matches!(letter, b'B' | b'D')).then_some(last)
+    }
+
+    /// The last record for a type and a key, looked for by halving, since the
+    /// records rise.
+    fn last_row(self, row_type: u8, key: &[u8]) -> Option<usize> {
         let mut wanted = [b'0' + row_type; 9];
         wanted[table::KEY].copy_from_slice(key);
         let mut first_above = 2;
         let mut end = self.records;
         while first_above < end {
             let middle = first_above + (end - first_above) / 2;
-            if self.record(middle)[TABLE.sequence] <= wanted[..] {
+            if self.record(middle)[table::NAME] <= wanted[..] {
                 first_above = middle + 1;
             } else {
                 end = middle;
             }
         }
         let last = first_above - 1;
-        let found = last >= 2 && self.record(last)[TABLE.sequence] == wanted[..];
+        let found = last >= 2 && self.record(last)[table::NAME] == wanted[..];
         found.then_some(last)
     }
 

@@ -44,7 +44,7 @@ pub const TABLE: FileRules = FileRules {
     file_identifier: 9..17,
     name: b"CHANGES1",
     count: 9..17,
-    sequence: 0..9,
+    sequence: 0..24,
 };
 
 /// The point file, Changes2.
@@ -67,6 +67,9 @@ pub mod table {
     pub const DATE: Field = 9..17;
     pub const TIME: Field = 17..23;
     pub const LETTER: Field = 23..24;
+
+    /// What a row stands for: its type and key.
+    pub const NAME: Field = 0..9;
 
     /// Type 1, locality, behind a filler of 45.
     pub const POST_TOWN: Field = 69..99;

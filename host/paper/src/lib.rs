@@ -40,7 +40,7 @@
 //! | Letters of ANA codes such as W1P? | the last is the second letter | "counting only the letters" |
 //! | A record or a field of another length handed to a test? | fault at byte 1; digits and texts have any length, and an empty text is blank | a test has to answer for every input |
 //! | A trailer count that isn't digits? | 3 | it isn't the number of records |
-//! | Does a table row's letter matter, as D? | no | a key refers to its row; document 02 changes this |
+//! | Does a table row's letter matter, as D? | in the last row for a key: with B or D none is in force | document 02, A key that comes twice |
 //! | Labels of views that aren't live? | printed | document 01's run prints a D view's answer |
 //! | Concatenation Y with a building name, or without sub building? | no effect | the premises table names it only for s n |
 //! | A department without organisation, in a large user's record? | printed on its own line | absent lines are left out one by one |

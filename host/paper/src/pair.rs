@@ -9,7 +9,7 @@ use crate::label::{label_bytes, lend, Elements};
 use crate::layout::point;
 use crate::refusal::Refusal;
 
-/// The row that each of a view's keys names, as a record number of the table
+/// The row in force that each of a view's keys names, as a record number of the table
 /// file; none where the key is zero.
 pub(crate) type Rows = [Option<usize>; KEYS.len()];
 
@@ -47,8 +47,8 @@ pub(crate) fn view_label(table: TableFile, view: &View) -> Result<Vec<u8>, Refus
     Ok(label_bytes(&elements_of(table, view, &rows)))
 }
 
-/// The rows that a view refers to. Refused with 8 where rule 8 forbids what
-/// the view has together; with 9 where a key that isn't zero has no row, or the
+/// The rows in force that a view refers to. Refused with 8 where rule 8 forbids
+/// what the view has together; with 9 where a key that isn't zero has none, or the
 /// locality key is zero (it is looked for all the same: no row has key zero).
 pub(crate) fn rows_of(table: TableFile, view: &View) -> Result<Rows, Refusal> {
     let present = KEYS.map(|key| value(&view.record[key]) > 0);

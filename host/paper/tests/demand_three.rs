@@ -23,6 +23,8 @@ struct Seen {
     missing: [usize; 8],
     labels: usize,
     refused_labels: usize,
+    respelt: usize,
+    ended: usize,
 }
 
 /// The live views of a code with their numbers.
@@ -210,11 +212,16 @@ fn check_pack(rng: &Rng, pair: &Pair, code: &[u8], expected: &[u8], seen: &mut S
 }
 
 fn check_code(rng: &Rng, pair: &Pair, code: &[u8], seen: &mut Seen) {
-    let rows: BTreeMap<(u8, u32), &TableRow> = pair
+    // of two rows for a key the map keeps the last
+    let mut rows: BTreeMap<(u8, u32), &TableRow> = pair
         .rows
         .iter()
         .map(|row| ((row.row_type, row.key), row))
         .collect();
+    seen.respelt += pair.rows.len() - rows.len();
+    let keys = rows.len();
+    rows.retain(|_, row| row.is_in_force());
+    seen.ended += keys - rows.len();
     let views = packed(pair, code);
     let refused = views
         .iter()
@@ -266,6 +273,7 @@ fn packs_answer_what_their_files_answer() {
     println!("{seen:?}");
     assert!(seen.packs > 4_000 && seen.empty_packs > 100 && seen.points > 4_000);
     assert!(seen.organisation_rows > 1_000);
+    assert!(seen.respelt > 1_000 && seen.ended > 1_000);
     assert!(seen.forbidden[1..].iter().all(|count| *count > 0));
     assert!(seen.missing[1..].iter().all(|count| *count > 0));
     assert!(seen.labels > 10_000 && seen.refused_labels > 10_000);

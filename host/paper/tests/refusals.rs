@@ -199,9 +199,30 @@ fn files_are_refused_in_the_order_1_2_3_then_record_by_record() {
 }
 
 #[test]
-fn a_key_stands_once_in_its_type() {
+fn a_table_record_is_above_the_one_before_by_24_bytes() {
     let rows = [TableRow::building(9, "A"), TableRow::building(9, "B")];
     assert_eq!(check_table(&table_file(&rows)), Err(refusal(5, 1, 3)));
+    let [first, second] = rows;
+    let later = [
+        TableRow {
+            date: 1,
+            ..second.clone()
+        },
+        TableRow {
+            time: 1,
+            ..second.clone()
+        },
+        TableRow {
+            letter: b'C',
+            ..second
+        },
+    ];
+    for row in later {
+        let rows = [first.clone(), row];
+        assert_eq!(check_table(&table_file(&rows)), Ok(4));
+        let rows = [rows[1].clone(), rows[0].clone()];
+        assert_eq!(check_table(&table_file(&rows)), Err(refusal(5, 1, 3)));
+    }
     let rows = [TableRow::building(9, "A"), TableRow::sub_building(9, "B")];
     assert_eq!(check_table(&table_file(&rows)), Ok(4));
     let rows = [TableRow::building(9, "A"), TableRow::thoroughfare(10, "B")];

@@ -1,5 +1,5 @@
 //! Document 02, No. 13: rows that no view refers to change no label, no pack
-//! and no refusal.
+//! and no refusal; nor do rows that are not in force (No. 3).
 
 use paper::make::{self, Pair, Rng, TableRow, View};
 use trials::packs::codes;
@@ -31,6 +31,15 @@ fn bare(pair: &Pair) -> Vec<TableRow> {
     let used = used(&pair.views);
     let mut rows = pair.rows.clone();
     rows.retain(|row| used.contains(&(row.row_type, row.key)));
+    rows
+}
+
+/// The rows in force: of each key the last, unless its letter says that none is.
+fn in_force(pair: &Pair) -> Vec<TableRow> {
+    let mut rows = pair.rows.clone();
+    rows.reverse();
+    rows.dedup_by_key(|row| (row.row_type, row.key));
+    rows.retain(TableRow::is_in_force);
     rows
 }
 
@@ -100,7 +109,7 @@ impl Given {
 #[test]
 fn rows_taken_away_and_put_in_change_nothing() {
     let mut rng = Rng::new(13);
-    let (mut given, mut fewer, mut more) = (Given::default(), 0, 0);
+    let (mut given, mut fewer, mut more, mut shorter) = (Given::default(), 0, 0, 0);
     for _ in 0..300 {
         let pair = make::pair(&mut rng, 60);
         let (bare, crowded) = (table_of(bare(&pair)), table_of(crowded(&pair)));
@@ -108,8 +117,11 @@ fn rows_taken_away_and_put_in_change_nothing() {
         more += usize::from(crowded.len() > pair.table.len());
         given.compare(&pair, &bare);
         given.compare(&pair, &crowded);
+        let last = table_of(in_force(&pair));
+        shorter += usize::from(last.len() < pair.table.len());
+        given.compare(&pair, &last);
     }
     println!("{given:?}, {fewer} with fewer rows, {more} with more");
     assert!(given.labels > 1000 && given.packs > 100 && given.refusals > 100);
-    assert!(fewer > 50 && more > 50);
+    assert!(fewer > 50 && more > 50 && shorter > 50);
 }

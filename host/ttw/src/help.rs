@@ -86,15 +86,17 @@ const REFUSALS: &str = "\
  2  its header is malformed
  3  its trailer is malformed, or has another count
  4  a record is malformed; the byte is counted from the first of the record
- 5  a record is not above the record before it
+ 5  a record is not above the record before it: by its first 24 bytes in a table
+    file, by its first 42 in a point file
  6  a record lacks its organisation record, or is a stray one
  7  no view or point of that number
  8  a forbidden combination: 1 sub building without building name or number,
     2 dependent thoroughfare without thoroughfare, 3 descriptor without its
     thoroughfare
- 9  a key has no row in the table file, or the locality's key is zero: 1 locality,
-    2 thoroughfare, 3 descriptor, 4 dependent thoroughfare, 5 its descriptor,
-    6 building name, 7 sub building
+ 9  a key has no row in force in the table file (none at all, or the last one has
+    the letter B or D), or the locality's key is zero: 1 locality, 2 thoroughfare,
+    3 descriptor, 4 dependent thoroughfare, 5 its descriptor, 6 building name,
+    7 sub building
 10  the room is too short
 11  a pack is damaged: 1 its end, 2 its rows, 3 its points
 12  not an outward code

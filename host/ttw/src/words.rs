@@ -53,7 +53,10 @@ fn forbidden(rule: u64) -> &'static str {
 /// The key that finds nothing.
 fn missing(field: u64) -> String {
     let name = match field {
-        1 => return "the locality's key is zero or has no row in the table file".to_string(),
+        1 => {
+            return "the locality's key is zero or has no row in force in the table file"
+                .to_string()
+        }
         2 => "thoroughfare",
         3 => "descriptor",
         4 => "dependent thoroughfare",
@@ -61,7 +64,7 @@ fn missing(field: u64) -> String {
         6 => "building name",
         _ => "sub building",
     };
-    format!("the {name}'s key has no row in the table file")
+    format!("the {name}'s key has no row in force in the table file")
 }
 
 /// The step of the pack check that fails.

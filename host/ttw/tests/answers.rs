@@ -67,7 +67,8 @@ fn a_list_goes_on_after_a_refused_label() {
     let pair = worked_pair();
     let folder = Folder::with_pair(&pair);
     let run = folder.ttw(&["labels", "changes1", "changes2"]);
-    let reason = "the building name's key has no row in the table file (refusal 9, field 6)";
+    let reason =
+        "the building name's key has no row in force in the table file (refusal 9, field 6)";
     let label = plain_label(&pair, 1);
     let out = format!("view 1 I\n{label}view 2 D\nrefused: view 2: {reason}\n");
     assert_eq!((run.status, run.out), (Some(1), out));
@@ -165,7 +166,7 @@ fn a_run_longer_than_its_room_goes_on_and_ends_at_a_refused_label() {
     assert!(expected.len() > 499 * 512, "{}", expected.len());
     assert!(many.out == expected);
     let told =
-        "view 18000: the building name's key has no row in the table file (refusal 9, field 6)\n";
+        "view 18000: the building name's key has no row in force in the table file (refusal 9, field 6)\n";
     assert_eq!((many.status, many.told.as_str()), (Some(1), told));
     let behind = folder.ttw(&[&files[..], &["18001", "--count", "2"]].concat());
     assert_eq!((behind.status, behind.out.as_str()), (Some(1), ""));

@@ -328,7 +328,8 @@ fn a_refused_code_does_not_stop_the_others_and_keeps_its_older_pack() {
     let folder = Folder::with_pair(&pair_with_one_bad_code());
     folder.put("A5.pack", b"older");
     let run = folder.ttw(&["pack", "changes1", "changes2", "--all", "--out", "."]);
-    let reason = "the building name's key has no row in the table file (refusal 9, field 6)";
+    let reason =
+        "the building name's key has no row in force in the table file (refusal 9, field 6)";
     let told = format!("code A5: view 5: {reason}\npacks written: 8, codes refused: 1");
     run.only_tells(1, &told);
     assert_eq!(folder.read("A5.pack"), b"older");

@@ -253,13 +253,26 @@ pub fn damaged_table(rng: &mut Rng, number: u8, place: Place) -> Option<Damaged>
                 refusal: Refusal::malformed(1, at, byte),
             });
         }
-        (5, _) => records[at - 2] = records[rng.below(at - 2)].clone(),
+        (5, _) => records[at - 2] = not_above(rng, &records[..at - 2]),
         _ => return None,
     }
     Some(Damaged {
         file: table_file_of(&records),
         refusal: Refusal::of_file(1, number, at as u64),
     })
+}
+
+/// A table record that is not above the last of these: one of them, or the last
+/// in other words with the same first 24 bytes or a lower letter.
+fn not_above(rng: &mut Rng, before: &[Vec<u8>]) -> Vec<u8> {
+    let mut record = before[before.len() - 1].clone();
+    let text = if record[0] == b'1' { 69 } else { 24 };
+    match rng.below(3) {
+        0 => return rng.pick(before).clone(),
+        1 => record[text] = b'X',
+        _ => record[23] = b' ',
+    }
+    record
 }
 
 /// A point file that has to give this refusal (1 to 6) at that place; none

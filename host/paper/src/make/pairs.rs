@@ -13,11 +13,10 @@ pub struct Pair {
 
 impl Pair {
     /// The pair of these rows and views, brought into file order. Of rows with
-    /// the same type and key, and of views with the same first 41 bytes, one is
-    /// kept.
+    /// the same first 24 bytes, and of views with the same first 41, one is kept.
     pub fn new(mut rows: Vec<TableRow>, mut views: Vec<View>) -> Pair {
-        rows.sort_by_key(|row| (row.row_type, row.key));
-        rows.dedup_by_key(|row| (row.row_type, row.key));
+        rows.sort_by_key(TableRow::sequence);
+        rows.dedup_by_key(|row| row.sequence());
         views.sort_by_cached_key(sequence);
         views.dedup_by_key(|view| sequence(view));
         let table = table_file(&rows);
@@ -62,8 +61,8 @@ pub fn worked_pair() -> Pair {
 }
 
 /// A random accepted pair of at most so many records a file (at least 2).
-/// About half of the pairs have views with missing keys and forbidden
-/// combinations.
+/// Some keys come twice. About half of the pairs have views with missing keys
+/// and forbidden combinations.
 pub fn pair(rng: &mut Rng, most_records: usize) -> Pair {
     let room = most_records.saturating_sub(2);
     let row_count = rng.below(room + 1);
@@ -74,8 +73,9 @@ pub fn pair(rng: &mut Rng, most_records: usize) -> Pair {
         add_one_of_each(rng, &mut rows);
         rows.truncate(room);
     }
-    let codes: Vec<String> = (0..1 + rng.below(4)).map(|_| text(outward(rng))).collect();
     let one_fault_in = *rng.pick(&[0, 0, 2, 10]);
+    add_histories(rng, &mut rows, room, one_fault_in > 0);
+    let codes: Vec<String> = (0..1 + rng.below(4)).map(|_| text(outward(rng))).collect();
     let views = (0..view_count)
         .map(|_| View {
             outward: rng.pick(&codes).clone(),
@@ -142,8 +142,67 @@ fn row_of(rng: &mut Rng, row_type: u8, key: u32) -> TableRow {
     TableRow {
         date: rng.within(0, 99_999_999),
         time: rng.within(0, 999_999),
-        letter: *rng.pick(b"BCDI "),
+        letter: *rng.pick(b"CI "),
         ..row
+    }
+}
+
+/// Gives some rows a history, while there is room.
+fn add_histories(rng: &mut Rng, rows: &mut Vec<TableRow>, room: usize, may_end: bool) {
+    for index in 0..rows.len() {
+        if rows.len() < room && rng.one_in(3) {
+            let row = rows[index].clone();
+            rows.push(again(rng, &row, may_end));
+        }
+    }
+}
+
+/// Another row for the key of a row, in other words. It leaves the key without a
+/// row in force only where keys may end.
+fn again(rng: &mut Rng, row: &TableRow, may_end: bool) -> TableRow {
+    let other = row_of(rng, row.row_type, row.key);
+    match rng.below(if may_end { 5 } else { 4 }) {
+        // inserted, then respelt
+        0 => TableRow {
+            letter: b'I',
+            ..before(rng, row, other)
+        },
+        // deleted, then inserted again
+        1 => TableRow {
+            letter: b'D',
+            ..before(rng, row, other)
+        },
+        // before and after a change, at one time
+        2 if row.letter != b' ' => TableRow {
+            date: row.date,
+            time: row.time,
+            letter: b'B',
+            ..other
+        },
+        // whichever is the later
+        2 | 3 => other,
+        // inserted, then deleted
+        _ => TableRow {
+            date: 99_999_999,
+            letter: *rng.pick(b"BD"),
+            ..other
+        },
+    }
+}
+
+/// A row at an earlier time than another, on the same day where there is one.
+fn before(rng: &mut Rng, row: &TableRow, other: TableRow) -> TableRow {
+    if row.time > 0 && rng.one_in(2) {
+        TableRow {
+            date: row.date,
+            time: row.time - 1,
+            ..other
+        }
+    } else {
+        TableRow {
+            date: row.date.saturating_sub(1),
+            ..other
+        }
     }
 }
 

@@ -43,6 +43,16 @@ impl TableRow {
         TableRow::new(5, key, &[text])
     }
 
+    /// What the sequence of a table file is over: type, key, date, time, letter.
+    pub fn sequence(&self) -> (u8, u32, u32, u32, u8) {
+        (self.row_type, self.key, self.date, self.time, self.letter)
+    }
+
+    /// Whether the row is in force where it is the last for its key.
+    pub fn is_in_force(&self) -> bool {
+        self.letter != b'B' && self.letter != b'D'
+    }
+
     /// The record, 169 bytes.
     pub fn record(&self) -> Vec<u8> {
         let mut record = Record::default();

@@ -162,7 +162,7 @@ fn the_largest_table_names_the_record_that_does_not_rise() {
     for number in [3, 9_999, 19_999] {
         let mut file = pair.table.clone();
         let before = record_of(&TABLE, &mut file, number - 1).to_vec();
-        record_of(&TABLE, &mut file, number)[..9].copy_from_slice(&before[..9]);
+        record_of(&TABLE, &mut file, number)[..24].copy_from_slice(&before[..24]);
         let changed_type = before[0] != pair.table[(number - 1) * TABLE.record];
         assert!(!changed_type, "the texts behind the key stay well formed");
         TABLE.assert_refused(&file, 5, number);
