@@ -5,3 +5,4 @@ pub mod Three
 pub mod Unused
 pub mod Run
 pub mod Runs
+pub mod Apart

@@ -1,9 +1,13 @@
 -- Runs of labels: what a contract allows, and a pack beside its files (document 02, No. 2).
 -- Assumes nothing.
-use Prim.Native.Nat.{ℕ}
+use Prim.Native.Nat.{ℕ, _≤_}
 use mathlib.Core.Path.{_≡_}
+use mathlib.Core.Logic.{_⊎_}
 use mathlib.Core.List.{List}
+use Rattle.refusal.specs.declared.Reason.{Reason}
+use Rattle.refusal.specs.Refusal.{number}
 use Rattle.series.specs.declared.Series.{Series}
+use Rattle.series.specs.declared.Series.the-variants.{Unasked, Stopped, Done}
 use Rattle.series.specs.Packed.{packedSeries, seriesBytes}
 use Rattle.runs.specs.Runs.{viewSeries, viewsMemory, codeSeries, codesMemory}
 use Rattle.pack_runs.specs.Runs.{packSeries, packsMemory}
@@ -13,6 +17,19 @@ pub record AllowsRun (series : Series) (memory : List ℕ) (before r : ℕ) (exi
   pub answer-is : r ≡ packedSeries series
   pub memory-is : exit ≡ memory
   pub bytes-are : bytes ≡ seriesBytes series before
+
+-- a label's own refusal, and one of the whole
+abbrev pub OfLabel : Reason → Type 0
+OfLabel why = (7 ≤ number why) × (number why ≤ 10)
+
+abbrev pub OfWhole : Reason → Type 0
+OfWhole why = (number why ≤ 6) ⊎ (11 ≤ number why)
+
+-- "reports .. that label's own refusal. Only a refused file, pack or code refuses the whole": which it is, the number tells
+abbrev pub ToldApart : Series → Type 0
+ToldApart (Unasked file why) = OfWhole why
+ToldApart (Stopped labels bytes why) = OfLabel why
+ToldApart (Done labels bytes) = Unit {0}
 
 -- the exported runs, each with its arguments
 pub data Run : Type 0 where
