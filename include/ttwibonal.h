@@ -6,7 +6,7 @@
  * slices that it only reads, asks the system for memory, or opens a file. What a call writes (`out`, `*bytes`) may overlap
  * nothing else that it is lent.
  *
- * Stack: a call on files takes less than 1,024 bytes, labels from files less than 4,096, opening a pack or labels from a
+ * Stack: a call on files takes less than 2,048 bytes, labels from files less than 4,096, opening a pack or labels from a
  * pack less than 80 KiB, building a pack less than 192 KiB. A thread that is to build needs its stack sized for that.
  *
  * Each call answers one number. Take it apart with the macros below and never compare whole words: later calls fill bits

@@ -11,7 +11,7 @@ use Rattle.refusal.specs.Packed.{packed}
 use Rattle.refusal.specs.declared.Reason.{Reason}
 use Rattle.refusal.specs.declared.Answer.the-variants.{Value, Refused}
 use Rattle.compare.specs.Order.{order}
-use Rattle.rows.proofs.Order.{order-same}
+use Rattle.compare.proofs.Order.{order-same}
 use Rattle.layout.specs.Points.{packAnswer, packMemory}
 use Rattle.pair.specs.Pair.{codeAnswer, codeMemory}
 use Rattle.build.specs.Build.{buildAnswer, buildMemory}

@@ -11,7 +11,7 @@ use lib.ListN.{length, getD}
 use Rattle.text.specs.Test.{elem}
 use Rattle.text.specs.Text.{textFault, trim, textIn}
 use Rattle.compare.specs.Order.{same}
-use Rattle.rows.proofs.Order.{order-same}
+use Rattle.compare.proofs.Order.{order-same}
 use Rattle.postcode.specs.Inward.{inwardFault}
 use Rattle.address.specs.Address.{Lookup, Organisation, none-needed, named, lacking, Address}
 use Rattle.address.specs.Resolve.{forbidden, nameOf, elementsOf}

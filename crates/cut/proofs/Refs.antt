@@ -21,7 +21,7 @@ use Rattle.faults.specs.Table.{tableFault}
 use Rattle.files.specs.Formats.{tableFormat}
 use Rattle.files.proofs.Accepted.{Accepted}
 use Rattle.rows.specs.Rows.{keyAt, lastOf, rowOf}
-use Rattle.rows.proofs.Order.{order-equal, order-bound, below-above}
+use Rattle.compare.proofs.Order.{order-equal, order-bound, below-above}
 use Rattle.rows.proofs.Last.{is-one, rises, row-of-last}
 use Rattle.source.specs.Rows.{digitsOf, textsOf, textsAt, tableLookup}
 use Rattle.source.proofs.Digits.{digits-again}

@@ -42,7 +42,7 @@ pub record FineRecord (f : Format) (file : List ℕ) (i : ℕ) : Type 0 where
   pub rising : rises f file i ≡ true
   pub in-place : f .between (at f file (i - 1)) (at f file i) (at f file (i + 1)) ≡ true
 
-judged-record : (f : Format) (file : List ℕ) (i : ℕ) → judged f file i ≡ Fine → FineRecord f file i
+pub judged-record : (f : Format) (file : List ℕ) (i : ℕ) → judged f file i ≡ Fine → FineRecord f file i
 unfolding judged
 judged-record f file i e =
     by-tests (eqb (f .fault (at f file i)) 0) (rises f file i)

@@ -1,10 +1,12 @@
 // Whether a field is well formed: what is tested alike in every record.
 // Each test of a field answers the byte at which its first fault stands, counted from 1, and 0 where there is none.
+use text::lesser;
 ghost use mathlib.Core.Path.{_≡_};
 ghost use mathlib.Core.Bool.{not};
 ghost use Rattle.text.specs.Test.{member, every, only, firstFault};
 ghost use Rattle.text.specs.Digits.{digitsFault};
 ghost use Rattle.text.specs.Text.{textByte, startsBlank, textFault, filledFault};
+ghost use Rattle.form.specs.Pattern.{digitsWhere};
 
 // Whether `b` stands outside low to high, or within from to to.
 fn outside(b: u8, low: u8, high: u8, from: u8, to: u8) -> bool
@@ -66,7 +68,7 @@ pub fn digits_fault(s: &[u8]) -> usize
 }
 
 // Whether a text begins with a space, or has no byte at all.
-fn starts_blank(s: &[u8]) -> bool
+pub fn starts_blank(s: &[u8]) -> bool
     ensures { λ r. ⌜ r ≡ startsBlank (now (s .entry)) ⌝ }
 {
     if s.len() == 0 { true } else { s[0] == 32 }
@@ -99,4 +101,25 @@ pub fn filled_fault(s: &[u8]) -> usize
     } else {
         text_bytes_fault(s)
     }
+}
+
+// Whether a digit stands wherever the pattern has a 9. No byte ends the loop, so that many are taken at once.
+pub fn digits_where(s: &[u8], pattern: &[u8]) -> bool
+    ensures { λ r. ⌜ r ≡ digitsWhere (now (s .entry)) (now (pattern .entry)) ⌝ }
+{
+    let n = lesser(s.len(), pattern.len());
+    let mut bad = false;
+    let mut i = 0;
+    while i < n {
+        bad = bad | ((pattern[i] == b'9') & outside(s[i], 48, 57, 1, 0));
+        i += 1;
+    }
+    !bad
+}
+
+// Whether every byte may stand in a text: this looks for no place.
+pub fn are_text(s: &[u8]) -> bool
+    ensures { λ r. ⌜ r ≡ every textByte (now (s .entry)) ⌝ }
+{
+    all_in(s, 32, 126, 97, 122)
 }

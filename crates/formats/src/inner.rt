@@ -3,8 +3,8 @@ use files::is_placed;
 use record::Point;
 use record::Table;
 ghost use mathlib.Core.Path.{_≡_};
-ghost use mathlib.Core.Bool.{_&&_, _||_};
-ghost use Prim.Native.Nat.{_*_};
+ghost use mathlib.Core.Bool.{true, _&&_, _||_};
+ghost use Prim.Native.Nat.{_+_, _-_, _*_, _≤_, _<_};
 ghost use lib.Dec.{eqb};
 ghost use lib.ListN.{length};
 ghost use Rattle.text.specs.Text.{part};
@@ -54,6 +54,18 @@ pub fn record_of(kind: usize, file: &[u8], i: usize) -> &[u8]
     }
 }
 
+// The same of a record that the file has: its length is not asked again.
+pub fn record_in(kind: usize, file: &[u8], i: usize) -> &[u8]
+    requires { ⌜ i < records (formatOf kind) (now file) ⌝ }
+    ensures { λ r. ⌜ now r ≡ at (formatOf kind) (now (file .entry)) i ⌝ }
+{
+    if kind == 1 {
+        record::whole_record(file, Table::WIDTH, i)
+    } else {
+        record::whole_record(file, Point::WIDTH, i)
+    }
+}
+
 pub fn is_header(kind: usize, rec: &[u8]) -> bool
     ensures { λ r. ⌜ r ≡ headerOk (formatOf kind .identifier) (formatOf kind .name) (now (rec .entry)) ⌝ }
 {
@@ -85,6 +97,18 @@ pub fn fault_in(kind: usize, rec: &[u8]) -> usize
     }
 }
 
+// Whether a record is known to have no fault: this looks for no place. The one before it has none where that is `known`.
+pub fn is_fine(kind: usize, before: &[u8], rec: &[u8], known: bool) -> bool
+    requires { ⌜ (known ≡ true → formatOf kind .fault (now before) ≡ 0) ⌝ }
+    ensures { λ r. ⌜ (r ≡ true → formatOf kind .fault (now (rec .entry)) ≡ 0) ⌝ }
+{
+    if kind == 1 {
+        table_faults::is_fine(rec)
+    } else {
+        point_faults::is_fine(before, rec, known)
+    }
+}
+
 fn sequence_of(kind: usize) -> usize
     ensures { λ r. ⌜ r ≡ formatOf kind .sequence ⌝ }
 {
@@ -100,13 +124,10 @@ pub fn is_above(kind: usize, i: usize, before: &[u8], rec: &[u8]) -> bool
     (i == 1) | (order == 2)
 }
 
-// Whether a record may stand between two others.
-pub fn is_between(kind: usize, before: &[u8], rec: &[u8], next: &[u8]) -> bool
-    ensures { λ r. ⌜ r ≡ formatOf kind .between (now (before .entry)) (now (rec .entry)) (now (next .entry)) ⌝ }
+// Whether record `i` may stand between its neighbours.
+pub fn is_between(kind: usize, file: &[u8], i: usize) -> bool
+    requires { ⌜ (1 ≤ i) × (i + 1 < records (formatOf kind) (now file)) ⌝ }
+    ensures { λ r. ⌜ r ≡ formatOf kind .between (at (formatOf kind) (now (file .entry)) (i - 1)) (at (formatOf kind) (now (file .entry)) i) (at (formatOf kind) (now (file .entry)) (i + 1)) ⌝ }
 {
-    if kind == 1 {
-        true
-    } else {
-        is_placed(before, rec, next)
-    }
+    if kind == 1 { true } else { is_placed(file, i) }
 }

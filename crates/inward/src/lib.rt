@@ -2,15 +2,15 @@
 // Each test answers the byte at which its first fault stands, counted from 1, and 0 where there is none.
 use postcode::inner::unless;
 ghost use mathlib.Core.Path.{_≡_};
+ghost use lib.Dec.{eqb};
 ghost use Rattle.postcode.specs.Inward.{inwardLetter, inwardFault, suffixFault};
 
 fn is_inward_letter(b: u8) -> bool
     ensures { λ r. ⌜ r ≡ inwardLetter b ⌝ }
 {
-    match b {
-        b'C' | b'I' | b'K' | b'M' | b'O' | b'V' => false,
-        _ => text::is_letter(b),
-    }
+    let barred = (b == b'C')
+        | ((b == b'I') | ((b == b'K') | ((b == b'M') | ((b == b'O') | (b == b'V')))));
+    text::is_letter(b) & !barred
 }
 
 // The first fault of an inward code.
@@ -40,4 +40,24 @@ pub fn suffix_fault(suffix: &[u8]) -> usize
         1,
         unless(text::is_letter(suffix[1]), 2, 0),
     )
+}
+
+// Whether an inward code has no fault: this looks for no place.
+pub fn is_inward(code: &[u8]) -> bool
+    ensures { λ r. ⌜ r ≡ eqb (inwardFault (now (code .entry))) 0 ⌝ }
+{
+    if code.len() != 3 {
+        return false;
+    }
+    text::is_digit(code[0]) & (is_inward_letter(code[1]) & is_inward_letter(code[2]))
+}
+
+// Whether a delivery point suffix has no fault.
+pub fn is_suffix(suffix: &[u8]) -> bool
+    ensures { λ r. ⌜ r ≡ eqb (suffixFault (now (suffix .entry))) 0 ⌝ }
+{
+    if suffix.len() != 2 {
+        return false;
+    }
+    text::is_digit(suffix[0]) & text::is_letter(suffix[1])
 }

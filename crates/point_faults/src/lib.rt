@@ -1,4 +1,6 @@
 // The records of a point file between header and trailer.
+mod fine;
+
 use faults::inner::byte_fault;
 use faults::inner::digits_at;
 use faults::inner::filled_at;
@@ -7,6 +9,7 @@ use faults::inner::inward_at;
 use faults::inner::outward_at;
 use faults::inner::suffix_at;
 use faults::inner::text_at;
+pub use fine::is_fine;
 use record::Organisation;
 use record::Point;
 use record::View;

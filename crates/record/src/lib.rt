@@ -12,3 +12,4 @@ pub use parts::byte_of;
 pub use parts::part_of;
 pub use parts::point_record;
 pub use parts::table_record;
+pub use parts::whole_record;

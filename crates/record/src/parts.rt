@@ -18,7 +18,7 @@ pub fn part_of(rec: &[u8], start: usize, end: usize) -> &[u8]
 }
 
 // Record `i` of a file that has so many records of this width, counted from 0, as a part of the file.
-fn whole_record(file: &[u8], width: usize, i: usize) -> &[u8]
+pub fn whole_record(file: &[u8], width: usize, i: usize) -> &[u8]
     requires { ⌜ (i < length (now file) / width) × (i * width + width ≤ length (now file)) ⌝ }
     ensures { λ r. ⌜ now r ≡ recordAt width (now (file .entry)) i ⌝ }
 {

@@ -15,7 +15,7 @@ use Rattle.text.proofs.Tests.{and-left, and-right}
 use Rattle.text.proofs.Faults.{no-fault, no-fault-every}
 use Rattle.text.proofs.Values.{power-small, value-bound, value-whole}
 use Rattle.compare.specs.Order.{order, above, same}
-use Rattle.rows.proofs.Order.{by-bytes, first-below, first-same, order-bound, order-equal, below-above}
+use Rattle.compare.proofs.Order.{by-bytes, first-below, first-same, order-bound, order-equal, below-above}
 use Rattle.source.proofs.Digits.{value-split, digit-again}
 use Rattle.refs.specs.Refs.{nineDigits}
 

@@ -15,7 +15,7 @@ use Rattle.text.specs.Digits.{value}
 use Rattle.compare.specs.Order.{order, above}
 use Rattle.rows.specs.Rows.{keyAt, lastOf}
 use Rattle.rows.specs.Search.{middle, bisect, upperBound, lastFound}
-use Rattle.rows.proofs.Order.{order-equal, order-same}
+use Rattle.compare.proofs.Order.{order-equal, order-same}
 use Rattle.rows.proofs.Bisect.{bisect-fuel, bisect-end, bisect-to, bisect-low, bisect-high}
 use Rattle.rows.proofs.Keys.{last-found-none, last-found-row, last-found-other}
 use Rattle.refs.specs.Refs.{refAt, upperRef, nineDigits, Filled, Refs}

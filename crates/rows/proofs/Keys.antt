@@ -15,7 +15,7 @@ use Rattle.compare.specs.Order.{order, above, same}
 use Rattle.rows.specs.Rows.{keyAt, lastOf}
 use Rattle.rows.specs.Search.{middle, bisect, upperBound, lastFound, found}
 use Rattle.rows.proofs.Force.{force-low}
-use Rattle.rows.proofs.Order.{first-below, first-above, first-same, above-yes, above-no}
+use Rattle.compare.proofs.Order.{first-below, first-above, first-same, above-yes, above-no}
 use Rattle.rows.proofs.Bisect.{bisect-fuel, bisect-end, bisect-to, bisect-low, bisect-high}
 
 pub key-none : (rec key : List ℕ) (kind : ℕ) → length rec ≡ 0 → order (part rec 0 9) (kind ∷ key) ≡ 1

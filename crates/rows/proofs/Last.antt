@@ -12,7 +12,7 @@ use lib.Dec.{ltb, eqb}
 use Rattle.compare.specs.Order.{order, same, above}
 use Rattle.rows.specs.Rows.{keyAt, lastOf, lastFrom, lastRow, inForce, rowOf, KeysRise}
 use Rattle.rows.specs.Search.{upperBound, lastFound, found}
-use Rattle.rows.proofs.Order.{order-same, order-equal, below-above, order-bound, not-above, above-not, above-yes}
+use Rattle.compare.proofs.Order.{order-same, order-equal, below-above, order-bound, not-above, above-not, above-yes}
 use Rattle.rows.proofs.Bisect.{Least, Stays, bisect-end, bisect-least}
 use Rattle.rows.proofs.Force.{force-some}
 use Rattle.rows.proofs.Keys.{last-found-none, last-found-row, last-found-other}

@@ -1,4 +1,3 @@
-pub mod Order
 pub mod Bisect
 pub mod Force
 pub mod Keys

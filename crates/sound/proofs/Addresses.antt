@@ -17,7 +17,7 @@ use Rattle.postcode.specs.Outward.{outwardFault}
 use Rattle.refusal.specs.declared.Reason.the-variants.{Combination, MissingKey}
 use Rattle.record.specs.Parts.{recordAt}
 use Rattle.compare.specs.Order.{order}
-use Rattle.rows.proofs.Order.{order-equal}
+use Rattle.compare.proofs.Order.{order-equal}
 use Rattle.faults.specs.Fields.{oneOf}
 use Rattle.faults.proofs.Laws.{one-byte}
 use Rattle.files.specs.declared.verdict.Verdict.the-variants.{Fine}

@@ -19,7 +19,7 @@ use Rattle.text.proofs.Tests.{and-left, and-right, range-low, range-high}
 use Rattle.record.specs.Parts.{recordAt}
 use Rattle.compare.specs.Order.{order, same}
 use Rattle.ends.specs.Ends.{identifier, trailerOk}
-use Rattle.rows.proofs.Order.{order-equal}
+use Rattle.compare.proofs.Order.{order-equal}
 use Rattle.faults.specs.Point.{pointRest, pointFault}
 use Rattle.files.specs.Check.{records}
 use Rattle.files.specs.Formats.{needed, follows, placed, pointFormat}

@@ -14,7 +14,7 @@ use Rattle.files.specs.Formats.{tableFormat}
 use Rattle.files.proofs.Accepted.{Accepted}
 use Rattle.rows.specs.Rows.{keyAt, lastOf, rowOf, KeysRise}
 use Rattle.rows.specs.Search.{found}
-use Rattle.rows.proofs.Order.{above-below, front-below}
+use Rattle.compare.proofs.Order.{above-below, front-below}
 use Rattle.rows.proofs.Last.{found-is-last}
 
 pub keys-rise : (table : List ℕ) → Accepted tableFormat table → KeysRise table

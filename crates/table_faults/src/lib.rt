@@ -1,10 +1,13 @@
 // The records of a table file between header and trailer.
+mod fine;
+
 use faults::inner::byte_fault;
 use faults::inner::digits_at;
 use faults::inner::filled_at;
 use faults::inner::first_of;
 use faults::inner::key_at;
 use faults::inner::text_at;
+pub use fine::is_fine;
 use record::Locality;
 use record::Table;
 use record::byte_of;

@@ -8,11 +8,11 @@ use std::process::Command;
 
 /// What the header promises: less than so many bytes.
 const PROMISED: [(&str, u64); 13] = [
-    ("ttw_table", 1_024),
-    ("ttw_points", 1_024),
-    ("ttw_views", 1_024),
-    ("ttw_letter", 1_024),
-    ("ttw_live", 1_024),
+    ("ttw_table", 2_048),
+    ("ttw_points", 2_048),
+    ("ttw_views", 2_048),
+    ("ttw_letter", 2_048),
+    ("ttw_live", 2_048),
     ("ttw_label", 4_096),
     ("ttw_code_label", 4_096),
     ("ttw_labels", 4_096),

@@ -11,8 +11,8 @@ use Rattle.files.proofs.Laws.{judged-malformed, judged-falls, judged-stray, jud
 use Rattle.checking.proofs.judge.Statement.{statement}
 use Rattle.checking.proofs.judge.Tie as tie
 
-record-of-requires : tie.Need-record-of-requires
-record-of-requires c κs = search needs
+record-in-requires : tie.Need-record-in-requires
+record-in-requires c κs = search needs
 
 fault-in-requires : tie.Need-fault-in-requires
 fault-in-requires c κs = search needs
@@ -29,16 +29,16 @@ returns c =
     let f = t .before in
     let r = f .before in
     let a = r .before .before .args in
-    let byte = f .fault-in .ensures ∙ ap (formatOf (a .kind) .fault) (r .record-of .ensures) in
+    let byte = f .fault-in .ensures ∙ ap (formatOf (a .kind) .fault) (r .record-in .ensures) in
     rw (c .malformed .ensures)
     (ap (λ (b : ℕ). Bad (malformedAt (a .i + 1) b)) byte
     ∙ sym (judged-malformed (formatOf (a .kind)) (a .file .now) (a .i) (rw byte at (t .if1 .taken))))
 
-sub-record-of : tie.Need-sub-record-of
-sub-record-of c = search needs
+sub-record-in : tie.Need-sub-record-in
+sub-record-in c = search needs
 
-record-of-requires-2 : tie.Need-record-of-requires-2
-record-of-requires-2 c κs = search needs
+record-in-requires-2 : tie.Need-record-in-requires-2
+record-in-requires-2 c κs = search needs
 
 is-above-requires : tie.Need-is-above-requires
 is-above-requires c κs = search needs
@@ -56,26 +56,19 @@ returns-2 c =
     let a = r .before .before .args in
     sym
     (judged-falls (formatOf (a .kind)) (a .file .now) (a .i)
-    (rw (f .fault-in .ensures, r .record-of .ensures) at (t .if1 .left))
-    (not-true _ (rw (u .is-above .ensures, p .record-of2 .ensures, r .record-of .ensures) at (c .if2 .taken))))
-
-add-record-of : tie.Need-add-record-of
-add-record-of c = search needs
-
-record-of-requires-3 : tie.Need-record-of-requires-3
-record-of-requires-3 c κs = search needs
+    (rw (f .fault-in .ensures, r .record-in .ensures) at (t .if1 .left))
+    (not-true _ (rw (u .is-above .ensures, p .record-in2 .ensures, r .record-in .ensures) at (c .if2 .taken))))
 
 is-between-requires : tie.Need-is-between-requires
 is-between-requires c κs = search needs
 
-add-t17 : tie.Need-add-t17
-add-t17 c = search needs
+add-t16 : tie.Need-add-t16
+add-t16 c = search needs
 
 returns-3 : tie.Need-returns-3
 returns-3 c =
     let b = c .before in
-    let n = b .before in
-    let v = n .before in
+    let v = b .before in
     let u = v .before in
     let p = u .before in
     let t = p .before in
@@ -84,15 +77,14 @@ returns-3 c =
     let a = r .before .before .args in
     sym
     (judged-fine (formatOf (a .kind)) (a .file .now) (a .i)
-    (rw (f .fault-in .ensures, r .record-of .ensures) at (t .if1 .left))
-    (not-false _ (rw (u .is-above .ensures, p .record-of2 .ensures, r .record-of .ensures) at (v .if2 .left)))
-    (rw (b .is-between .ensures, n .record-of3 .ensures, p .record-of2 .ensures, r .record-of .ensures) at (c .if3 .taken)))
+    (rw (f .fault-in .ensures, r .record-in .ensures) at (t .if1 .left))
+    (not-false _ (rw (u .is-above .ensures, p .record-in2 .ensures, r .record-in .ensures) at (v .if2 .left)))
+    (rw (b .is-between .ensures) at (c .if3 .taken)))
 
 returns-4 : tie.Need-returns-4
 returns-4 c =
     let b = c .before in
-    let n = b .before in
-    let v = n .before in
+    let v = b .before in
     let u = v .before in
     let p = u .before in
     let t = p .before in
@@ -101,27 +93,25 @@ returns-4 c =
     let a = r .before .before .args in
     sym
     (judged-stray (formatOf (a .kind)) (a .file .now) (a .i)
-    (rw (f .fault-in .ensures, r .record-of .ensures) at (t .if1 .left))
-    (not-false _ (rw (u .is-above .ensures, p .record-of2 .ensures, r .record-of .ensures) at (v .if2 .left)))
-    (rw (b .is-between .ensures, n .record-of3 .ensures, p .record-of2 .ensures, r .record-of .ensures) at (c .if3 .left)))
+    (rw (f .fault-in .ensures, r .record-in .ensures) at (t .if1 .left))
+    (not-false _ (rw (u .is-above .ensures, p .record-in2 .ensures, r .record-in .ensures) at (v .if2 .left)))
+    (rw (b .is-between .ensures) at (c .if3 .left)))
 
 pub judge-spec : {M : Type 1} → statement M
 judge-spec =
     tie.close
     (tie.spec
-    record-of-requires
+    record-in-requires
     fault-in-requires
     add-malformed
     malformed-requires
     returns
-    sub-record-of
-    record-of-requires-2
+    sub-record-in
+    record-in-requires-2
     is-above-requires
     add-t12
     returns-2
-    add-record-of
-    record-of-requires-3
     is-between-requires
-    add-t17
+    add-t16
     returns-3
     returns-4)

@@ -80,7 +80,7 @@ scan-records-requires c κs =
     let a = w .before .before .args in
     let whole-file = sym (w .is-whole .ensures) ∙ not-false _ (w₁ .if1 .left) in
     rw (n .records-in .ensures)
-    (at-least-two (formatOf (a .kind)) (a .file .now) whole-file, omega (arith, within-limit (formatOf (a .kind)) (a .file .now) whole-file, limit-of (a .kind)))
+    (at-least-two (formatOf (a .kind)) (a .file .now) whole-file, omega (arith, within-limit (formatOf (a .kind)) (a .file .now) whole-file, limit-of (a .kind)), refl)
 
 returns-4 : tie.Need-returns-4
 returns-4 c =

@@ -3,60 +3,49 @@ use borrow.Author.Needs.{needs}
 use Prim.Native.Nat.{_-_, _≤_}
 use mathlib.Core.Path.{_≡_, refl, sym, ap, _∙_}
 use native.Mathlib.Omega.{arith}
+use native.Mathlib.Nat.{min-le-left, min-le-right}
+use borrow.Author.Tests.{eq-eqb, ne-eqb}
 use lib.ListN.{length, drop}
 use Rattle.compare.specs.Order.{order}
-use Rattle.compare.proofs.Laws.{order-short, order-below, order-above, order-step, order-end-below, order-end-same}
 use Rattle.compare.proofs.order_of.Statement.{statement}
 use Rattle.compare.proofs.order_of.Tie as tie
 
 abbrev Inv-loop : tie.InvT-loop
-Inv-loop a b i₀ i = (i ≤ length a) × (i ≤ length b) × (order a b ≡ order (drop i a) (drop i b))
+Inv-loop a b n i₀ i = (i ≤ length a) × (i ≤ length b) × (n ≤ length a) × (n ≤ length b) × (order a b ≡ order (drop i a) (drop i b))
 
 abbrev μ-loop : tie.MeasureT-loop
-μ-loop a b i₀ i = length a - i
+μ-loop a b n i₀ i = length a - i
 
-same-front-requires : tie.Need-same-front-requires Inv-loop μ-loop
-same-front-requires c κs = search needs
+lesser-requires : tie.Need-lesser-requires Inv-loop μ-loop
+lesser-requires c κs = search needs
+
+front-of-requires : tie.Need-front-of-requires Inv-loop μ-loop
+front-of-requires c κs = search needs
 
 loop-holds : tie.Need-loop-holds Inv-loop μ-loop
 loop-holds c =
-    let f = c .same-front .ensures in
-    (f .in-a, f .in-b, f .decided)
+    let f = c .front-of .ensures in
+    let n = c .before in
+    let a = n .before .before .before .args in
+    rw (n .lesser .ensures) (
+      f .in-a,
+      f .in-b,
+      min-le-left (length (a .a .now)) (length (a .b .now)),
+      min-le-right (length (a .a .now)) (length (a .b .now)),
+      f .decided,
+    )
+
+add-loop : tie.Need-add-loop Inv-loop μ-loop
+add-loop c = search needs
+
+eight-order-requires : tie.Need-eight-order-requires Inv-loop μ-loop
+eight-order-requires c κs = search needs
 
 returns : tie.Need-returns Inv-loop μ-loop
 returns c =
-    let l = c .before .before in
-    let a = l .before .before .before .before .args in
-    sym (l .loop .inv .2 ∙ order-short (a .a .now) (a .b .now) (l .loop .i) (omega arith) (omega arith))
-
-shared-slice-read-if2 : tie.Need-shared-slice-read-if2 Inv-loop μ-loop
-shared-slice-read-if2 c = search needs
-
-shared-slice-read-if2-2 : tie.Need-shared-slice-read-if2-2 Inv-loop μ-loop
-shared-slice-read-if2-2 c = search needs
-
-returns-2 : tie.Need-returns-2 Inv-loop μ-loop
-returns-2 c =
-    let l = c .before .before .before .before .before in
-    let a = l .before .before .before .before .args in
-    sym
-    (l .loop .inv .2
-    ∙ order-below (a .a .now) (a .b .now) (l .loop .i) (omega arith) (omega arith) (c .if2 .taken))
-
-shared-slice-read-if3 : tie.Need-shared-slice-read-if3 Inv-loop μ-loop
-shared-slice-read-if3 c = search needs
-
-shared-slice-read-if3-2 : tie.Need-shared-slice-read-if3-2 Inv-loop μ-loop
-shared-slice-read-if3-2 c = search needs
-
-returns-3 : tie.Need-returns-3 Inv-loop μ-loop
-returns-3 c =
-    let t = c .before .before .before in
-    let l = t .before .before .before .before .before in
-    let a = l .before .before .before .before .args in
-    sym
-    (l .loop .inv .2
-    ∙ order-above (a .a .now) (a .b .now) (l .loop .i) (omega arith) (omega arith) (t .if2 .left) (c .if3 .taken))
+    let f = c .before in
+    let l = f .before .before in
+    sym (l .loop .inv .4 ∙ (f .eight-order .ensures ∙ simp (ne-eqb _ 0 (c .if1 .taken))))
 
 add-i : tie.Need-add-i Inv-loop μ-loop
 add-i c = search needs
@@ -66,26 +55,22 @@ loop-less c = search needs
 
 loop-again : tie.Need-loop-again Inv-loop μ-loop
 loop-again c =
-    let t = c .before .before .before in
-    let l = t .before .before .before .before .before in
-    let a = l .before .before .before .before .args in (
+    let f = c .before in
+    let l = f .before .before in (
       omega arith,
       omega arith,
-      l .loop .inv .2
-          ∙ order-step (a .a .now) (a .b .now) (l .loop .i) (omega arith) (omega arith) (t .if2 .left) (c .if3 .left),
+      l .loop .inv .2,
+      l .loop .inv .3,
+      l .loop .inv .4 ∙ (f .eight-order .ensures ∙ simp (eq-eqb _ 0 (c .if1 .left))),
     )
 
-returns-4 : tie.Need-returns-4 Inv-loop μ-loop
-returns-4 c =
-    let l = c .before .before in
-    let a = l .before .before .before .before .args in
-    sym (l .loop .inv .2 ∙ order-end-below (a .a .now) (a .b .now) (l .loop .i) (omega arith) (omega arith))
+order-from-requires : tie.Need-order-from-requires Inv-loop μ-loop
+order-from-requires c κs = search needs
 
-returns-5 : tie.Need-returns-5 Inv-loop μ-loop
-returns-5 c =
+returns-2 : tie.Need-returns-2 Inv-loop μ-loop
+returns-2 c =
     let l = c .before .before in
-    let a = l .before .before .before .before .args in
-    sym (l .loop .inv .2 ∙ order-end-same (a .a .now) (a .b .now) (l .loop .i) (omega arith) (omega arith))
+    c .order-from .ensures ∙ sym (l .loop .inv .4)
 
 pub order-of-spec : {M : Type 1} → statement M
 order-of-spec =
@@ -93,17 +78,14 @@ order-of-spec =
     (tie.spec
     Inv-loop
     μ-loop
-    same-front-requires
+    lesser-requires
+    front-of-requires
     loop-holds
+    add-loop
+    eight-order-requires
     returns
-    shared-slice-read-if2
-    shared-slice-read-if2-2
-    returns-2
-    shared-slice-read-if3
-    shared-slice-read-if3-2
-    returns-3
     add-i
     loop-less
     loop-again
-    returns-4
-    returns-5)
+    order-from-requires
+    returns-2)

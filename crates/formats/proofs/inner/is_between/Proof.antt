@@ -5,7 +5,7 @@ use Rattle.formats.proofs.inner.is_between.Statement.{statement}
 use Rattle.formats.proofs.inner.is_between.Tie as tie
 
 is-placed-requires : tie.Need-is-placed-requires
-is-placed-requires c κs = search needs
+is-placed-requires c κs = simp (ne-eqb _ 1 (c .if1 .left)) at (c .before .before .pre)
 
 returns : tie.Need-returns
 returns c = simp (eq-eqb _ 1 (c .if1 .taken))
