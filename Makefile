@@ -47,5 +47,5 @@ fuzz: library
 	@cd host && $(CARGO) run --release --package ttw-fuzz -- --seconds $(SECONDS) --seed $(SEED)
 
 annotate: library
-	@rt staticlib leaves >/dev/null
+	@rt staticlib test_leaves >/dev/null
 	@cd host && $(CARGO) run --package ttw-trials --bin annotate

@@ -8,28 +8,28 @@ use mathlib.Core.List.{List, []}
 use native.Mathlib.Omega.{arith}
 use lib.Dec.{eqb, leb, lit≤}
 use lib.ListN.{length, drop}
-use Rattle.postcode.specs.Outward.{outwardFault}
+use Rattle.field_outward.specs.Outward.{outwardFault}
 use Rattle.refusal.specs.Refusal.{number, malformedAt}
 use Rattle.refusal.specs.declared.Reason.{Reason}
 use Rattle.refusal.specs.declared.Reason.the-variants.{Length, Header, Trailer, NotAbove, Follower, NoSuchNumber, Combination, MissingKey, Room, BadPack, BadCode}
 use Rattle.refusal.specs.declared.Answer.{Answer}
 use Rattle.refusal.specs.declared.Answer.the-variants.{Value, Refused}
-use Rattle.address.specs.Address.{Lookup, Address}
-use Rattle.address.specs.Resolve.{forbidden, missing, elementsOf, Resolved, elements, refused, resolve}
-use Rattle.ends.specs.Ends.{headerOk, trailerOk}
-use Rattle.files.specs.declared.verdict.Verdict.{Verdict}
-use Rattle.files.specs.declared.verdict.Verdict.the-variants.{Fine, Bad}
-use Rattle.files.specs.Check.{Format, records, whole, at, rises, judged, orElse, scan, verdict, answered, checked}
-use Rattle.files.specs.Formats.{tableFormat, pointFormat}
-use Rattle.views.specs.Views.{wantedAt}
+use Rattle.source.specs.Address.{Lookup, Address}
+use Rattle.source.specs.Resolve.{forbidden, missing, elementsOf, Resolved, elements, refused, resolve}
+use Rattle.file_ends.specs.Ends.{headerOk, trailerOk}
+use Rattle.file.specs.declared.verdict.Verdict.{Verdict}
+use Rattle.file.specs.declared.verdict.Verdict.the-variants.{Fine, Bad}
+use Rattle.file.specs.Check.{Format, records, whole, at, rises, judged, orElse, scan, verdict, answered, checked}
+use Rattle.file.specs.Formats.{tableFormat, pointFormat}
+use Rattle.changes_views.specs.Views.{wantedAt}
 use Rattle.label.specs.Label.{labelOf, roomAnswer, resolvedAnswer}
-use Rattle.layout.specs.Opening.{trailerGood, allRowsGood, allPointsGood, pointCount, opened}
-use Rattle.layout.specs.Points.{isPoint, pointPlace, elementsAt, pointAnswer, packAnswer, afterOpened}
-use Rattle.pair.specs.Pair.{resolvedAt, placeAnswer, viewAnswer, codeAnswer}
-use Rattle.series.specs.declared.Series.{Series}
-use Rattle.series.specs.declared.Series.the-variants.{Unasked, Stopped, Done}
-use Rattle.series.specs.Series.{Asking, behind, goOn, seriesFrom, wholly}
-use Rattle.runs.specs.Runs.{viewsAsked, codeAsked, viewSeries, codeSeries}
+use Rattle.pack.specs.Opening.{trailerGood, allRowsGood, allPointsGood, pointCount, opened}
+use Rattle.pack.specs.Points.{isPoint, pointPlace, elementsAt, pointAnswer, packAnswer, afterOpened}
+use Rattle.changes_label.specs.Pair.{resolvedAt, placeAnswer, viewAnswer, codeAnswer}
+use Rattle.run.specs.declared.Series.{Series}
+use Rattle.run.specs.declared.Series.the-variants.{Unasked, Stopped, Done}
+use Rattle.run.specs.Series.{Asking, behind, goOn, seriesFrom, wholly}
+use Rattle.changes_runs.specs.Runs.{viewsAsked, codeAsked, viewSeries, codeSeries}
 use Rattle.pack_runs.specs.Runs.{packAsked, packSeries}
 use Rattle.demands.specs.Runs.{OfLabel, OfWhole, ToldApart, Run, of-labels, of-code-labels, of-pack-labels, seriesOf}
 

@@ -6,26 +6,26 @@ use mathlib.Core.Bool.{Bool, true, false, cond}
 use mathlib.Core.List.{List, _++_}
 use lib.Dec.{eqb, leb}
 use lib.ListN.{length, drop}
-use Rattle.postcode.specs.Outward.{outwardFault}
+use Rattle.field_outward.specs.Outward.{outwardFault}
 use Rattle.refusal.specs.declared.Reason.{Reason}
 use Rattle.refusal.specs.declared.Reason.the-variants.{NoSuchNumber, Room, BadCode}
 use Rattle.refusal.specs.declared.Answer.{Answer}
 use Rattle.refusal.specs.declared.Answer.the-variants.{Value, Refused}
-use Rattle.files.specs.declared.verdict.Verdict.{Verdict}
-use Rattle.files.specs.declared.verdict.Verdict.the-variants.{Fine, Bad}
-use Rattle.files.specs.Check.{checked}
-use Rattle.files.specs.Formats.{tableFormat, pointFormat}
+use Rattle.file.specs.declared.verdict.Verdict.{Verdict}
+use Rattle.file.specs.declared.verdict.Verdict.the-variants.{Fine, Bad}
+use Rattle.file.specs.Check.{checked}
+use Rattle.file.specs.Formats.{tableFormat, pointFormat}
 use Rattle.refusal.proofs.Answers.{refused-value}
-use Rattle.address.specs.Resolve.{Resolved, elements, refused}
+use Rattle.source.specs.Resolve.{Resolved, elements, refused}
 use Rattle.label.specs.Label.{labelOf, roomAnswer, roomMemory, resolvedAnswer, resolvedMemory}
-use Rattle.source.specs.Rows.{tableLookup}
-use Rattle.layout.specs.Layout.{packOf}
-use Rattle.layout.specs.Cutting.{firstBad, cutWith, leftWith, cutAnswer, cutMemory}
-use Rattle.layout.specs.Opening.{opened}
-use Rattle.layout.specs.Points.{isPoint, pointAnswer, pointMemory, afterOpened, packAnswer, packMemory}
-use Rattle.listing.specs.Listing.{after}
-use Rattle.pair.specs.Pair.{resolvedAt, placeAnswer, placeMemory, afterMemory, pairAnswer, pairMemory, viewAnswer, viewMemory, codeAnswer, codeMemory}
-use Rattle.build.specs.Build.{liveIn, codeCut, codeCutMemory, buildAnswer, buildMemory}
+use Rattle.changes_source.specs.Rows.{tableLookup}
+use Rattle.pack.specs.Layout.{packOf}
+use Rattle.pack.specs.Cutting.{firstBad, cutWith, leftWith, cutAnswer, cutMemory}
+use Rattle.pack.specs.Opening.{opened}
+use Rattle.pack.specs.Points.{isPoint, pointAnswer, pointMemory, afterOpened, packAnswer, packMemory}
+use Rattle.changes_list.specs.Listing.{after}
+use Rattle.changes_label.specs.Pair.{resolvedAt, placeAnswer, placeMemory, afterMemory, pairAnswer, pairMemory, viewAnswer, viewMemory, codeAnswer, codeMemory}
+use Rattle.build_pack.specs.Build.{liveIn, codeCut, codeCutMemory, buildAnswer, buildMemory}
 use Rattle.demands.specs.One.{Allows, Call, of-table, of-points, of-views, of-letter, of-live, of-label, of-code-label, of-build, of-pack, of-pack-label, answerOf, memoryOf}
 
 -- "for every input, refusals too, it allows one answer and one content of lent memory"

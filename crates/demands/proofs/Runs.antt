@@ -7,24 +7,24 @@ use mathlib.Core.List.{List}
 use borrow.Author.Tests.{eq-eqb}
 use lib.Dec.{eqb}
 use lib.ListN.{take}
-use Rattle.postcode.specs.Outward.{outwardFault}
+use Rattle.field_outward.specs.Outward.{outwardFault}
 use Rattle.refusal.specs.declared.Reason.{Reason}
 use Rattle.refusal.specs.declared.Reason.the-variants.{BadCode}
 use Rattle.refusal.specs.declared.Answer.{Answer}
 use Rattle.refusal.specs.declared.Answer.the-variants.{Value, Refused}
-use Rattle.files.specs.Check.{checked}
-use Rattle.files.specs.Formats.{tableFormat, pointFormat}
-use Rattle.files.proofs.Accepted.{accepts}
-use Rattle.layout.specs.Opening.{opened}
-use Rattle.layout.specs.Points.{afterOpened}
-use Rattle.pair.specs.Pair.{afterMemory}
-use Rattle.build.specs.Build.{buildAnswer, buildMemory}
-use Rattle.series.specs.declared.Series.{Series}
-use Rattle.series.specs.declared.Series.the-variants.{Unasked, Stopped, Done}
-use Rattle.series.specs.Series.{Asking, behind, goOn, seriesFrom, memoryFrom, wholly}
-use Rattle.series.proofs.Going.{never-unasked}
-use Rattle.series.proofs.Same.{Alike, same-series, same-memory}
-use Rattle.runs.specs.Runs.{viewsAsked, codeAsked, viewSeries, viewsMemory, codeSeries, codesMemory}
+use Rattle.file.specs.Check.{checked}
+use Rattle.file.specs.Formats.{tableFormat, pointFormat}
+use Rattle.file.proofs.Accepted.{accepts}
+use Rattle.pack.specs.Opening.{opened}
+use Rattle.pack.specs.Points.{afterOpened}
+use Rattle.changes_label.specs.Pair.{afterMemory}
+use Rattle.build_pack.specs.Build.{buildAnswer, buildMemory}
+use Rattle.run.specs.declared.Series.{Series}
+use Rattle.run.specs.declared.Series.the-variants.{Unasked, Stopped, Done}
+use Rattle.run.specs.Series.{Asking, behind, goOn, seriesFrom, memoryFrom, wholly}
+use Rattle.run.proofs.Going.{never-unasked}
+use Rattle.run.proofs.Same.{Alike, same-series, same-memory}
+use Rattle.changes_runs.specs.Runs.{viewsAsked, codeAsked, viewSeries, viewsMemory, codeSeries, codesMemory}
 use Rattle.pack_runs.specs.Runs.{packAsked, packSeries, packsMemory}
 use Rattle.demands.specs.Three.{Carries, Buildable}
 use Rattle.demands.specs.Runs.{AllowsRun, Run, of-labels, of-code-labels, of-pack-labels, seriesOf, leftBy, CarriesRuns}

@@ -11,40 +11,40 @@ use borrow.Author.Tests.{eq-eqb, ne-eqb, eqb-true, eqb-false, le-leb, leb-true, 
 use lib.Dec.{eqb, leb}
 use lib.ListN.{length, take, drop, getD}
 use lib.Seq.{take-append-seam}
-use Rattle.postcode.specs.Outward.{outwardFault}
+use Rattle.field_outward.specs.Outward.{outwardFault}
 use Rattle.refusal.specs.Refusal.{withView}
 use Rattle.refusal.specs.declared.Reason.{Reason}
 use Rattle.refusal.specs.declared.Reason.the-variants.{NoSuchNumber, Combination, MissingKey, Room, BadCode}
 use Rattle.refusal.specs.declared.Answer.{Answer}
 use Rattle.refusal.specs.declared.Answer.the-variants.{Value, Refused}
-use Rattle.files.specs.declared.verdict.Verdict.{Verdict}
-use Rattle.files.specs.declared.verdict.Verdict.the-variants.{Fine, Bad}
-use Rattle.files.specs.Check.{records, checked, orElse}
-use Rattle.files.specs.Formats.{tableFormat, pointFormat}
-use Rattle.files.proofs.Accepted.{Accepted, accepted, accepts}
+use Rattle.file.specs.declared.verdict.Verdict.{Verdict}
+use Rattle.file.specs.declared.verdict.Verdict.the-variants.{Fine, Bad}
+use Rattle.file.specs.Check.{records, checked, orElse}
+use Rattle.file.specs.Formats.{tableFormat, pointFormat}
+use Rattle.file.proofs.Accepted.{Accepted, accepted, accepts}
 use Rattle.refusal.proofs.Answers.{refused-value}
-use Rattle.views.specs.Views.{wantedCount, wantedAt}
-use Rattle.views.proofs.Laws.{wanted-at-wanted, wanted-at-zero, wanted-at-none}
-use Rattle.address.specs.Address.{Lookup, Address}
-use Rattle.address.specs.Resolve.{forbidden, missing, elementsOf, Resolved, elements, refused, resolve}
-use Rattle.source.specs.Rows.{tableLookup}
-use Rattle.source.specs.Addresses.{addressAt}
+use Rattle.changes_views.specs.Views.{wantedCount, wantedAt}
+use Rattle.changes_views.proofs.Laws.{wanted-at-wanted, wanted-at-zero, wanted-at-none}
+use Rattle.source.specs.Address.{Lookup, Address}
+use Rattle.source.specs.Resolve.{forbidden, missing, elementsOf, Resolved, elements, refused, resolve}
+use Rattle.changes_source.specs.Rows.{tableLookup}
+use Rattle.changes_source.specs.Addresses.{addressAt}
 use Rattle.label.specs.Label.{roomAnswer, roomMemory, resolvedAnswer, resolvedMemory}
-use Rattle.layout.specs.Layout.{packOf}
-use Rattle.layout.specs.Cutting.{badOf, firstBad, cutWith, leftWith, cutAnswer, cutMemory}
-use Rattle.layout.specs.Sound.{Sound}
-use Rattle.carried.specs.Kth.{kth, labelAnswer, labelMemory, kthAnswer, kthMemory}
-use Rattle.carried.proofs.Carried.{pack-opens}
-use Rattle.carried.proofs.Labels.{kth-zero, kth-none, pack-labels, pack-memories}
-use Rattle.carried.proofs.Exactly.{rows-exactly}
-use Rattle.sound.specs.Packed.{packed, viewAt}
-use Rattle.sound.proofs.Packed.{packed-live, packed-length, packed-at}
-use Rattle.sound.proofs.Refused.{resolve-number}
-use Rattle.sound.proofs.Sound.{pair-sound}
-use Rattle.pair.specs.Pair.{resolvedAt, placeAnswer, placeMemory, pairAnswer, pairMemory, codeAnswer, codeMemory}
-use Rattle.pair.proofs.Laws.{Says, pair-says, table-accepted, points-accepted, good-code}
-use Rattle.listing.specs.Listing.{after}
-use Rattle.build.specs.Build.{liveIn, codeCut, codeCutMemory, buildAnswer, buildMemory}
+use Rattle.pack.specs.Layout.{packOf}
+use Rattle.pack.specs.Cutting.{badOf, firstBad, cutWith, leftWith, cutAnswer, cutMemory}
+use Rattle.pack.specs.Sound.{Sound}
+use Rattle.pack_carries.specs.Kth.{kth, labelAnswer, labelMemory, kthAnswer, kthMemory}
+use Rattle.pack_carries.proofs.Carried.{pack-opens}
+use Rattle.pack_carries.proofs.Labels.{kth-zero, kth-none, pack-labels, pack-memories}
+use Rattle.pack_carries.proofs.Exactly.{rows-exactly}
+use Rattle.build_sound.specs.Packed.{packed, viewAt}
+use Rattle.build_sound.proofs.Packed.{packed-live, packed-length, packed-at}
+use Rattle.build_sound.proofs.Refused.{resolve-number}
+use Rattle.build_sound.proofs.Sound.{pair-sound}
+use Rattle.changes_label.specs.Pair.{resolvedAt, placeAnswer, placeMemory, pairAnswer, pairMemory, codeAnswer, codeMemory}
+use Rattle.changes_label.proofs.Laws.{Says, pair-says, table-accepted, points-accepted, good-code}
+use Rattle.changes_list.specs.Listing.{after}
+use Rattle.build_pack.specs.Build.{liveIn, codeCut, codeCutMemory, buildAnswer, buildMemory}
 use Rattle.demands.specs.Three.{Carries, AllPrinted, Buildable}
 
 -- ---- the k-th of the packed views

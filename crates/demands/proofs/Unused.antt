@@ -8,33 +8,33 @@ use mathlib.Core.Option.{none}
 use borrow.Author.Tests.{eqb-true, eqb-false}
 use lib.Dec.{eqb}
 use lib.ListN.{getD}
-use Rattle.record.specs.Parts.{recordAt}
-use Rattle.postcode.specs.Outward.{outwardFault}
+use Rattle.file_record.specs.Parts.{recordAt}
+use Rattle.field_outward.specs.Outward.{outwardFault}
 use Rattle.refusal.specs.declared.Reason.the-variants.{NoSuchNumber, BadCode}
 use Rattle.refusal.specs.declared.Answer.{Answer}
 use Rattle.refusal.specs.declared.Answer.the-variants.{Refused}
-use Rattle.files.specs.declared.verdict.Verdict.{Verdict}
-use Rattle.files.specs.Check.{checked, orElse}
-use Rattle.files.specs.Formats.{tableFormat, pointFormat}
-use Rattle.files.proofs.Accepted.{Accepted, accepts}
-use Rattle.views.specs.Views.{lastOf, wantedIn, wantedAt}
-use Rattle.address.specs.Address.{Lookup, Address, Asked, keysOf}
-use Rattle.address.specs.Resolve.{Resolved}
-use Rattle.address.proofs.Same.{Agree, resolve-same}
-use Rattle.source.specs.Rows.{tableLookup}
-use Rattle.source.specs.Addresses.{addressOf, addressAt}
-use Rattle.meaning.proofs.Keys.{no-zero-row}
+use Rattle.file.specs.declared.verdict.Verdict.{Verdict}
+use Rattle.file.specs.Check.{checked, orElse}
+use Rattle.file.specs.Formats.{tableFormat, pointFormat}
+use Rattle.file.proofs.Accepted.{Accepted, accepts}
+use Rattle.changes_views.specs.Views.{lastOf, wantedIn, wantedAt}
+use Rattle.source.specs.Address.{Lookup, Address, Asked, keysOf}
+use Rattle.source.specs.Resolve.{Resolved}
+use Rattle.source.proofs.Same.{Agree, resolve-same}
+use Rattle.changes_source.specs.Rows.{tableLookup}
+use Rattle.changes_source.specs.Addresses.{addressOf, addressAt}
+use Rattle.changes_meaning.proofs.Keys.{no-zero-row}
 use Rattle.label.specs.Label.{resolvedAnswer, resolvedMemory}
-use Rattle.layout.specs.Layout.{packOf}
-use Rattle.layout.specs.Cutting.{badOf, firstBad, cutWith, leftWith, cutAnswer, cutMemory}
-use Rattle.carried.proofs.Same.{AllFit, AllAgree, pack-same}
-use Rattle.sound.specs.Packed.{packed, viewAt, viewsAt, WantedPlaces}
-use Rattle.sound.proofs.Packed.{packed-live, packed-views, all-wanted}
-use Rattle.sound.proofs.Addresses.{eight}
-use Rattle.listing.specs.Listing.{after}
-use Rattle.pair.specs.Pair.{resolvedAt, placeAnswer, placeMemory, afterMemory, viewAnswer, viewMemory, codeAnswer, codeMemory}
-use Rattle.pair.proofs.Laws.{wanted-place, viewed}
-use Rattle.build.specs.Build.{liveIn, codeCut, codeCutMemory, buildAnswer, buildMemory}
+use Rattle.pack.specs.Layout.{packOf}
+use Rattle.pack.specs.Cutting.{badOf, firstBad, cutWith, leftWith, cutAnswer, cutMemory}
+use Rattle.pack_carries.proofs.Same.{AllFit, AllAgree, pack-same}
+use Rattle.build_sound.specs.Packed.{packed, viewAt, viewsAt, WantedPlaces}
+use Rattle.build_sound.proofs.Packed.{packed-live, packed-views, all-wanted}
+use Rattle.build_sound.proofs.Addresses.{eight}
+use Rattle.changes_list.specs.Listing.{after}
+use Rattle.changes_label.specs.Pair.{resolvedAt, placeAnswer, placeMemory, afterMemory, viewAnswer, viewMemory, codeAnswer, codeMemory}
+use Rattle.changes_label.proofs.Laws.{wanted-place, viewed}
+use Rattle.build_pack.specs.Build.{liveIn, codeCut, codeCutMemory, buildAnswer, buildMemory}
 use Rattle.demands.specs.Unused.{SameFor, SameRows, Unmoved}
 
 -- no accepted table file has a row for the key zero

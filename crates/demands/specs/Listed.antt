@@ -4,8 +4,8 @@ use Prim.Native.Nat.{ℕ}
 use mathlib.Core.Bool.{Bool, true, false}
 use mathlib.Core.List.{List, [], _∷_}
 use lib.Dec.{eqb}
-use Rattle.text.specs.Text.{numericLike}
-use Rattle.postcode.specs.Outward.{outwardFault}
+use Rattle.field.specs.Text.{numericLike}
+use Rattle.field_outward.specs.Outward.{outwardFault}
 
 -- a code is taken where it has no fault
 abbrev pub taken : List ℕ → Bool

@@ -5,13 +5,13 @@ use mathlib.Core.Path.{_≡_}
 use mathlib.Core.List.{List}
 use Rattle.refusal.specs.Packed.{packed}
 use Rattle.refusal.specs.declared.Answer.{Answer}
-use Rattle.files.specs.Check.{checked}
-use Rattle.files.specs.Formats.{tableFormat, pointFormat}
-use Rattle.layout.specs.Opening.{opened}
-use Rattle.layout.specs.Points.{packAnswer, packMemory}
-use Rattle.listing.specs.Listing.{viewsAnswer, letterAnswer, liveAnswer}
-use Rattle.pair.specs.Pair.{viewAnswer, viewMemory, codeAnswer, codeMemory}
-use Rattle.build.specs.Build.{buildAnswer, buildMemory}
+use Rattle.file.specs.Check.{checked}
+use Rattle.file.specs.Formats.{tableFormat, pointFormat}
+use Rattle.pack.specs.Opening.{opened}
+use Rattle.pack.specs.Points.{packAnswer, packMemory}
+use Rattle.changes_list.specs.Listing.{viewsAnswer, letterAnswer, liveAnswer}
+use Rattle.changes_label.specs.Pair.{viewAnswer, viewMemory, codeAnswer, codeMemory}
+use Rattle.build_pack.specs.Build.{buildAnswer, buildMemory}
 
 -- a contract gives the packed number of one answer, and one content of the buffer
 pub record Allows (answer : Answer) (memory : List ℕ) (r : ℕ) (exit : List ℕ) : Type 0 where

@@ -6,10 +6,10 @@ use mathlib.Core.Logic.{_⊎_}
 use mathlib.Core.List.{List}
 use Rattle.refusal.specs.declared.Reason.{Reason}
 use Rattle.refusal.specs.Refusal.{number}
-use Rattle.series.specs.declared.Series.{Series}
-use Rattle.series.specs.declared.Series.the-variants.{Unasked, Stopped, Done}
-use Rattle.series.specs.Packed.{packedSeries, seriesBytes}
-use Rattle.runs.specs.Runs.{viewSeries, viewsMemory, codeSeries, codesMemory}
+use Rattle.run.specs.declared.Series.{Series}
+use Rattle.run.specs.declared.Series.the-variants.{Unasked, Stopped, Done}
+use Rattle.run.specs.Packed.{packedSeries, seriesBytes}
+use Rattle.changes_runs.specs.Runs.{viewSeries, viewsMemory, codeSeries, codesMemory}
 use Rattle.pack_runs.specs.Runs.{packSeries, packsMemory}
 
 -- a contract gives the packed number of one answer, one content of the buffer and one number of bytes

@@ -4,20 +4,20 @@ use Prim.Native.Nat.{ℕ, _≤_}
 use mathlib.Core.Path.{_≡_}
 use mathlib.Core.List.{List, [], _∷_, _++_}
 use lib.ListN.{length}
-use Rattle.postcode.specs.Outward.{outwardFault}
+use Rattle.field_outward.specs.Outward.{outwardFault}
 use Rattle.refusal.specs.declared.Answer.the-variants.{Value}
-use Rattle.files.specs.Formats.{tableFormat, pointFormat}
-use Rattle.files.proofs.Accepted.{Accepted}
-use Rattle.views.specs.Views.{wantedCount}
-use Rattle.address.specs.Address.{Lookup, Address}
-use Rattle.address.specs.Resolve.{forbidden, missing}
-use Rattle.source.specs.Rows.{tableLookup}
-use Rattle.layout.specs.Layout.{usedBy, packOf}
-use Rattle.layout.specs.Opening.{opened}
-use Rattle.layout.specs.Points.{packAnswer, packMemory}
-use Rattle.carried.specs.Rows.{rowsIn, tableRows, organisationRows}
-use Rattle.pair.specs.Pair.{codeAnswer, codeMemory}
-use Rattle.build.specs.Build.{liveIn}
+use Rattle.file.specs.Formats.{tableFormat, pointFormat}
+use Rattle.file.proofs.Accepted.{Accepted}
+use Rattle.changes_views.specs.Views.{wantedCount}
+use Rattle.source.specs.Address.{Lookup, Address}
+use Rattle.source.specs.Resolve.{forbidden, missing}
+use Rattle.changes_source.specs.Rows.{tableLookup}
+use Rattle.pack.specs.Layout.{usedBy, packOf}
+use Rattle.pack.specs.Opening.{opened}
+use Rattle.pack.specs.Points.{packAnswer, packMemory}
+use Rattle.pack_carries.specs.Rows.{rowsIn, tableRows, organisationRows}
+use Rattle.changes_label.specs.Pair.{codeAnswer, codeMemory}
+use Rattle.build_pack.specs.Build.{liveIn}
 
 -- "it opens, and for every number k and every buffer length answers label k as the files do for the k-th live view of its
 -- code: same answer, same bytes written, same bytes untouched. It holds each table row that its views refer to once, and

@@ -5,13 +5,13 @@ use mathlib.Core.Path.{_≡_}
 use mathlib.Core.Bool.{true}
 use mathlib.Core.List.{List, [], _∷_}
 use lib.ListN.{getD}
-use Rattle.record.specs.Parts.{recordAt}
-use Rattle.views.specs.Views.{lastOf}
-use Rattle.address.specs.Address.{Lookup, present, Asked, keysOf}
-use Rattle.source.specs.Rows.{tableLookup}
-use Rattle.source.specs.Addresses.{addressAt}
-use Rattle.pair.specs.Pair.{viewAnswer, viewMemory, codeAnswer, codeMemory}
-use Rattle.build.specs.Build.{buildAnswer, buildMemory}
+use Rattle.file_record.specs.Parts.{recordAt}
+use Rattle.changes_views.specs.Views.{lastOf}
+use Rattle.source.specs.Address.{Lookup, present, Asked, keysOf}
+use Rattle.changes_source.specs.Rows.{tableLookup}
+use Rattle.changes_source.specs.Addresses.{addressAt}
+use Rattle.changes_label.specs.Pair.{viewAnswer, viewMemory, codeAnswer, codeMemory}
+use Rattle.build_pack.specs.Build.{buildAnswer, buildMemory}
 
 -- of these keys, each that is not zero has the same row in force in both, or none in either
 abbrev pub SameFor : Lookup → Lookup → List Asked → Type 0

@@ -1,4 +1,4 @@
 // The guide's printed examples, as one pair of files, through the same path as any other.
 fn main() {
-    folder::show();
+    report_folder::show();
 }

@@ -12,8 +12,8 @@ use mathlib.Core.List.{List, [], _∷_, _++_}
 use native.Mathlib.Omega.{arith}
 use lib.Dec.{eqb, ltb}
 use lib.ListN.{length, length-append}
-use Rattle.text.specs.Text.{numericLike}
-use Rattle.address.specs.Address.{Elements}
+use Rattle.field.specs.Text.{numericLike}
+use Rattle.source.specs.Address.{Elements}
 use Rattle.label.specs.Lines.{line, boxLine, spaced, street, streetLine, numberText, Premises, premises, table, fronted, places, premisesOf, linesOf}
 use Rattle.label.specs.Label.{ended, labelOf}
 use Rattle.label.specs.Widths.{Fits, NoneAbove}

@@ -8,8 +8,8 @@ use mathlib.Core.Bool.{Bool, true, false}
 use mathlib.Core.List.{List, [], _∷_, _++_}
 use native.Mathlib.Omega.{arith}
 use lib.ListN.{length, getD, replicate, length-replicate}
-use Rattle.text.specs.Text.{numericLike}
-use Rattle.address.specs.Address.{Elements}
+use Rattle.field.specs.Text.{numericLike}
+use Rattle.source.specs.Address.{Elements}
 use Rattle.label.specs.Lines.{numberText, linesOf}
 use Rattle.label.specs.Label.{labelOf}
 use Rattle.label.specs.Widths.{Fits}

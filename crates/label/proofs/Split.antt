@@ -3,7 +3,7 @@
 use Prim.Native.Nat.{ℕ}
 use mathlib.Core.Path.{_≡_, refl, sym, ap, _∙_}
 use mathlib.Core.List.{List, [], _∷_, _++_, append-assoc}
-use Rattle.address.specs.Address.{Elements}
+use Rattle.source.specs.Address.{Elements}
 use Rattle.label.specs.Lines.{line, linesOf}
 use Rattle.label.specs.Label.{ended, labelOf}
 use Rattle.label.specs.Widths.{without}

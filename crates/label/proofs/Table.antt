@@ -8,8 +8,8 @@ use native.Mathlib.Omega.{arith}
 use borrow.Author.Tests.{ne-eqb, lt-ltb, le-ltb}
 use lib.Dec.{eqb, ltb, lit≤}
 use lib.ListN.{length}
-use Rattle.text.specs.Text.{numericLike}
-use Rattle.text.proofs.Tests.{and-true, and-false}
+use Rattle.field.specs.Text.{numericLike}
+use Rattle.field.proofs.Tests.{and-true, and-false}
 use Rattle.label.specs.declared.Spans.{Spans}
 use Rattle.label.specs.declared.shape.Shape.{Shape}
 use Rattle.label.specs.declared.shape.Shape.the-variants.{Bare, NameLine, NameFront, SubLine, SubFront, BothLine, BothFront, SubLineNameFront, TwoLines}

@@ -10,8 +10,8 @@ use borrow.Author.Tests.{leb-true, leb-false, eq-eqb, ne-eqb}
 use lib.Dec.{leb, eqb}
 use lib.ListN.{length, take, drop, length-drop, drop-of-length-le}
 use lib.Seq.{take-all}
-use Rattle.text.specs.Text.{part}
-use Rattle.text.proofs.Texts.{part-bound}
+use Rattle.field.specs.Text.{part}
+use Rattle.field.proofs.Texts.{part-bound}
 use Rattle.label.specs.declared.Span.{Span}
 use Rattle.label.specs.Lines.{isEmpty}
 use Rattle.label.specs.Spans.{textIn2}

@@ -10,7 +10,7 @@ use lib.Dec.{leb}
 use lib.ListN.{length, drop, length-append}
 use Rattle.refusal.specs.declared.Reason.the-variants.{Room}
 use Rattle.refusal.specs.declared.Answer.the-variants.{Value, Refused}
-use Rattle.address.specs.Address.{Elements}
+use Rattle.source.specs.Address.{Elements}
 use Rattle.label.specs.declared.Spans.{Spans}
 use Rattle.label.specs.declared.shape.Shape.{Shape}
 use Rattle.label.specs.declared.shape.Shape.the-variants.{Bare, NameLine, NameFront, SubLine, SubFront, BothLine, BothFront, SubLineNameFront, TwoLines}

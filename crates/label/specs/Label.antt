@@ -8,8 +8,8 @@ use lib.ListN.{length, drop}
 use Rattle.refusal.specs.declared.Reason.the-variants.{Room}
 use Rattle.refusal.specs.declared.Answer.{Answer}
 use Rattle.refusal.specs.declared.Answer.the-variants.{Value, Refused}
-use Rattle.address.specs.Address.{Elements}
-use Rattle.address.specs.Resolve.{Resolved, elements, refused}
+use Rattle.source.specs.Address.{Elements}
+use Rattle.source.specs.Resolve.{Resolved, elements, refused}
 use Rattle.label.specs.Lines.{linesOf}
 
 -- "Each line ends with byte 10"

@@ -4,8 +4,8 @@ use Prim.Native.Nat.{ℕ, zero, suc, _+_, _/_, _%_}
 use mathlib.Core.Bool.{Bool, true, false, cond, not, _&&_}
 use mathlib.Core.List.{List, [], _∷_, _++_}
 use lib.Dec.{eqb, ltb}
-use Rattle.text.specs.Text.{numericLike}
-use Rattle.address.specs.Address.{Elements}
+use Rattle.field.specs.Text.{numericLike}
+use Rattle.source.specs.Address.{Elements}
 
 abbrev pub isEmpty : List ℕ → Bool
 isEmpty [] = true

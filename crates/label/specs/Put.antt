@@ -5,7 +5,7 @@ use mathlib.Core.Path.{_≡_}
 use mathlib.Core.Bool.{Bool, true, false, _&&_}
 use mathlib.Core.List.{List, [], _∷_, _++_}
 use lib.ListN.{length, take, drop}
-use Rattle.address.specs.Address.{Elements}
+use Rattle.source.specs.Address.{Elements}
 use Rattle.label.specs.declared.Span.{Span}
 use Rattle.label.specs.declared.Spans.{Spans}
 use Rattle.label.specs.declared.shape.Lines.{Lines}

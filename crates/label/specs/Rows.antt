@@ -4,7 +4,7 @@ use Prim.Native.Nat.{ℕ}
 use mathlib.Core.Bool.{Bool, true, false, cond, _&&_}
 use mathlib.Core.List.{List}
 use lib.Dec.{eqb}
-use Rattle.text.specs.Text.{numericLike}
+use Rattle.field.specs.Text.{numericLike}
 use Rattle.label.specs.declared.Span.{Span}
 use Rattle.label.specs.declared.Spans.{Spans}
 use Rattle.label.specs.declared.shape.Shape.{Shape}

@@ -3,8 +3,8 @@
 use Prim.Native.Nat.{ℕ, _+_}
 use mathlib.Core.Bool.{cond}
 use mathlib.Core.List.{List}
-use Rattle.text.specs.Text.{part}
-use Rattle.address.specs.Address.{Elements}
+use Rattle.field.specs.Text.{part}
+use Rattle.source.specs.Address.{Elements}
 use Rattle.label.specs.declared.Span.{Span}
 use Rattle.label.specs.declared.Spans.{Spans}
 

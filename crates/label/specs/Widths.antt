@@ -4,7 +4,7 @@
 use Prim.Native.Nat.{ℕ, _≤_}
 use mathlib.Core.List.{List, [], _∷_}
 use lib.ListN.{length}
-use Rattle.address.specs.Address.{Elements}
+use Rattle.source.specs.Address.{Elements}
 
 -- No text is longer than its field. The number needs no bound here, since `numberText` has four bytes at most, and
 -- nothing is asked of which elements are present.

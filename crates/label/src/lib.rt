@@ -1,13 +1,13 @@
 // The label of elements whose texts stand in two lent slices: its definition and laws, and where the texts stand.
 mod shape;
 
+use field::lesser;
 pub use shape::Front;
 pub use shape::Lines;
 pub use shape::Shape;
-use text::lesser;
 ghost use mathlib.Core.Path.{_≡_};
 ghost use Prim.Native.Nat.{_+_};
-ghost use Rattle.text.specs.Text.{part};
+ghost use Rattle.field.specs.Text.{part};
 ghost use Rattle.label.specs.Spans.{textIn2};
 
 // Where a text stands: so many bytes at a place of the first slice or of the second.

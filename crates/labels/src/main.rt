@@ -1,4 +1,4 @@
 // Document 01's program: the labels of `changes1` and `changes2` from the folder that it runs in.
 fn main() {
-    folder::show();
+    report_folder::show();
 }

@@ -7,7 +7,7 @@ use mathlib.Core.List.{List}
 use borrow.Author.Tests.{leb-true}
 use lib.Dec.{leb}
 use lib.ListN.{length}
-use Rattle.text.proofs.Tests.{and-right}
+use Rattle.field.proofs.Tests.{and-right}
 use Rattle.refusal.specs.declared.Reason.{Reason}
 use Rattle.refusal.specs.declared.Reason.the-variants.{NoSuchNumber}
 use Rattle.refusal.specs.declared.Answer.{Answer}
@@ -15,12 +15,12 @@ use Rattle.refusal.specs.declared.Answer.the-variants.{Value, Refused}
 use Rattle.refusal.proofs.Answers.{refused-value}
 use Rattle.label.specs.Label.{labelOf, roomAnswer, roomMemory}
 use Rattle.label.proofs.Room.{room-fits}
-use Rattle.layout.specs.Opening.{pointCount, opened}
-use Rattle.layout.specs.Points.{elementsAt, pointPlace, isPoint, pointAnswer, pointMemory, packAnswer, packMemory}
-use Rattle.pack.proofs.Laws.{opened-point}
-use Rattle.series.specs.declared.Series.the-variants.{Unasked}
-use Rattle.series.specs.Series.{seriesFrom, memoryFrom}
-use Rattle.series.proofs.Same.{Alike, same-series, same-memory}
+use Rattle.pack.specs.Opening.{pointCount, opened}
+use Rattle.pack.specs.Points.{elementsAt, pointPlace, isPoint, pointAnswer, pointMemory, packAnswer, packMemory}
+use Rattle.pack_label.proofs.Laws.{opened-point}
+use Rattle.run.specs.declared.Series.the-variants.{Unasked}
+use Rattle.run.specs.Series.{seriesFrom, memoryFrom}
+use Rattle.run.proofs.Same.{Alike, same-series, same-memory}
 use Rattle.pack_runs.specs.Runs.{packAsked, packSeries, packsMemory, pointsAsked}
 
 -- a label that is answered with its bytes is a point's, and fits

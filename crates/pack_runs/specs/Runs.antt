@@ -2,10 +2,10 @@
 -- Assumes nothing.
 use Prim.Native.Nat.{ℕ}
 use mathlib.Core.List.{List}
-use Rattle.layout.specs.Opening.{opened}
-use Rattle.layout.specs.Points.{pointAnswer, pointMemory, afterOpened, packAnswer, packMemory}
-use Rattle.series.specs.declared.Series.{Series}
-use Rattle.series.specs.Series.{Asking, seriesFrom, memoryFrom, wholly}
+use Rattle.pack.specs.Opening.{opened}
+use Rattle.pack.specs.Points.{pointAnswer, pointMemory, afterOpened, packAnswer, packMemory}
+use Rattle.run.specs.declared.Series.{Series}
+use Rattle.run.specs.Series.{Asking, seriesFrom, memoryFrom, wholly}
 
 -- "equal to asking for each in turn"
 abbrev pub packAsked : List ℕ → Asking

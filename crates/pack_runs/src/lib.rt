@@ -3,7 +3,7 @@ mod points;
 
 use points::run_points;
 use refusal::Answer;
-use series::Series;
+use run::Series;
 ghost use mathlib.Core.Path.{_≡_};
 ghost use Rattle.pack_runs.specs.Runs.{packSeries, packsMemory};
 
@@ -11,7 +11,7 @@ ghost use Rattle.pack_runs.specs.Runs.{packSeries, packsMemory};
 pub fn labels_of_points<'a>(pack: &'a [u8], first: usize, count: usize, out: &mut [u8]) -> Series
     ensures { λ r. ⌜ (r ≡ packSeries (now (pack .entry)) first count (now (out .entry))) × (now (out .exit) ≡ packsMemory (now (pack .entry)) first count (now (out .entry))) ⌝ }
 {
-    match open::open_pack(pack) {
+    match pack_open::open_pack(pack) {
         Answer::Value(points) => run_points(pack, points, first, count, out),
         Answer::Refused { file, reason } => Series::Unasked { file, reason },
     }

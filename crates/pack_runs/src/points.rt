@@ -1,14 +1,14 @@
 // A run over the points of a pack that is opened.
 use refusal::Answer;
-use series::Series;
+use run::Series;
 ghost use mathlib.Core.Path.{_≡_};
 ghost use mathlib.Core.List.{_++_};
 ghost use Prim.Native.Nat.{_≤_};
 ghost use lib.ListN.{length, take, drop};
-ghost use Rattle.layout.specs.Opening.{pointCount};
-ghost use Rattle.layout.specs.Points.{pointAnswer, pointMemory};
-ghost use Rattle.open_points.specs.Ready.{Sized};
-ghost use Rattle.series.specs.Series.{seriesFrom, memoryFrom};
+ghost use Rattle.pack.specs.Opening.{pointCount};
+ghost use Rattle.pack.specs.Points.{pointAnswer, pointMemory};
+ghost use Rattle.pack_points.specs.Ready.{Sized};
+ghost use Rattle.run.specs.Series.{seriesFrom, memoryFrom};
 ghost use Rattle.pack_runs.specs.Runs.{pointsAsked};
 
 // The label of point k, behind so many bytes.
@@ -16,7 +16,7 @@ fn label_behind<'a>(pack: &'a [u8], points: usize, k: usize, at: usize, out: &mu
     requires { ⌜ (at ≤ length (now out)) × (Sized (now pack) × (points ≡ pointCount (now pack))) ⌝ }
     ensures { λ r. ⌜ (r ≡ pointAnswer (now (pack .entry)) k (drop at (now (out .entry)))) × (now (out .exit) ≡ take at (now (out .entry)) ++ pointMemory (now (pack .entry)) k (drop at (now (out .entry)))) ⌝ }
 {
-    pack::inner::label_at(pack, points, k, &mut out[at..])
+    pack_label::inner::label_at(pack, points, k, &mut out[at..])
 }
 
 // So many labels from point `first` on.

@@ -1,6 +1,7 @@
-// Document 01's numbered refusals, and the one number in which an answer reaches a C program.
+// Document 01's numbered refusals: their numbers and details, how one is made, and the one number in which an answer
+// reaches a C program.
 ghost use mathlib.Core.Path.{_≡_};
-ghost use Rattle.refusal.specs.Refusal.{number, detail, second};
+ghost use Rattle.refusal.specs.Refusal.{number, detail, second, malformedAt, withView};
 ghost use Rattle.refusal.specs.Packed.{word, packed};
 
 // Why a call refuses, a case for each number of document 01's table, with its details. Records, views, rules, fields
@@ -109,5 +110,32 @@ pub fn packed_answer(answer: Answer) -> usize
                 detail_of(reason),
             )
         }
+    }
+}
+
+// The refusal of a malformed record: where it stands in its file, and where its first fault stands in it.
+pub fn malformed(at: usize, byte: usize) -> Reason
+    ensures { λ r. ⌜ r ≡ malformedAt at byte ⌝ }
+{
+    Reason::Malformed { record: at, byte }
+}
+
+// The same refusal with the view at which building stopped.
+pub fn with_view(reason: Reason, view: usize) -> Reason
+    ensures { λ r. ⌜ r ≡ withView view reason ⌝ }
+{
+    match reason {
+        Reason::Length => Reason::Length,
+        Reason::Header => Reason::Header,
+        Reason::Trailer { record } => Reason::Trailer { record },
+        Reason::Malformed { record, byte } => Reason::Malformed { record, byte },
+        Reason::NotAbove { record } => Reason::NotAbove { record },
+        Reason::Follower { record } => Reason::Follower { record },
+        Reason::NoSuchNumber => Reason::NoSuchNumber,
+        Reason::Combination { rule, view: _ } => Reason::Combination { rule, view },
+        Reason::MissingKey { field, view: _ } => Reason::MissingKey { field, view },
+        Reason::Room { needed } => Reason::Room { needed },
+        Reason::BadPack { step } => Reason::BadPack { step },
+        Reason::BadCode => Reason::BadCode,
     }
 }

@@ -10,13 +10,13 @@ use Rattle.refusal.specs.declared.Reason.the-variants.{NoSuchNumber}
 use Rattle.refusal.specs.declared.Answer.{Answer}
 use Rattle.refusal.specs.declared.Answer.the-variants.{Value, Refused}
 use Rattle.refusal.specs.Refusal.{number, detail, second}
-use Rattle.record.specs.Parts.{recordAt}
-use Rattle.files.specs.Check.{checked}
-use Rattle.files.specs.Formats.{tableFormat, pointFormat}
-use Rattle.views.specs.Views.{wantedCount, wantedAt}
-use Rattle.address.specs.Resolve.{Resolved, elements, refused}
+use Rattle.file_record.specs.Parts.{recordAt}
+use Rattle.file.specs.Check.{checked}
+use Rattle.file.specs.Formats.{tableFormat, pointFormat}
+use Rattle.changes_views.specs.Views.{wantedCount, wantedAt}
+use Rattle.source.specs.Resolve.{Resolved, elements, refused}
 use Rattle.label.specs.Label.{labelOf}
-use Rattle.pair.specs.Pair.{resolvedAt}
+use Rattle.changes_label.specs.Pair.{resolvedAt}
 
 -- the words `pair`, `view`, `refused`, `table`, `points`, `long`
 abbrev pub pairWord : List ℕ

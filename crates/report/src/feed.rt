@@ -1,5 +1,5 @@
 // Pieces of a report, written at a place of a lent buffer as far as it goes. All else stays as it was.
-use pieces::inner::bytes_at;
+use label_pieces::inner::bytes_at;
 use refusal::Reason;
 ghost use Prim.Native.Nat.{_≤_};
 ghost use lib.ListN.{length};

@@ -1,2 +1,2 @@
-pub mod Digits
-pub mod Table
+pub mod Worked
+pub mod Same

@@ -1,3 +1,2 @@
-pub mod Rows
-pub mod Addresses
-pub mod Pair
+pub mod Address
+pub mod Resolve

@@ -1,1 +1,1 @@
-// What a pair of files says: its rows and its addresses. This crate has definitions and laws, and no code.
+// What a delivery point says and what is printed of it, wherever it was read. This crate has definitions and no code.

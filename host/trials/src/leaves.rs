@@ -1,6 +1,6 @@
-//! The leaves, from the static library `leaves`, which is built for these trials alone.
+//! The leaves, from the static library `test_leaves`, which is built for these trials alone.
 
-#[link(name = "leaves", kind = "static")]
+#[link(name = "test_leaves", kind = "static")]
 extern "C" {
     fn leaf_digits_fault(s: *const u8, len: usize) -> usize;
     fn leaf_text_fault(s: *const u8, len: usize) -> usize;

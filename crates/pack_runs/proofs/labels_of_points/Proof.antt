@@ -1,7 +1,7 @@
 -- `pack_runs::labels_of_points` meets its contract. Assumes nothing.
 use borrow.Author.Needs.{needs}
 use mathlib.Core.Path.{_≡_, sym, _∙_}
-use Rattle.open.proofs.Opened.{opened-all, opened-sized}
+use Rattle.pack_open.proofs.Opened.{opened-all, opened-sized}
 use Rattle.pack_runs.proofs.Laws.{points-say, pack-unasked}
 use Rattle.pack_runs.proofs.labels_of_points.Statement.{statement}
 use Rattle.pack_runs.proofs.labels_of_points.Tie as tie

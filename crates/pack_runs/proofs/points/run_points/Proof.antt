@@ -9,8 +9,8 @@ use native.Mathlib.Nat.{add-zero}
 use lib.ListN.{length, take, drop, length-append}
 use lib.Seq.{length-take-le}
 use Rattle.refusal.specs.declared.Answer.the-variants.{Value, Refused}
-use Rattle.layout.specs.Points.{pointAnswer, pointMemory}
-use Rattle.series.proofs.Going.{Going, going-start, going-step, going-stop, going-end}
+use Rattle.pack.specs.Points.{pointAnswer, pointMemory}
+use Rattle.run.proofs.Going.{Going, going-start, going-step, going-stop, going-end}
 use Rattle.pack_runs.specs.Runs.{pointsAsked}
 use Rattle.pack_runs.proofs.Laws.{point-bound, point-fits}
 use Rattle.pack_runs.proofs.points.run_points.Statement.{statement}

@@ -1,2 +1,0 @@
-// The views of a report, written into a lent buffer as far as it goes.
-pub mod inner;

@@ -1,0 +1,32 @@
+-- `build_bytes::fields::text_at` meets its contract. Assumes nothing.
+use borrow.Author.Needs.{needs}
+use mathlib.Core.Path.{ap}
+use native.Mathlib.Omega.{arith}
+use Rattle.label.proofs.Puts.{put-as}
+use Rattle.changes_spans.proofs.Laws.{text-in-bound}
+use Rattle.build_bytes.specs.Emit.{sized}
+use Rattle.build_bytes.proofs.fields.text_at.Statement.{statement}
+use Rattle.build_bytes.proofs.fields.text_at.Tie as tie
+
+read-text-requires : tie.Need-read-text-requires
+read-text-requires c κs = search needs
+
+sized-at-requires : tie.Need-sized-at-requires
+sized-at-requires c κs =
+    let c₁ = c .before in
+    let s = c₁ .before .before .before in
+    let a = s .args in
+    rw (c₁ .read-text .ensures)
+    (omega (arith, text-in-bound (a .rec .now) (a .start) (a .end), s .pre .0), s .pre .1)
+
+same-length : tie.Need-same-length
+same-length c = search needs
+
+returns : tie.Need-returns
+returns c =
+    let c₁ = c .before .before in
+    let c₂ = c₁ .before .before in
+    put-as (ap sized (c₂ .read-text .ensures)) (c₁ .sized-at .ensures)
+
+pub text-at-spec : {M : Type 1} → statement M
+text-at-spec = tie.close (tie.spec read-text-requires sized-at-requires same-length returns)

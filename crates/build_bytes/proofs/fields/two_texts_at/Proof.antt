@@ -1,0 +1,42 @@
+-- `build_bytes::fields::two_texts_at` meets its contract. Assumes nothing.
+use borrow.Author.Needs.{needs}
+use mathlib.Core.List.{[], _∷_}
+use Rattle.field.specs.Text.{textIn}
+use Rattle.label.proofs.Puts.{room-first, room-after, room-as, put-then, put-as}
+use Rattle.pack.specs.Layout.{textsBytes}
+use Rattle.build_bytes.specs.Emit.{sized}
+use Rattle.build_bytes.proofs.Texts.{texts-last}
+use Rattle.build_bytes.proofs.fields.two_texts_at.Statement.{statement}
+use Rattle.build_bytes.proofs.fields.two_texts_at.Tie as tie
+
+text-at-requires : tie.Need-text-at-requires
+text-at-requires c κs =
+    let s = c .before .before .before in
+    let a = s .args in
+    let first = textIn (a .rec .now) (a .start) (a .middle) in
+    let second = textIn (a .rec .now) (a .middle) (a .end) in
+    (s .pre .0 .0, room-first (sized first) (textsBytes (second ∷ [])) (a .out .now) (a .at) (s .pre .1))
+
+text-at-requires-2 : tie.Need-text-at-requires-2
+text-at-requires-2 c κs =
+    let c₁ = c .before .before .before in
+    let s = c₁ .before .before .before .before in
+    let a = s .args in
+    let second = textIn (a .rec .now) (a .middle) (a .end) in
+    let room = room-after (textsBytes (second ∷ [])) (c₁ .text-at .ensures) (s .pre .1) in
+    (s .pre .0 .1, room-as (c₁ .text-at .last .1 .1 .1 .1 .0) (c₁ .text-at .result) (texts-last second) room)
+
+same-length : tie.Need-same-length
+same-length c = search needs
+
+returns : tie.Need-returns
+returns c =
+    let c₂ = c .before .before in
+    let c₁ = c₂ .before .before .before .before in
+    let s = c₁ .before .before .before .before in
+    let a = s .args in
+    let second = textIn (a .rec .now) (a .middle) (a .end) in
+    put-then (c₁ .text-at .ensures) (put-as (texts-last second) (c₂ .text-at2 .ensures)) (s .pre .1)
+
+pub two-texts-at-spec : {M : Type 1} → statement M
+two-texts-at-spec = tie.close (tie.spec text-at-requires text-at-requires-2 same-length returns)

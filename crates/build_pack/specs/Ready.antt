@@ -1,0 +1,28 @@
+-- What a builder knows as it goes: the files are judged, then the rows are marked.
+-- Assumes nothing.
+use Prim.Native.Nat.{ℕ, _≤_}
+use mathlib.Core.Path.{_≡_}
+use mathlib.Core.List.{List}
+use lib.ListN.{length, getD}
+use Rattle.field_outward.specs.Outward.{outwardFault}
+use Rattle.file.specs.declared.verdict.Verdict.the-variants.{Fine}
+use Rattle.file.specs.Formats.{tableFormat, pointFormat}
+use Rattle.file.proofs.Accepted.{Accepted}
+use Rattle.changes_views.specs.Views.{wantedIn}
+use Rattle.changes_rows.specs.Rows.{lastOf}
+use Rattle.build_plan.specs.Places.{firstRefused, markPlaces}
+
+-- both files are accepted and the code is well formed
+pub record Judged (table points code : List ℕ) : Type 0 where
+  pub of-table : Accepted tableFormat table
+  pub of-points : Accepted pointFormat points
+  pub of-code : outwardFault code ≡ 0
+
+-- no packed view is refused, and the records that they refer to are marked, from none
+pub record Marked (table points code marks : List ℕ) : Type 0 where
+  pub judged : Judged table points code
+  pub none-refused : firstRefused table points (wantedIn code points) ≡ Fine
+  pub fresh : List ℕ
+  pub no-marks : (i : ℕ) → getD fresh i 0 ≡ 0
+  pub long : length fresh ≡ 20_000
+  pub marked : marks ≡ markPlaces table points (wantedIn code points) fresh

@@ -1,0 +1,28 @@
+// The label of a view of accepted files, which are not judged again.
+use file::Verdict;
+use refusal::Answer;
+use refusal::Reason;
+ghost use mathlib.Core.Path.{_≡_};
+ghost use Rattle.changes_label.specs.Pair.{ViewPlace, placeAnswer, placeMemory};
+
+// The label of the view at a place, 0 being no place.
+pub fn label_at<'a>(table: &'a [u8], points: &'a [u8], place: usize, out: &mut [u8]) -> Answer
+    requires { ⌜ ViewPlace (now table) (now points) place ⌝ }
+    ensures { λ r. ⌜ (r ≡ placeAnswer (now (table .entry)) (now (points .entry)) place (now (out .entry))) × (now (out .exit) ≡ placeMemory (now (table .entry)) (now (points .entry)) place (now (out .entry))) ⌝ }
+{
+    if place == 0 {
+        return Answer::Refused {
+            file: 0,
+            reason: Reason::NoSuchNumber,
+        };
+    }
+    match changes_missing::refusal_in(table, file_record::point_record(points, place)) {
+        Verdict::Fine => label_print::print_label(
+            table,
+            points,
+            changes_spans::spans_of(table, points, place),
+            out,
+        ),
+        Verdict::Bad(reason) => Answer::Refused { file: 0, reason },
+    }
+}

@@ -1,0 +1,26 @@
+-- `changes_list::live_at` meets its contract. Assumes nothing.
+use borrow.Author.Needs.{needs}
+use mathlib.Core.Path.{_≡_, refl, sym, ap, _∙_}
+use borrow.Author.Tests.{eq-eqb, ne-eqb}
+use Rattle.changes_list.specs.Listing.{liveAt}
+use Rattle.changes_list.proofs.live_at.Statement.{statement}
+use Rattle.changes_list.proofs.live_at.Tie as tie
+
+outward-fault-requires : tie.Need-outward-fault-requires
+outward-fault-requires c κs = search needs
+
+count-wanted-requires : tie.Need-count-wanted-requires
+count-wanted-requires c κs = search needs
+
+returns : tie.Need-returns
+unfolding liveAt
+returns c =
+    let t = c .before in
+    rw (c .count-wanted .ensures) (simp (eq-eqb _ 0 (sym (t .before .outward-fault .ensures) ∙ t .if1 .taken)))
+
+returns-2 : tie.Need-returns-2
+unfolding liveAt
+returns-2 c = simp (ne-eqb _ 0 (rw (c .before .outward-fault .ensures) at (c .if1 .left)))
+
+pub live-at-spec : {M : Type 1} → statement M
+live-at-spec = tie.close (tie.spec outward-fault-requires count-wanted-requires returns returns-2)

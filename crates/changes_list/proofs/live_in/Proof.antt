@@ -1,0 +1,36 @@
+-- `changes_list::live_in` meets its contract. Assumes nothing.
+use borrow.Author.Needs.{needs}
+use mathlib.Core.Path.{_≡_, refl, sym, ap, _∙_}
+use Rattle.changes_list.specs.Listing.{liveAnswer}
+use Rattle.changes_list.proofs.Laws.{after-value, after-refused}
+use Rattle.changes_list.proofs.live_in.Statement.{statement}
+use Rattle.changes_list.proofs.live_in.Tie as tie
+
+check-points-requires : tie.Need-check-points-requires
+check-points-requires c κs = search needs
+
+enum-told : tie.Need-enum-told
+enum-told c = search needs
+
+live-at-requires : tie.Need-live-at-requires
+live-at-requires c κs = search needs
+
+enum-known-file : tie.Need-enum-known-file
+enum-known-file c = search needs
+
+returns : tie.Need-returns
+unfolding liveAnswer
+returns c =
+    let k = c .before .before .before in
+    rw (c .live-at .ensures) (after-value _ _ _ (k .check-points .ensures) _ (c .before .enum-told .given .1))
+
+returns-2 : tie.Need-returns-2
+unfolding liveAnswer
+returns-2 c =
+    let k = c .before .before .before in
+    after-refused _ _ _ (k .check-points .ensures) _ _ (c .before .file .given .1)
+
+pub live-in-spec : {M : Type 1} → statement M
+live-in-spec =
+    tie.close
+    (tie.spec check-points-requires enum-told live-at-requires enum-known-file returns returns-2)

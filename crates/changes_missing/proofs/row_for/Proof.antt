@@ -1,0 +1,24 @@
+-- `changes_missing::row_for` meets its contract. Assumes nothing.
+use borrow.Author.Needs.{needs}
+use mathlib.Core.Path.{_≡_, refl, sym, ap, _∙_}
+use Rattle.changes_keys.specs.Keys.{rowFor}
+use Rattle.changes_missing.proofs.row_for.Statement.{statement}
+use Rattle.changes_missing.proofs.row_for.Tie as tie
+
+add-part-of : tie.Need-add-part-of
+add-part-of c = search needs
+
+part-of-requires : tie.Need-part-of-requires
+part-of-requires c κs = search needs
+
+find-row-requires : tie.Need-find-row-requires
+find-row-requires c κs = search needs
+
+returns : tie.Need-returns
+unfolding rowFor
+returns c =
+    let c₁ = c .before in
+    rw (c .find-row .ensures, c₁ .part-of .ensures)
+
+pub row-for-spec : {M : Type 1} → statement M
+row-for-spec = tie.close (tie.spec add-part-of part-of-requires find-row-requires returns)

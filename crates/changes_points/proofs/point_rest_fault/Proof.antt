@@ -1,0 +1,59 @@
+-- `changes_points::point_rest_fault` meets its contract. Assumes nothing.
+use borrow.Author.Needs.{needs}
+use mathlib.Core.Path.{_≡_, refl, sym, ap, _∙_}
+use borrow.Author.Tests.{ne-eqb}
+use Rattle.changes_points.proofs.point_rest_fault.Statement.{statement}
+use Rattle.changes_points.proofs.point_rest_fault.Tie as tie
+
+byte-of-requires : tie.Need-byte-of-requires
+byte-of-requires c κs = search needs
+
+view-fault-requires : tie.Need-view-fault-requires
+view-fault-requires c κs = search needs
+
+filled-at-requires : tie.Need-filled-at-requires
+filled-at-requires c κs = search needs
+
+organisation-fault-requires : tie.Need-organisation-fault-requires
+organisation-fault-requires c κs = search needs
+
+text-at-requires : tie.Need-text-at-requires
+text-at-requires c κs = search needs
+
+organisation-fault-requires-2 : tie.Need-organisation-fault-requires-2
+organisation-fault-requires-2 c κs = search needs
+
+returns : tie.Need-returns
+returns c =
+    let m = c .before in
+    rw (c .view-fault .ensures) (simp (sym (m .before .byte-of .ensures) ∙ m .match .keys1))
+
+returns-2 : tie.Need-returns-2
+returns-2 c =
+    let m = c .before .before in
+    rw (c .organisation-fault .ensures, c .before .filled-at .ensures) (simp (sym (m .before .byte-of .ensures) ∙ m .match .keys2))
+
+returns-3 : tie.Need-returns-3
+returns-3 c =
+    let m = c .before .before in
+    rw (c .organisation-fault2 .ensures, c .before .text-at .ensures) (simp (sym (m .before .byte-of .ensures) ∙ m .match .keys3))
+
+returns-4 : tie.Need-returns-4
+returns-4 c =
+    let n = rw (c .before .byte-of .ensures) at (c .match .rest) in
+    simp (ne-eqb _ 49 (n .0 .0 .1), ne-eqb _ 50 (n .0 .1), ne-eqb _ 51 (n .1))
+
+pub point-rest-fault-spec : {M : Type 1} → statement M
+point-rest-fault-spec =
+    tie.close
+    (tie.spec
+    byte-of-requires
+    view-fault-requires
+    filled-at-requires
+    organisation-fault-requires
+    text-at-requires
+    organisation-fault-requires-2
+    returns
+    returns-2
+    returns-3
+    returns-4)

@@ -1,0 +1,27 @@
+-- `changes_points::yes_at` meets its contract. Assumes nothing.
+use borrow.Author.Needs.{needs}
+use mathlib.Core.Path.{_≡_, refl, sym, ap, _∙_}
+use mathlib.Core.List.{[], _∷_}
+use Rattle.file_fault.proofs.Laws.{one-byte}
+use Rattle.changes_points.proofs.yes_at.Statement.{statement}
+use Rattle.changes_points.proofs.yes_at.Tie as tie
+
+byte-of-requires : tie.Need-byte-of-requires
+byte-of-requires c κs = search needs
+
+is-yes-or-space-requires : tie.Need-is-yes-or-space-requires
+is-yes-or-space-requires c κs = search needs
+
+byte-fault-requires : tie.Need-byte-fault-requires
+byte-fault-requires c κs = search needs
+
+returns : tie.Need-returns
+returns c =
+    let t = c .before in
+    let b = t .before in
+    let a = b .before .before .args in
+    rw (c .byte-fault .ensures, t .is-yes-or-space .ensures, b .byte-of .ensures, one-byte (89 ∷ 32 ∷ []) (a .rec .now) (a .at))
+
+pub yes-at-spec : {M : Type 1} → statement M
+yes-at-spec =
+    tie.close (tie.spec byte-of-requires is-yes-or-space-requires byte-fault-requires returns)

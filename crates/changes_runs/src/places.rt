@@ -1,0 +1,77 @@
+// A run over the views of accepted files, which are not judged again.
+use refusal::Answer;
+use run::Series;
+ghost use mathlib.Core.Path.{_≡_};
+ghost use mathlib.Core.List.{_++_};
+ghost use Prim.Native.Nat.{_≤_};
+ghost use lib.ListN.{length, take, drop};
+ghost use Rattle.file.proofs.Accepted.{Accepted};
+ghost use Rattle.file.specs.Formats.{tableFormat, pointFormat};
+ghost use Rattle.changes_views.specs.Views.{lastOf};
+ghost use Rattle.changes_label.specs.Pair.{placeAnswer, placeMemory, ViewPlace};
+ghost use Rattle.run.specs.Series.{seriesFrom, memoryFrom};
+ghost use Rattle.changes_runs.specs.Runs.{placesAsked, placeBehind};
+
+// The label of the view at a place, behind so many bytes.
+fn label_behind<'a>(
+    table: &'a [u8],
+    points: &'a [u8],
+    place: usize,
+    at: usize,
+    out: &mut [u8],
+) -> Answer
+    requires { ⌜ (at ≤ length (now out)) × ViewPlace (now table) (now points) place ⌝ }
+    ensures { λ r. ⌜ (r ≡ placeAnswer (now (table .entry)) (now (points .entry)) place (drop at (now (out .entry)))) × (now (out .exit) ≡ take at (now (out .entry)) ++ placeMemory (now (table .entry)) (now (points .entry)) place (drop at (now (out .entry)))) ⌝ }
+{
+    changes_label::inner::label_at(table, points, place, &mut out[at..])
+}
+
+// The place of the next that is wanted, 0 where there is none.
+fn place_behind(points: &[u8], code: &[u8], place: usize) -> usize
+    requires { ⌜ place ≤ lastOf (now points) ⌝ }
+    ensures { λ r. ⌜ r ≡ placeBehind (now (code .entry)) (now (points .entry)) place ⌝ }
+{
+    let next = changes_views::next_wanted(points, code, place + 1);
+    if next < changes_views::last_of(points) {
+        next
+    } else {
+        0
+    }
+}
+
+// So many labels from the k-th that is wanted on.
+pub fn run_places<'a>(
+    table: &'a [u8],
+    points: &'a [u8],
+    code: &[u8],
+    first: usize,
+    count: usize,
+    out: &mut [u8],
+) -> Series
+    requires { ⌜ Accepted tableFormat (now table) × Accepted pointFormat (now points) ⌝ }
+    ensures { λ r. ⌜ (r ≡ seriesFrom (placesAsked (now (table .entry)) (now (points .entry)) (now (code .entry))) first count (now (out .entry))) × (now (out .exit) ≡ memoryFrom (placesAsked (now (table .entry)) (now (points .entry)) (now (code .entry))) first count (now (out .entry))) ⌝ }
+{
+    let mut place = changes_views::wanted_at(points, code, first);
+    let mut at = 0;
+    let mut done = 0;
+    while done < count {
+        match label_behind(table, points, place, at, out) {
+            Answer::Value(bytes) => {
+                at += bytes;
+            }
+            Answer::Refused { file: _, reason } => {
+                return Series::Stopped {
+                    labels: done,
+                    bytes: at,
+                    reason,
+                };
+            }
+        }
+        place = place_behind(points, code, place);
+        done += 1;
+    }
+    Series::Done {
+        labels: done,
+        bytes: at,
+    }
+}

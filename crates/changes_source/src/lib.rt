@@ -1,0 +1,1 @@
+// What a pair of files says: its rows and its addresses. This crate has definitions and laws, and no code.

@@ -1,0 +1,64 @@
+-- `changes_table::fine::is_fine_text` meets its contract. Assumes nothing.
+use borrow.Author.Needs.{needs}
+use mathlib.Core.Path.{_≡_, refl, sym, ap, _∙_}
+use native.Mathlib.Omega.{arith}
+use Prim.Native.Nat.{_-_}
+use mathlib.Core.Bool.{not}
+use borrow.Author.Tests.{not-true}
+use Rattle.field.specs.Text.{textByte}
+use Rattle.field_test.proofs.Laws.{begun-filled}
+use Rattle.changes_table.proofs.Laws.{three, overlap}
+use Rattle.changes_table.proofs.fine.is_fine_text.Statement.{statement}
+use Rattle.changes_table.proofs.fine.is_fine_text.Tie as tie
+
+part-of-requires : tie.Need-part-of-requires
+part-of-requires c κs = search needs
+
+are-text-requires : tie.Need-are-text-requires
+are-text-requires c κs = search needs
+
+sub-part-of : tie.Need-sub-part-of
+sub-part-of c = search needs
+
+part-of-requires-2 : tie.Need-part-of-requires-2
+part-of-requires-2 c κs = search needs
+
+are-text-requires-2 : tie.Need-are-text-requires-2
+are-text-requires-2 c κs = search needs
+
+part-of-requires-3 : tie.Need-part-of-requires-3
+part-of-requires-3 c κs = search needs
+
+starts-blank-requires : tie.Need-starts-blank-requires
+starts-blank-requires c κs = search needs
+
+returns : tie.Need-returns
+returns c =
+    let r = c .before in
+    let b = r .before in
+    let q = b .before in
+    let f = q .before in
+    let p = f .before in
+    let a = p .before .before .args in
+    λ e.
+    let each = three (f .are-text .result) (b .are-text2 .result) (not (c .starts-blank .result)) e in
+    begun-filled _ (rw (r .part-of3 .ensures) at (sym (c .starts-blank .ensures) ∙ not-true _ (each .2)))
+    (overlap (a .rec .now) textByte 24 (a .end - 16) (a .most) (a .end)
+    (omega arith)
+    (omega arith)
+    (omega arith)
+    (rw (p .part-of .ensures) at (sym (f .are-text .ensures) ∙ each .0))
+    (rw (q .part-of2 .ensures) at (sym (b .are-text2 .ensures) ∙ each .1)))
+
+pub is-fine-text-spec : {M : Type 1} → statement M
+is-fine-text-spec =
+    tie.close
+    (tie.spec
+    part-of-requires
+    are-text-requires
+    sub-part-of
+    part-of-requires-2
+    are-text-requires-2
+    part-of-requires-3
+    starts-blank-requires
+    returns)

@@ -1,0 +1,28 @@
+-- `field_read::digit_value` meets its contract. Assumes nothing.
+use borrow.Author.Needs.{needs}
+use mathlib.Core.Path.{_≡_, refl, sym, ap, _∙_}
+use native.Mathlib.Omega.{arith}
+use Rattle.field.specs.Digits.{digitValue}
+use Rattle.field.proofs.Tests.{range-low}
+use Rattle.field_read.proofs.digit_value.Statement.{statement}
+use Rattle.field_read.proofs.digit_value.Tie as tie
+
+is-digit-requires : tie.Need-is-digit-requires
+is-digit-requires c κs = search needs
+
+sub-result : tie.Need-sub-result
+sub-result c = range-low 48 57 (c .before .before .args .b) (sym (c .before .is-digit .ensures) ∙ c .if1 .taken)
+
+cast-result : tie.Need-cast-result
+cast-result c = search needs
+
+returns : tie.Need-returns
+unfolding digitValue
+returns c = simp (sym (c .before .is-digit .ensures) ∙ c .if1 .taken)
+
+returns-2 : tie.Need-returns-2
+unfolding digitValue
+returns-2 c = simp (sym (c .before .is-digit .ensures) ∙ c .if1 .left)
+
+pub digit-value-spec : {M : Type 1} → statement M
+digit-value-spec = tie.close (tie.spec is-digit-requires sub-result cast-result returns returns-2)

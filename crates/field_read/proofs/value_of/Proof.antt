@@ -1,0 +1,35 @@
+-- `field_read::value_of` meets its contract. Assumes nothing.
+use borrow.Author.Needs.{needs}
+use mathlib.Core.Path.{_≡_, refl, sym, ap, _∙_}
+use native.Mathlib.Omega.{arith}
+use lib.Seq.{length-take-le}
+use Rattle.field.specs.Digits.{value}
+use Rattle.field.proofs.Values.{value-whole}
+use Rattle.field_read.proofs.value_of.Statement.{statement}
+use Rattle.field_read.proofs.value_of.Tie as tie
+
+slice-aggregate-nine-digits : tie.Need-slice-aggregate-nine-digits
+slice-aggregate-nine-digits c = sym (length-take-le 9 (c .before .before .before .args .s .now) (omega arith))
+
+nine-digits-requires : tie.Need-nine-digits-requires
+nine-digits-requires c κs = omega (arith, length-take-le 9 (c .before .before .before .args .s .now) (omega arith))
+
+nine-digits-requires-2 : tie.Need-nine-digits-requires-2
+nine-digits-requires-2 c κs = search needs
+
+returns : tie.Need-returns
+unfolding value
+returns c = c .nine-digits .ensures
+
+returns-2 : tie.Need-returns-2
+returns-2 c = c .nine-digits2 .ensures ∙ sym (value-whole (c .before .before .before .args .s .now) (omega arith))
+
+pub value-of-spec : {M : Type 1} → statement M
+value-of-spec =
+    tie.close
+    (tie.spec
+    slice-aggregate-nine-digits
+    nine-digits-requires
+    nine-digits-requires-2
+    returns
+    returns-2)

@@ -1,0 +1,28 @@
+-- `field_test::filled_fault` meets its contract. Assumes nothing.
+use borrow.Author.Needs.{needs}
+use mathlib.Core.Path.{_≡_, refl, sym, ap, _∙_}
+use Rattle.field.proofs.Texts.{filled-blank, filled-other}
+use Rattle.field_test.proofs.filled_fault.Statement.{statement}
+use Rattle.field_test.proofs.filled_fault.Tie as tie
+
+starts-blank-requires : tie.Need-starts-blank-requires
+starts-blank-requires c κs = search needs
+
+text-bytes-fault-requires : tie.Need-text-bytes-fault-requires
+text-bytes-fault-requires c κs = search needs
+
+returns : tie.Need-returns
+returns c =
+    let a = c .before .before .before .args in
+    sym (filled-blank (a .s .now) (sym (c .before .starts-blank .ensures) ∙ c .if1 .taken))
+
+returns-2 : tie.Need-returns-2
+returns-2 c =
+    let e = c .before in
+    let a = e .before .before .before .args in
+    c .text-bytes-fault .ensures
+    ∙ sym (filled-other (a .s .now) (sym (e .before .starts-blank .ensures) ∙ e .if1 .left))
+
+pub filled-fault-spec : {M : Type 1} → statement M
+filled-fault-spec =
+    tie.close (tie.spec starts-blank-requires text-bytes-fault-requires returns returns-2)

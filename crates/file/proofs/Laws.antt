@@ -1,0 +1,99 @@
+-- Laws of the check of a file.
+-- Assumes nothing.
+use Prim.Native.Nat.{ℕ, suc, _+_, _-_, _*_, _≤_, _<_}
+use mathlib.Core.Path.{_≡_, refl, sym, ap, _∙_}
+use mathlib.Core.Bool.{Bool, true, false, cond, _&&_}
+use mathlib.Core.List.{List}
+use native.Mathlib.Omega.{arith}
+use borrow.Author.Tests.{leb-true, eq-eqb, ne-eqb}
+use lib.Dec.{leb, eqb}
+use lib.ListN.{length}
+use Rattle.field.proofs.Tests.{and-left, and-right}
+use Rattle.file_ends.specs.Ends.{headerOk, trailerOk}
+use Rattle.refusal.specs.Refusal.{malformedAt}
+use Rattle.refusal.specs.declared.Reason.{Reason}
+use Rattle.refusal.specs.declared.Reason.the-variants.{Length, Header, Trailer, NotAbove, Follower}
+use Rattle.file.specs.declared.verdict.Verdict.{Verdict}
+use Rattle.file.specs.declared.verdict.Verdict.the-variants.{Fine, Bad}
+use Rattle.file.specs.Check.{Format, records, whole, at, rises, judged, scan, verdict}
+use Rattle.file.specs.Formats.{tableFormat, pointFormat, formatOf}
+
+-- both formats have one limit
+pub limit-of : (kind : ℕ) → formatOf kind .limit ≡ 20_000
+limit-of kind = either (eqb kind 1)
+  where
+    either : (t : Bool) → (cond t tableFormat pointFormat) .limit ≡ 20_000
+    either true = refl
+    either false = refl
+
+-- a whole file has from 2 up to the limit's records
+module _ (f : Format) (file : List ℕ) (is-whole : whole f file ≡ true) where
+  counted : leb 2 (records f file) && leb (records f file) (f .limit) ≡ true
+  counted = and-right (eqb (records f file * f .width) (length file)) _ is-whole
+
+  pub at-least-two : 2 ≤ records f file
+  at-least-two = leb-true 2 (records f file) (and-left _ (leb (records f file) (f .limit)) counted)
+
+  pub within-limit : records f file ≤ f .limit
+  within-limit = leb-true (records f file) (f .limit) (and-right (leb 2 (records f file)) _ counted)
+
+-- one record more of a scan up to `last`
+module _ (judge : ℕ → Verdict) (last i : ℕ) where
+  pub scan-step : i < last → judge i ≡ Fine → scan judge (last - i) i ≡ scan judge (last - (i + 1)) (i + 1)
+  scan-step h e =
+      let size : last - i ≡ suc (last - (i + 1)) = omega arith in
+      let next : suc i ≡ i + 1 = omega arith in
+      rw (size, e, next)
+
+  pub scan-stop : i < last → (why : Reason) → judge i ≡ Bad why → scan judge (last - i) i ≡ Bad why
+  scan-stop h why e =
+      let size : last - i ≡ suc (last - (i + 1)) = omega arith in
+      rw (size, e)
+
+  pub scan-end : last ≤ i → scan judge (last - i) i ≡ Fine
+  scan-end h = rw (let size : last - i ≡ 0 = omega arith in size)
+
+-- the four verdicts on a record
+module _ (f : Format) (file : List ℕ) (i : ℕ) where
+  pub judged-malformed : (f .fault (at f file i) ≡ 0 → ⊥)
+      → judged f file i ≡ Bad (malformedAt (i + 1) (f .fault (at f file i)))
+  unfolding judged
+  judged-malformed n = simp (ne-eqb (f .fault (at f file i)) 0 n)
+
+  module _ (well-formed : f .fault (at f file i) ≡ 0) where
+    pub judged-falls : rises f file i ≡ false → judged f file i ≡ Bad (NotAbove (i + 1))
+    unfolding judged
+    judged-falls e = simp (eq-eqb (f .fault (at f file i)) 0 well-formed, e)
+
+    module _ (rising : rises f file i ≡ true) where
+      pub judged-stray : f .between (at f file (i - 1)) (at f file i) (at f file (i + 1)) ≡ false
+          → judged f file i ≡ Bad (Follower (i + 1))
+      unfolding judged
+      judged-stray e = simp (eq-eqb (f .fault (at f file i)) 0 well-formed, rising, e)
+
+      pub judged-fine : f .between (at f file (i - 1)) (at f file i) (at f file (i + 1)) ≡ true
+          → judged f file i ≡ Fine
+      unfolding judged
+      judged-fine e = simp (eq-eqb (f .fault (at f file i)) 0 well-formed, rising, e)
+
+-- the verdicts on a whole file
+module _ (f : Format) (file : List ℕ) where
+  pub verdict-length : whole f file ≡ false → verdict f file ≡ Bad Length
+  unfolding verdict
+  verdict-length e = simp e
+
+  module _ (is-whole : whole f file ≡ true) where
+    pub verdict-header : headerOk (f .identifier) (f .name) (at f file 0) ≡ false → verdict f file ≡ Bad Header
+    unfolding verdict
+    verdict-header e = simp (is-whole, e)
+
+    module _ (head : headerOk (f .identifier) (f .name) (at f file 0) ≡ true) where
+      pub verdict-trailer : trailerOk (f .identifier) (records f file) (at f file (records f file - 1)) ≡ false
+          → verdict f file ≡ Bad (Trailer (records f file))
+      unfolding verdict
+      verdict-trailer e = simp (is-whole, head, e)
+
+      pub verdict-scan : trailerOk (f .identifier) (records f file) (at f file (records f file - 1)) ≡ true
+          → verdict f file ≡ scan (judged f file) (records f file - 2) 1
+      unfolding verdict
+      verdict-scan e = simp (is-whole, head, e)

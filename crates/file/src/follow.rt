@@ -1,0 +1,70 @@
+// Owners and followers in a point file.
+use file_record::Point;
+ghost use mathlib.Core.Path.{_≡_};
+ghost use mathlib.Core.Bool.{cond};
+ghost use Prim.Native.Nat.{_+_, _-_, _/_, _≤_, _<_};
+ghost use lib.ListN.{length};
+ghost use Rattle.file_record.specs.Parts.{recordAt};
+ghost use Rattle.file.specs.Formats.{needed, follows, placed};
+
+// The type of record that is needed next: by what all of this is said at once, so that nothing is decided on the way.
+fn needed_by(view: bool, large: bool, alone: bool) -> u8
+    ensures { λ r. ⌜ r ≡ cond view (cond large 51 (cond alone 0 50)) 0 ⌝ }
+{
+    if view {
+        if large {
+            b'3'
+        } else {
+            if alone { 0 } else { b'2' }
+        }
+    } else {
+        0
+    }
+}
+
+// The type of record that a record needs next, 0 where it needs none.
+pub fn needed_next(rec: &[u8]) -> u8
+    ensures { λ r. ⌜ r ≡ needed (now (rec .entry)) ⌝ }
+{
+    let view = file_record::byte_of(rec, Point::TYPE) == b'1';
+    let large = file_record::byte_of(rec, Point::POSTCODE_TYPE) == b'L';
+    let key = file_record::part_of(rec, Point::ORGANISATION_KEY, Point::LETTER);
+    needed_by(view, large, field_read::says_zero(key))
+}
+
+// Whether a record is the one that its owner needs, which is of type `need`.
+fn is_follower(need: u8, owner: &[u8], rec: &[u8]) -> bool
+    requires { ⌜ need ≡ needed (now owner) ⌝ }
+    ensures { λ r. ⌜ r ≡ follows (now (owner .entry)) (now (rec .entry)) ⌝ }
+{
+    let kind = file_record::byte_of(rec, Point::TYPE);
+    let head = file_compare::same_bytes(
+        file_record::part_of(rec, 0, Point::TYPE),
+        file_record::part_of(owner, 0, Point::TYPE),
+    );
+    (need != 0) & ((kind == need) & head)
+}
+
+// The place of the owner that record `i` is, or that stands before it.
+fn owner_of(own: bool, i: usize) -> usize
+    requires { ⌜ 1 ≤ i ⌝ }
+    ensures { λ r. ⌜ (r ≡ cond own i (i - 1)) × (r ≤ i) ⌝ }
+{
+    if own { i } else { i - 1 }
+}
+
+// Whether a view has the follower that it needs, or a follower its owner. A follower stands behind its owner, so that one
+// comparison does for both.
+pub fn is_placed(file: &[u8], i: usize) -> bool
+    requires { ⌜ (1 ≤ i) × (i + 1 < length (now file) / 168) ⌝ }
+    ensures { λ r. ⌜ r ≡ placed (recordAt 168 (now (file .entry)) (i - 1)) (recordAt 168 (now (file .entry)) i) (recordAt 168 (now (file .entry)) (i + 1)) ⌝ }
+{
+    let rec = file_record::whole_record(file, Point::WIDTH, i);
+    let own = file_record::byte_of(rec, Point::TYPE) == b'1';
+    let place = owner_of(own, i);
+    let owner = file_record::whole_record(file, Point::WIDTH, place);
+    let need = needed_next(owner);
+    let next = file_record::whole_record(file, Point::WIDTH, place + 1);
+    let followed = is_follower(need, owner, next);
+    (own & (need == 0)) | followed
+}

@@ -1,0 +1,46 @@
+-- `file_check::check` meets its contract. Assumes nothing.
+use borrow.Author.Needs.{needs}
+use mathlib.Core.Path.{_≡_, refl, sym, ap, _∙_}
+use Rattle.file.specs.Check.{answered, checked}
+use Rattle.file.specs.Formats.{formatOf}
+use Rattle.file_check.proofs.check.Statement.{statement}
+use Rattle.file_check.proofs.check.Tie as tie
+
+verdict-of-requires : tie.Need-verdict-of-requires
+verdict-of-requires c κs = search needs
+
+enum-told : tie.Need-enum-told
+enum-told c = search needs
+
+records-in-requires : tie.Need-records-in-requires
+records-in-requires c κs = search needs
+
+enum-known-reason : tie.Need-enum-known-reason
+enum-known-reason c = search needs
+
+returns : tie.Need-returns
+unfolding checked
+returns c =
+    let v = c .before .before .before in
+    let a = v .before .before .args in
+    rw (c .records-in .ensures)
+    (ap (answered (formatOf (a .kind)) (a .file .now)) (sym (sym (v .verdict-of .ensures) ∙ c .before .enum-told .given .1)))
+
+returns-2 : tie.Need-returns-2
+unfolding checked
+returns-2 c =
+    let v = c .before .before .before in
+    let s = v .before .before in
+    let a = s .args in
+    rw (s .pre) (ap (answered (formatOf (a .kind)) (a .file .now)) (sym (sym (v .verdict-of .ensures) ∙ c .before .reason .given .1)))
+
+pub check-spec : {M : Type 1} → statement M
+check-spec =
+    tie.close
+    (tie.spec
+    verdict-of-requires
+    enum-told
+    records-in-requires
+    enum-known-reason
+    returns
+    returns-2)

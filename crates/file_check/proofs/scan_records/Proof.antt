@@ -1,0 +1,115 @@
+-- `file_check::scan_records` meets its contract. Assumes nothing.
+use borrow.Author.Needs.{needs}
+use Prim.Native.Nat.{_+_, _-_, _≤_}
+use mathlib.Core.Path.{_≡_, refl, sym, ap, _∙_}
+use native.Mathlib.Omega.{arith}
+use Rattle.file.specs.Check.{judged, scan}
+use Rattle.file.specs.Formats.{formatOf}
+use Rattle.file.proofs.Laws.{scan-step, scan-stop, scan-end}
+use Rattle.file_check.specs.Scanning.{Scanning}
+use Rattle.file_check.proofs.Laws.{scanning-first, scanning-next}
+use Rattle.file_check.proofs.scan_records.Statement.{statement}
+use Rattle.file_check.proofs.scan_records.Tie as tie
+
+abbrev Inv-loop : tie.InvT-loop
+Inv-loop kind file n i₀ i =
+    Scanning (formatOf kind) file n i
+    × (scan (judged (formatOf kind) file) (n - 2) 1 ≡ scan (judged (formatOf kind) file) (n - 1 - i) i)
+
+abbrev μ-loop : tie.MeasureT-loop
+μ-loop kind file n i₀ i = n - 1 - i
+
+fresh-requires : tie.Need-fresh-requires Inv-loop μ-loop
+fresh-requires c κs = search needs
+
+standing-requires : tie.Need-standing-requires Inv-loop μ-loop
+standing-requires c κs =
+    let s = c .before .before in
+    rw (c .fresh .ensures) (scanning-first (formatOf (s .args .kind)) (s .args .file .now) (s .args .n) (s .pre .0) (s .pre .1) (s .pre .2))
+
+loop-holds : tie.Need-loop-holds Inv-loop μ-loop
+loop-holds c =
+    let f = c .before in
+    let a = f .before .before .args in
+    let size : a .n - 2 ≡ a .n - 1 - 1 = omega arith in
+    let on = rw (f .fresh .ensures) at (c .standing .ensures) in
+    (on .1, ap (λ k. scan (judged (formatOf (a .kind)) (a .file .now)) k 1) size ∙ on .2)
+
+sub-loop : tie.Need-sub-loop Inv-loop μ-loop
+sub-loop c = omega (arith, c .loop .inv .0 .two)
+
+judge-requires : tie.Need-judge-requires Inv-loop μ-loop
+judge-requires c κs =
+    let s = c .before .loop .inv .0 in
+    (s .low, omega (arith, s .all), omega (arith, s .few))
+
+enum-told : tie.Need-enum-told Inv-loop μ-loop
+enum-told c = search needs
+
+enum-known-why : tie.Need-enum-known-why Inv-loop μ-loop
+enum-known-why c = search needs
+
+returns : tie.Need-returns Inv-loop μ-loop
+returns c =
+    let w = c .before in
+    let j = w .before .before in
+    let l = j .before .before in
+    let a = l .before .before .before .before .args in
+    sym
+    (l .loop .inv .1
+    ∙ scan-stop (judged (formatOf (a .kind)) (a .file .now)) (a .n - 1) (l .loop .i) (omega arith) (w .why .given .0 .0)
+    (sym (j .judge .ensures) ∙ w .why .given .1))
+
+add-standing : tie.Need-add-standing Inv-loop μ-loop
+add-standing c = search needs
+
+standing-requires-2 : tie.Need-standing-requires-2 Inv-loop μ-loop
+standing-requires-2 c κs =
+    let j = c .before .before in
+    let l = j .before .before in
+    let a = l .before .before .before .before .args in
+    scanning-next (formatOf (a .kind)) (a .file .now) (a .n) (l .loop .i) (l .loop .inv .0) (omega arith)
+    (sym (j .judge .ensures) ∙ c .enum-told .given .1)
+
+loop-less : tie.Need-loop-less Inv-loop μ-loop
+loop-less c = omega (arith, c .standing2 .ensures .0)
+
+loop-again : tie.Need-loop-again Inv-loop μ-loop
+loop-again c =
+    let t = c .before in
+    let j = t .before .before in
+    let l = j .before .before in
+    let a = l .before .before .before .before .args in (
+      c .standing2 .ensures .1,
+      l .loop .inv .1
+          ∙ (scan-step (judged (formatOf (a .kind)) (a .file .now)) (a .n - 1) (l .loop .i) (omega arith)
+          (sym (j .judge .ensures) ∙ t .enum-told .given .1)
+          ∙ c .standing2 .ensures .2),
+    )
+
+returns-2 : tie.Need-returns-2 Inv-loop μ-loop
+returns-2 c =
+    let l = c .before in
+    let a = l .before .before .before .before .args in
+    sym
+    (l .loop .inv .1 ∙ scan-end (judged (formatOf (a .kind)) (a .file .now)) (a .n - 1) (l .loop .i) (omega arith))
+
+pub scan-records-spec : {M : Type 1} → statement M
+scan-records-spec =
+    tie.close
+    (tie.spec
+    Inv-loop
+    μ-loop
+    fresh-requires
+    standing-requires
+    loop-holds
+    sub-loop
+    judge-requires
+    enum-told
+    enum-known-why
+    returns
+    add-standing
+    standing-requires-2
+    loop-less
+    loop-again
+    returns-2)

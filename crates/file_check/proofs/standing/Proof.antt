@@ -1,0 +1,70 @@
+-- `file_check::standing` meets its contract. Assumes nothing.
+use borrow.Author.Needs.{needs}
+use Prim.Native.Nat.{_-_, _≤_}
+use mathlib.Core.Path.{_≡_, refl, sym, ap, _∙_}
+use native.Mathlib.Omega.{arith}
+use borrow.Author.Tests.{not-false}
+use Rattle.file.specs.Check.{judged, scan}
+use Rattle.file.specs.Formats.{formatOf}
+use Rattle.file.proofs.Laws.{scan-step}
+use Rattle.file_check.specs.Scanning.{Scanning}
+use Rattle.file_check.proofs.Laws.{scanning-next}
+use Rattle.file_check.proofs.standing.Statement.{statement}
+use Rattle.file_check.proofs.standing.Tie as tie
+
+abbrev Inv-loop : tie.InvT-loop
+Inv-loop kind file n from i₀ i =
+    (from ≤ i)
+    × Scanning (formatOf kind) file n i
+    × (scan (judged (formatOf kind) file) (n - 1 - from) from ≡ scan (judged (formatOf kind) file) (n - 1 - i) i)
+
+abbrev μ-loop : tie.MeasureT-loop
+μ-loop kind file n from i₀ i = n - 1 - i
+
+loop-holds : tie.Need-loop-holds Inv-loop μ-loop
+loop-holds c = (omega arith, c .before .pre, refl)
+
+sub-loop : tie.Need-sub-loop Inv-loop μ-loop
+sub-loop c = omega (arith, c .loop .inv .1 .two)
+
+stands-requires : tie.Need-stands-requires Inv-loop μ-loop
+stands-requires c κs = (c .before .loop .inv .1, omega arith)
+
+returns : tie.Need-returns Inv-loop μ-loop
+returns c = c .before .before .before .loop .inv
+
+add-i : tie.Need-add-i Inv-loop μ-loop
+add-i c = search needs
+
+loop-less : tie.Need-loop-less Inv-loop μ-loop
+loop-less c = search needs
+
+loop-again : tie.Need-loop-again Inv-loop μ-loop
+loop-again c =
+    let s = c .before in
+    let l = s .before .before in
+    let a = l .before .before .args in
+    let fine = s .stands .ensures (not-false _ (c .if1 .left)) in (
+      omega (arith, l .loop .inv .0),
+      scanning-next (formatOf (a .kind)) (a .file .now) (a .n) (l .loop .i) (l .loop .inv .1) (omega arith) fine,
+      l .loop .inv .2
+          ∙ scan-step (judged (formatOf (a .kind)) (a .file .now)) (a .n - 1) (l .loop .i) (omega arith) fine,
+    )
+
+returns-2 : tie.Need-returns-2 Inv-loop μ-loop
+returns-2 c = c .before .loop .inv
+
+pub standing-spec : {M : Type 1} → statement M
+standing-spec =
+    tie.close
+    (tie.spec
+    Inv-loop
+    μ-loop
+    loop-holds
+    sub-loop
+    stands-requires
+    returns
+    add-i
+    loop-less
+    loop-again
+    returns-2)

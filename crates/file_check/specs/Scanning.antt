@@ -1,0 +1,15 @@
+-- A file on its way through the check of its records.
+-- Assumes nothing.
+use Prim.Native.Nat.{ℕ, _-_, _≤_}
+use mathlib.Core.Path.{_≡_}
+use mathlib.Core.List.{List}
+use Rattle.file.specs.Check.{Format, records, at}
+
+-- the records before i, between header and trailer, are fine, so that the one before i has no fault
+pub record Scanning (f : Format) (file : List ℕ) (n i : ℕ) : Type 0 where
+  pub all : n ≡ records f file
+  pub two : 2 ≤ n
+  pub few : n ≤ 1_000_000
+  pub low : 1 ≤ i
+  pub high : i ≤ n - 1
+  pub last-fine : (i ≡ 1 → ⊥) → f .fault (at f file (i - 1)) ≡ 0

@@ -1,0 +1,133 @@
+// The check of a whole file: one pass, and the first refusal.
+use file::Verdict;
+use file_formats::inner::fault_in;
+use file_formats::inner::is_above;
+use file_formats::inner::is_between;
+use file_formats::inner::is_fine;
+use file_formats::inner::is_header;
+use file_formats::inner::is_trailer;
+use file_formats::inner::is_whole;
+use file_formats::inner::record_in;
+use file_formats::inner::record_of;
+use file_formats::inner::records_in;
+use file_record::Cursor;
+use refusal::Answer;
+use refusal::Reason;
+ghost use mathlib.Core.Path.{_≡_};
+ghost use mathlib.Core.Bool.{true};
+ghost use Prim.Native.Nat.{_+_, _-_, _≤_, _<_};
+ghost use Rattle.file.specs.declared.verdict.Verdict.the-variants.{Fine};
+ghost use Rattle.file.specs.Check.{records, judged, scan, verdict, answered, checked};
+ghost use Rattle.file_check.specs.Scanning.{Scanning};
+ghost use Rattle.file.specs.Formats.{formatOf, tableFormat, pointFormat};
+
+// Record `i`, counted from 0, between header and trailer: 4, then 5, then 6.
+fn judge(kind: usize, file: &[u8], i: usize) -> Verdict
+    requires { ⌜ (1 ≤ i) × (i + 1 < records (formatOf kind) (now file)) × (i ≤ 1000000) ⌝ }
+    ensures { λ r. ⌜ r ≡ judged (formatOf kind) (now (file .entry)) i ⌝ }
+{
+    let rec = record_in(kind, file, i);
+    let fault = fault_in(kind, rec);
+    if fault != 0 {
+        return Verdict::Bad(refusal::malformed(i + 1, fault));
+    }
+    let before = record_in(kind, file, i - 1);
+    if !is_above(kind, i, before, rec) {
+        return Verdict::Bad(Reason::NotAbove { record: i + 1 });
+    }
+    if is_between(kind, file, i) {
+        Verdict::Fine
+    } else {
+        Verdict::Bad(Reason::Follower { record: i + 1 })
+    }
+}
+
+// Whether record `i` is known to stand as it must: this looks for no place.
+fn stands(kind: usize, file: &[u8], n: usize, i: usize) -> bool
+    requires { ⌜ Scanning (formatOf kind) (now file) n i × (i < n - 1) ⌝ }
+    ensures { λ r. ⌜ (r ≡ true → judged (formatOf kind) (now (file .entry)) i ≡ Fine) ⌝ }
+{
+    let rec = record_in(kind, file, i);
+    let before = record_in(kind, file, i - 1);
+    let fine = is_fine(kind, before, rec, i != 1);
+    let above = is_above(kind, i, before, rec);
+    let between = is_between(kind, file, i);
+    fine & (above & between)
+}
+
+// The first record from `from` on that is not known to stand. Most records are, so that this loop is nearly all there is.
+fn standing(kind: usize, file: &[u8], n: usize, from: usize) -> usize
+    requires { ⌜ Scanning (formatOf kind) (now file) n from ⌝ }
+    ensures { λ r. ⌜ (from ≤ r) × Scanning (formatOf kind) (now (file .entry)) n r × (scan (judged (formatOf kind) (now (file .entry))) (n - 1 - from) from ≡ scan (judged (formatOf kind) (now (file .entry))) (n - 1 - r) r) ⌝ }
+{
+    let mut i = from;
+    while i < n - 1 {
+        if !stands(kind, file, n, i) {
+            return i;
+        }
+        i += 1;
+    }
+    i
+}
+
+// The first refusal of the records between header and trailer.
+fn scan_records(kind: usize, file: &[u8], n: usize) -> Verdict
+    requires { ⌜ (2 ≤ n) × (n ≤ 1000000) × (n ≡ records (formatOf kind) (now file)) ⌝ }
+    ensures { λ r. ⌜ r ≡ scan (judged (formatOf kind) (now (file .entry))) (n - 2) 1 ⌝ }
+{
+    let start = Cursor::fresh();
+    let mut i = standing(kind, file, n, start.at);
+    while i < n - 1 {
+        match judge(kind, file, i) {
+            Verdict::Fine => {}
+            Verdict::Bad(why) => {
+                return Verdict::Bad(why);
+            }
+        }
+        i = standing(kind, file, n, i + 1);
+    }
+    Verdict::Fine
+}
+
+// The first refusal of a file: 1, 2, 3, then record by record.
+fn verdict_of(kind: usize, file: &[u8]) -> Verdict
+    ensures { λ r. ⌜ r ≡ verdict (formatOf kind) (now (file .entry)) ⌝ }
+{
+    if !is_whole(kind, file) {
+        return Verdict::Bad(Reason::Length);
+    }
+    let n = records_in(kind, file);
+    if !is_header(kind, record_of(kind, file, 0)) {
+        return Verdict::Bad(Reason::Header);
+    }
+    if !is_trailer(kind, record_of(kind, file, n - 1), n) {
+        return Verdict::Bad(Reason::Trailer { record: n });
+    }
+    scan_records(kind, file, n)
+}
+
+// How many records an accepted file has, or its first refusal.
+fn check(kind: usize, file: &[u8], blame: usize) -> Answer
+    requires { ⌜ blame ≡ formatOf kind .file ⌝ }
+    ensures { λ r. ⌜ r ≡ checked (formatOf kind) (now (file .entry)) ⌝ }
+{
+    match verdict_of(kind, file) {
+        Verdict::Fine => Answer::Value(records_in(kind, file)),
+        Verdict::Bad(reason) => Answer::Refused {
+            file: blame,
+            reason,
+        },
+    }
+}
+
+pub fn check_table(file: &[u8]) -> Answer
+    ensures { λ r. ⌜ r ≡ checked tableFormat (now (file .entry)) ⌝ }
+{
+    check(1, file, 1)
+}
+
+pub fn check_points(file: &[u8]) -> Answer
+    ensures { λ r. ⌜ r ≡ checked pointFormat (now (file .entry)) ⌝ }
+{
+    check(2, file, 2)
+}

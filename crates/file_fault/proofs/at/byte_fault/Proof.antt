@@ -1,0 +1,16 @@
+-- `file_fault::at::byte_fault` meets its contract. Assumes nothing.
+use borrow.Author.Needs.{needs}
+use Rattle.file_fault.proofs.at.byte_fault.Statement.{statement}
+use Rattle.file_fault.proofs.at.byte_fault.Tie as tie
+
+add-result : tie.Need-add-result
+add-result c = search needs
+
+returns : tie.Need-returns
+returns c = search needs
+
+returns-2 : tie.Need-returns-2
+returns-2 c = simp (c .if1 .left)
+
+pub byte-fault-spec : {M : Type 1} → statement M
+byte-fault-spec = tie.close (tie.spec add-result returns returns-2)

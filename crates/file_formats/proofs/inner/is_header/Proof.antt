@@ -1,0 +1,34 @@
+-- `file_formats::inner::is_header` meets its contract. Assumes nothing.
+use borrow.Author.Needs.{needs}
+use borrow.Author.Tests.{eq-eqb, ne-eqb}
+use Rattle.file_formats.proofs.inner.is_header.Statement.{statement}
+use Rattle.file_formats.proofs.inner.is_header.Tie as tie
+
+slice-aggregate-header-ok : tie.Need-slice-aggregate-header-ok
+slice-aggregate-header-ok c = search needs
+
+header-ok-requires : tie.Need-header-ok-requires
+header-ok-requires c κs = search needs
+
+slice-aggregate-header-ok-2 : tie.Need-slice-aggregate-header-ok-2
+slice-aggregate-header-ok-2 c = search needs
+
+header-ok-requires-2 : tie.Need-header-ok-requires-2
+header-ok-requires-2 c κs = search needs
+
+returns : tie.Need-returns
+returns c = rw (c .header-ok .ensures) (simp (eq-eqb _ 1 (c .before .before .if1 .taken)))
+
+returns-2 : tie.Need-returns-2
+returns-2 c = rw (c .header-ok2 .ensures) (simp (ne-eqb _ 1 (c .before .before .if1 .left)))
+
+pub is-header-spec : {M : Type 1} → statement M
+is-header-spec =
+    tie.close
+    (tie.spec
+    slice-aggregate-header-ok
+    header-ok-requires
+    slice-aggregate-header-ok-2
+    header-ok-requires-2
+    returns
+    returns-2)

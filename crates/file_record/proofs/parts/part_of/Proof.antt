@@ -1,0 +1,51 @@
+-- `file_record::parts::part_of` meets its contract. Assumes nothing.
+use borrow.Author.Needs.{needs}
+use mathlib.Core.Path.{_≡_, refl, sym, ap, _∙_}
+use native.Mathlib.Omega.{arith}
+use native.Mathlib.Nat.{min-le-right}
+use lib.ListN.{length}
+use Rattle.field.proofs.Texts.{part-within, part-none}
+use Rattle.file_record.proofs.parts.part_of.Statement.{statement}
+use Rattle.file_record.proofs.parts.part_of.Tie as tie
+
+lesser-requires : tie.Need-lesser-requires
+lesser-requires c κs = search needs
+
+sub-result : tie.Need-sub-result
+sub-result c = search needs
+
+part-result-start : tie.Need-part-result-start
+part-result-start c = search needs
+
+part-result-end : tie.Need-part-result-end
+part-result-end c =
+    let a = c .before .before .before .args in
+    rw (c .before .lesser .ensures) (min-le-right (a .end) (length (a .rec .now)))
+
+slice-aggregate-result : tie.Need-slice-aggregate-result
+slice-aggregate-result c = search needs
+
+returns : tie.Need-returns
+returns c =
+    let l = c .before .before in
+    let a = l .before .before .args in
+    rw (l .lesser .ensures) (part-within (a .rec .now) (a .start) (a .end))
+
+returns-2 : tie.Need-returns-2
+returns-2 c =
+    let l = c .before .before in
+    let a = l .before .before .args in
+    sym (part-none (a .rec .now) (a .start) (l .lesser .result) (c .before .if1 .left))
+    ∙ rw (l .lesser .ensures) (part-within (a .rec .now) (a .start) (a .end))
+
+pub part-of-spec : {M : Type 1} → statement M
+part-of-spec =
+    tie.close
+    (tie.spec
+    lesser-requires
+    sub-result
+    part-result-start
+    part-result-end
+    slice-aggregate-result
+    returns
+    returns-2)

@@ -1,0 +1,232 @@
+-- When a pack is accepted: "Pack check", step by step.
+-- Assumes nothing.
+use Prim.Native.Nat.{ℕ, zero, suc, _+_, _-_, _*_}
+use mathlib.Core.Bool.{Bool, true, false, cond, not, _&&_, _||_}
+use mathlib.Core.List.{List, [], _∷_}
+use lib.Dec.{eqb, leb}
+use lib.ListN.{length, take, getD}
+use Rattle.field.specs.Test.{elem, every}
+use Rattle.field.specs.Text.{textByte, textFault, fromEnd, part}
+use Rattle.file_compare.specs.Order.{same}
+use Rattle.field_outward.specs.Outward.{outwardFault}
+use Rattle.field_outward.specs.Inward.{inwardFault}
+use Rattle.refusal.specs.declared.Reason.the-variants.{BadPack}
+use Rattle.refusal.specs.declared.Answer.{Answer}
+use Rattle.refusal.specs.declared.Answer.the-variants.{Value, Refused}
+use Rattle.source.specs.Resolve.{forbiddenOf}
+use Rattle.label.specs.Lines.{isEmpty}
+use Rattle.pack.specs.Numbers.{numberAt, absent}
+use Rattle.pack.specs.Layout.{known, pointWidth, trailerWidth}
+
+-- ---- the trailer
+
+-- "a trailer that points back": so many bytes before the end
+abbrev pub fromBack : List ℕ → ℕ → ℕ
+fromBack pack n = length pack - n
+
+module _ (pack : List ℕ) where
+  abbrev pub edition : ℕ
+  edition = getD pack (fromBack pack 1) 0
+
+  abbrev pub rowCount : ℕ
+  rowCount = numberAt pack (fromBack pack 21) 4
+
+  abbrev pub pointsStart : ℕ
+  pointsStart = numberAt pack (fromBack pack 17) 4
+
+  abbrev pub pointCount : ℕ
+  pointCount = numberAt pack (fromBack pack 13) 4
+
+  abbrev pub outward : List ℕ
+  outward = part pack (fromBack pack 9) (fromBack pack 5)
+
+  abbrev pub lengthSaid : ℕ
+  lengthSaid = numberAt pack (fromBack pack 5) 4
+
+  -- "Step 1: at least 21 bytes, edition 1, length true, outward well formed, points start + 57 x point count + 21 equal to
+  -- the length"
+  unfoldable pub trailerGood : Bool
+  trailerGood =
+      leb 21 (length pack)
+      && (known edition
+      && (eqb lengthSaid (length pack)
+      && (eqb (outwardFault outward) 0
+      && eqb (pointsStart + pointWidth edition * pointCount + trailerWidth edition) (length pack))))
+
+  -- the row area: "the bytes before points start"
+  abbrev pub rowArea : List ℕ
+  rowArea = take pointsStart pack
+
+-- ---- the rows
+
+-- a text of a row: how long it may be, and whether it may be empty
+pub record Slot : Type 0 where
+  pub width : ℕ
+  pub may-be-empty : Bool
+
+abbrev pub slot : ℕ → Bool → Slot
+slot w e = record { width = w; may-be-empty = e }
+
+-- the texts of a row by its type: "no longer than their fields", "empty only where blank is allowed above (type 6: both)"
+abbrev pub slotsOf : ℕ → List Slot
+slotsOf kind =
+    cond (eqb kind 1) (slot 30 false ∷ slot 35 true ∷ slot 35 true ∷ [])
+    (cond (eqb kind 2) (slot 60 false ∷ [])
+    (cond (eqb kind 3) (slot 20 false ∷ [])
+    (cond (eqb kind 4) (slot 50 false ∷ [])
+    (cond (eqb kind 5) (slot 30 false ∷ [])
+    (cond (eqb kind 6) (slot 60 true ∷ slot 60 true ∷ [])
+    [])))))
+
+-- "texts well formed, .. with no space at either end"
+unfoldable pub textGood : Slot → List ℕ → Bool
+textGood s t =
+    leb (length t) (s .width)
+    && (every textByte t
+    && (not (eqb (getD t 0 0) 32) && (not (eqb (fromEnd t 1) 32) && (s .may-be-empty || not (isEmpty t)))))
+
+module _ (rows : List ℕ) where
+  -- behind the text that starts at a place: "a length byte and its bytes"
+  abbrev pub textEnd : ℕ → ℕ
+  textEnd at = at + 1 + getD rows at 0
+
+  abbrev pub textAt : ℕ → List ℕ
+  textAt at = part rows (at + 1) (textEnd at)
+
+  -- behind all texts of these slots
+  abbrev pub textsEnd : List Slot → ℕ → ℕ
+  textsEnd [] at = at
+  textsEnd (s ∷ ss) at = textsEnd ss (textEnd at)
+
+  abbrev pub textsGood : List Slot → ℕ → Bool
+  textsGood [] at = true
+  textsGood (s ∷ ss) at = textGood s (textAt at) && textsGood ss (textEnd at)
+
+  -- where the n-th text of a row stands, counted from 0
+  abbrev pub textPlace : ℕ → ℕ → ℕ
+  textPlace zero at = at
+  textPlace (suc n) at = textPlace n (textEnd at)
+
+  abbrev pub rowKind : ℕ → ℕ
+  rowKind at = getD rows at 0
+
+  abbrev pub rowEnd : ℕ → ℕ
+  rowEnd at = textsEnd (slotsOf (rowKind at)) (at + 1)
+
+  -- the n-th text of the row that starts at a place
+  abbrev pub rowText : ℕ → ℕ → List ℕ
+  rowText at n = textAt (textPlace n (at + 1))
+
+  -- "a double dependent locality only with a dependent one"
+  abbrev pub doubleGood : ℕ → Bool
+  doubleGood at = not (eqb (rowKind at) 1) || (not (isEmpty (rowText at 1)) || isEmpty (rowText at 2))
+
+  -- a row that starts at a place, its type not below the one before
+  unfoldable pub rowGood : ℕ → ℕ → Bool
+  rowGood low at =
+      leb low (rowKind at)
+      && (leb (rowKind at) 6
+      && (leb (rowEnd at) (length rows) && (textsGood (slotsOf (rowKind at)) (at + 1) && doubleGood at)))
+
+  -- "exactly row-count rows, types 1 to 6 never falling": n rows from a place on
+  abbrev pub rowsGood : ℕ → ℕ → ℕ → Bool
+  rowsGood zero low at = eqb at (length rows)
+  rowsGood (suc n) low at = rowGood low at && rowsGood n (rowKind at) (rowEnd at)
+
+  -- whether one of n rows from a place on starts at o
+  abbrev pub isStart : ℕ → ℕ → ℕ → Bool
+  isStart zero at o = false
+  isStart (suc n) at o = eqb at o || isStart n (rowEnd at) o
+
+  -- "every offset is absent or the start of a row of its type"
+  unfoldable pub offsetGood : ℕ → ℕ → ℕ → Bool
+  offsetGood n kind o = eqb o absent || (isStart n 0 o && eqb (rowKind o) kind)
+
+-- "Step 2: the bytes before points start are exactly row-count rows"
+unfoldable pub allRowsGood : List ℕ → Bool
+allRowsGood pack = rowsGood (rowArea pack) (rowCount pack) 1 0
+
+-- ---- the points
+
+-- the types of the rows that a point refers to, "(locality, thoroughfare, descriptor, dependent thoroughfare, its
+-- descriptor, building name, sub building, organisation)"
+abbrev pub offsetKinds : List ℕ
+offsetKinds = 1 ∷ 2 ∷ 3 ∷ 2 ∷ 3 ∷ 4 ∷ 5 ∷ 6 ∷ []
+
+-- a point of an edition, by the places of its parts
+abbrev pub offsetsPlace : ℕ → ℕ → ℕ
+offsetsPlace e at = at + 25
+
+-- the n-th offset of a point, counted from 0
+abbrev pub offsetOfPoint : List ℕ → ℕ → ℕ → ℕ
+offsetOfPoint pack at n = numberAt pack (offsetsPlace (edition pack) at + 4 * n) 4
+
+abbrev pub given : List ℕ → ℕ → ℕ → Bool
+given pack at n = not (eqb (offsetOfPoint pack at n) absent)
+
+module _ (pack : List ℕ) (at : ℕ) where
+  -- "postcode well formed in the trailer's code"
+  abbrev pub postcodeGood : Bool
+  postcodeGood = same (part pack at (at + 4)) (outward pack) && eqb (inwardFault (part pack (at + 4) (at + 7))) 0
+
+  abbrev pub typeByte : ℕ
+  typeByte = getD pack (at + 7) 0
+
+  abbrev pub organisationKey : ℕ
+  organisationKey = numberAt pack (at + 12) 4
+
+  abbrev pub buildingNumber : ℕ
+  buildingNumber = numberAt pack (at + 16) 2
+
+  -- "type, concatenation, PO box well formed; keys up to 99,999,999; number up to 9,999"
+  unfoldable pub plainGood : Bool
+  plainGood =
+      elem typeByte (83 ∷ 76 ∷ [])
+      && (leb (numberAt pack (at + 8) 4) 99_999_999
+      && (leb organisationKey 99_999_999
+      && (leb buildingNumber 9_999
+      && (elem (getD pack (at + 18) 0) (89 ∷ 32 ∷ []) && eqb (textFault (part pack (at + 19) (at + 25))) 0))))
+
+  -- "every offset is absent or the start of a row of its type, locality present": the offsets from the n-th on
+  abbrev pub offsetsGood : ℕ → List ℕ → Bool
+  offsetsGood n [] = true
+  offsetsGood n (kind ∷ kinds) =
+      offsetGood (rowArea pack) (rowCount pack) kind (offsetOfPoint pack at n) && offsetsGood (suc n) kinds
+
+  -- "rule 8 satisfied"
+  unfoldable pub allowedMix : Bool
+  allowedMix =
+      eqb
+      (forbiddenOf (given pack at 6) (given pack at 5) (not (eqb buildingNumber 0)) (given pack at 1) (given pack at 2)
+      (given pack at 3) (given pack at 4))
+      0
+
+  -- "L has an organisation row, S has one with a name exactly when its organisation key is above zero, and otherwise none"
+  unfoldable pub organisationGood : Bool
+  organisationGood =
+      cond (eqb typeByte 76) (given pack at 7)
+      (cond (eqb organisationKey 0) (not (given pack at 7))
+      (given pack at 7 && not (isEmpty (rowText (rowArea pack) (offsetOfPoint pack at 7) 0))))
+
+  unfoldable pub pointGood : Bool
+  pointGood =
+      offsetsGood 0 offsetKinds
+      && (given pack at 0 && (postcodeGood && (plainGood && (allowedMix && organisationGood))))
+
+-- n points from a place on
+abbrev pub pointsGood : List ℕ → ℕ → ℕ → Bool
+pointsGood pack zero at = true
+pointsGood pack (suc n) at = pointGood pack at && pointsGood pack n (at + pointWidth (edition pack))
+
+-- "Step 3"
+unfoldable pub allPointsGood : List ℕ → Bool
+allPointsGood pack = pointsGood pack (pointCount pack) (pointsStart pack)
+
+-- "11, pack: 1 trailer; 2 rows; 3 points": how many points an accepted pack has, or the first step that fails
+unfoldable pub opened : List ℕ → Answer
+opened pack =
+    cond (trailerGood pack)
+    (cond (allRowsGood pack)
+    (cond (allPointsGood pack) (Value (pointCount pack)) (Refused 0 (BadPack 3)))
+    (Refused 0 (BadPack 2)))
+    (Refused 0 (BadPack 1))

@@ -1,0 +1,69 @@
+-- The labels of a pack: "Labels from a pack: 11, 7, 10."
+-- Assumes nothing.
+use Prim.Native.Nat.{ℕ, _+_, _*_, _-_}
+use mathlib.Core.Bool.{Bool, cond, _&&_}
+use mathlib.Core.List.{List, []}
+use lib.Dec.{eqb, leb}
+use lib.ListN.{getD}
+use Rattle.field.specs.Text.{textIn, part}
+use Rattle.refusal.specs.declared.Reason.the-variants.{NoSuchNumber}
+use Rattle.refusal.specs.declared.Answer.{Answer}
+use Rattle.refusal.specs.declared.Answer.the-variants.{Value, Refused}
+use Rattle.source.specs.Address.{Elements}
+use Rattle.label.specs.Label.{labelOf, roomAnswer, roomMemory}
+use Rattle.pack.specs.Numbers.{numberAt, absent}
+use Rattle.pack.specs.Layout.{pointWidth}
+use Rattle.pack.specs.Opening.{edition, pointsStart, pointCount, rowArea, rowText, offsetOfPoint, buildingNumber, opened}
+
+-- a text of the row that a point's n-th offset gives; none where it is absent
+abbrev pub offsetText : List ℕ → ℕ → ℕ → ℕ → List ℕ
+offsetText pack at n which =
+    cond (eqb (offsetOfPoint pack at n) absent) [] (rowText (rowArea pack) (offsetOfPoint pack at n) which)
+
+-- what a point's label is printed from
+unfoldable pub elementsAt : List ℕ → ℕ → Elements
+elementsAt pack at =
+    record {
+      organisation = offsetText pack at 7 0;
+      department = offsetText pack at 7 1;
+      box = textIn pack (at + 19) (at + 25);
+      sub-building = offsetText pack at 6 0;
+      building = offsetText pack at 5 0;
+      number = buildingNumber pack at;
+      concatenation = eqb (getD pack (at + 18) 0) 89;
+      dependent = offsetText pack at 3 0;
+      dependent-descriptor = offsetText pack at 4 0;
+      thoroughfare = offsetText pack at 1 0;
+      descriptor = offsetText pack at 2 0;
+      double-locality = offsetText pack at 0 2;
+      dependent-locality = offsetText pack at 0 1;
+      town = offsetText pack at 0 0;
+      outward = textIn pack at (at + 4);
+      inward = part pack (at + 4) (at + 7);
+    }
+
+-- where point k stands, counted from 1
+abbrev pub pointPlace : List ℕ → ℕ → ℕ
+pointPlace pack k = pointsStart pack + pointWidth (edition pack) * (k - 1)
+
+-- "7: no view or point of that number"
+abbrev pub isPoint : List ℕ → ℕ → Bool
+isPoint pack k = leb 1 k && leb k (pointCount pack)
+
+unfoldable pub pointAnswer : List ℕ → ℕ → List ℕ → Answer
+pointAnswer pack k out =
+    cond (isPoint pack k) (roomAnswer (labelOf (elementsAt pack (pointPlace pack k))) out) (Refused 0 NoSuchNumber)
+
+unfoldable pub pointMemory : List ℕ → ℕ → List ℕ → List ℕ
+pointMemory pack k out = cond (isPoint pack k) (roomMemory (labelOf (elementsAt pack (pointPlace pack k))) out) out
+
+-- an accepted pack first
+abbrev pub afterOpened : {A : Type 0} → Answer → A → (Answer → A) → A
+afterOpened (Value n) next otherwise = next
+afterOpened (Refused file why) next otherwise = otherwise (Refused file why)
+
+unfoldable pub packAnswer : List ℕ → ℕ → List ℕ → Answer
+packAnswer pack k out = afterOpened (opened pack) (pointAnswer pack k out) (λ r. r)
+
+unfoldable pub packMemory : List ℕ → ℕ → List ℕ → List ℕ
+packMemory pack k out = afterOpened (opened pack) (pointMemory pack k out) (λ r. out)

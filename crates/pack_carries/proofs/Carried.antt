@@ -1,0 +1,127 @@
+-- The pack of a sound source is accepted, has a point for each address, and each point gives what its address resolves to.
+-- Assumes nothing.
+use Prim.Native.Nat.{ℕ, suc, _+_, _-_, _*_, _≤_, _<_}
+use mathlib.Core.Path.{_≡_, refl, sym, ap, ap₂, subst, _∙_}
+use mathlib.Core.Bool.{true}
+use mathlib.Core.List.{List, [], _∷_, _++_, append-assoc}
+use native.Mathlib.Omega.{arith}
+use borrow.Author.Tests.{eq-eqb, le-leb}
+use lib.Dec.{eqb}
+use lib.ListN.{length, take, getD, length-append}
+use lib.Seq.{take-at}
+use Rattle.field_outward.specs.Outward.{outwardFault}
+use Rattle.refusal.specs.declared.Answer.the-variants.{Value}
+use Rattle.source.specs.Address.{Lookup, Address}
+use Rattle.source.specs.Resolve.{elementsOf}
+use Rattle.pack.specs.Layout.{newest, Entry, entriesOf, entryBytes, entriesBytes, pointsBytes, trailerBytes, packBytes, packOf}
+use Rattle.pack.specs.Opening.{pointsStart, pointCount, lengthSaid, trailerGood, rowsGood, allRowsGood, pointsGood, allPointsGood, opened}
+use Rattle.pack.specs.Points.{elementsAt, pointPlace}
+use Rattle.pack.specs.Sound.{Sound}
+use Rattle.pack_carries.proofs.Stands.{Stands, stands-end, stands-all, stands-first}
+use Rattle.pack_carries.proofs.Rows.{and-both, rows-good}
+use Rattle.pack_carries.proofs.Entries.{entries-sound, all-found}
+use Rattle.pack_carries.proofs.Trailer.{Says, trailer-long, trailer-says}
+use Rattle.pack_carries.proofs.Points.{outward-long, points-long}
+use Rattle.pack_carries.proofs.Refs.{RowsSaid}
+use Rattle.pack_carries.proofs.Point.{points-good, points-read}
+
+-- a row has a byte
+few-entries : (es : List Entry) → length es ≤ length (entriesBytes es)
+few-entries [] = omega arith
+few-entries (e ∷ es) = omega (arith, few-entries es, length-append (entryBytes e) (entriesBytes es))
+
+module _ (look : Lookup) (addresses : List Address) (code : List ℕ) (g : Sound look addresses code) where
+  abbrev es : List Entry
+  es = entriesOf look addresses
+
+  abbrev rows : List ℕ
+  rows = entriesBytes es
+
+  abbrev points : List ℕ
+  points = pointsBytes newest es addresses
+
+  abbrev trailer : List ℕ
+  trailer = trailerBytes newest (length es) (length rows) (length addresses) code
+
+  abbrev pack : List ℕ
+  pack = packOf look addresses code
+
+  four : length code ≡ 4
+  four = outward-long code (g .of-code)
+
+  in-parts : pack ≡ rows ++ (points ++ trailer)
+  unfolding packOf packBytes
+  in-parts = refl
+
+  front-and-trailer : pack ≡ (rows ++ points) ++ trailer
+  front-and-trailer = in-parts ∙ sym (append-assoc rows points trailer)
+
+  pub pack-long : length pack ≡ length rows + 57 * length addresses + 21
+  pack-long =
+      ap length front-and-trailer
+      ∙ omega (
+        arith,
+        length-append (rows ++ points) trailer,
+        length-append rows points,
+        points-long look code four es 0 addresses (g .of-addresses),
+        trailer-long (length es) (length rows) (length addresses) code four,
+      )
+
+  pub pack-says : Says pack (length es) (length rows) (length addresses) code
+  pack-says =
+      subst (λ p. Says p (length es) (length rows) (length addresses) code) (sym front-and-trailer)
+      (trailer-says (length es) (length rows) (length addresses) code four (rows ++ points)
+      (omega (arith, g .small, pack-long, few-entries es)) (omega (arith, g .small, pack-long)))
+
+  pub pack-rows : RowsSaid pack es
+  pack-rows =
+      record {
+        sound = entries-sound look addresses code g;
+        area = ap₂ take (pack-says .of-start) in-parts ∙ take-at rows (points ++ trailer) (length rows) refl;
+        count = pack-says .of-rows;
+        small = omega (arith, g .small, pack-long);
+      }
+
+  points-stand : Stands pack (length rows) points
+  points-stand =
+      subst (λ p. Stands p (length rows) points) (sym in-parts)
+      (stands-first points trailer (stands-end rows (points ++ trailer)))
+
+  trailer-good : trailerGood pack ≡ true
+  unfolding trailerGood
+  trailer-good =
+      let said = pack-says in
+      and-both (le-leb 21 (length pack) (omega (arith, pack-long)))
+      (and-both (ap (λ n. eqb n 1) (said .of-edition))
+      (and-both (eq-eqb (lengthSaid pack) (length pack) (said .of-length ∙ sym pack-long))
+      (and-both (ap (λ c. eqb (outwardFault c) 0) (said .of-code) ∙ eq-eqb (outwardFault code) 0 (g .of-code))
+      (eq-eqb (pointsStart pack + 57 * pointCount pack + 21) (length pack)
+      (ap₂ (λ s n. s + 57 * n + 21) (said .of-start) (said .of-points) ∙ sym pack-long)))))
+
+  all-rows-good : allRowsGood pack ≡ true
+  unfolding allRowsGood
+  all-rows-good =
+      ap₂ (λ l n. rowsGood l n 1 0) (pack-rows .area) (pack-rows .count)
+      ∙ rows-good rows es 1 0 (pack-rows .sound) (stands-all rows) (omega arith)
+
+  all-points-good : allPointsGood pack ≡ true
+  unfolding allPointsGood
+  all-points-good =
+      ap₂ (pointsGood pack) (pack-says .of-points) (pack-says .of-start)
+      ∙ points-good look code four pack (pack-says .of-code) es pack-rows 0 (length rows) addresses (g .of-addresses)
+      (all-found look addresses code g) points-stand
+
+  -- every pack of a sound source is accepted, with as many points as there are addresses
+  pub pack-opens : opened pack ≡ Value (length addresses)
+  unfolding opened
+  pack-opens = rw (trailer-good, all-rows-good, all-points-good, pack-says .of-points)
+
+  -- the point of each address gives its elements
+  pub pack-elements : (k : ℕ) (d : Address) → k < length addresses
+      → elementsAt pack (pointPlace pack (suc k)) ≡ elementsOf look (getD addresses k d)
+  pack-elements k d l =
+      ap (elementsAt pack)
+      (ap (λ s. s + 57 * (suc k - 1)) (pack-says .of-start)
+      ∙ ap (λ n. length rows + 57 * n) (let z : suc k - 1 ≡ k = omega arith in z))
+      ∙ points-read look code four pack (pack-says .of-code) es pack-rows 0 (length rows) addresses k d (g .of-addresses)
+      (all-found look addresses code g) points-stand l

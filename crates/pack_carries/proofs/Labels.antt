@@ -1,0 +1,101 @@
+-- The labels of a pack are those of its source, number by number.
+-- Assumes nothing.
+use Prim.Native.Nat.{ℕ, zero, suc, _≤_, _<_}
+use mathlib.Core.Path.{_≡_, refl, sym, ap, _∙_}
+use mathlib.Core.Bool.{Bool, true, false}
+use mathlib.Core.List.{List, [], _∷_}
+use mathlib.Core.Option.{none, some}
+use native.Mathlib.Omega.{arith}
+use borrow.Author.Tests.{le-leb, leb-true, leb-false}
+use lib.Dec.{leb}
+use lib.ListN.{length, getD}
+use Rattle.source.specs.Address.{Lookup, Address}
+use Rattle.source.specs.Resolve.{elementsOf, elements, resolve}
+use Rattle.pack.specs.Layout.{packOf}
+use Rattle.pack.specs.Opening.{pointCount}
+use Rattle.pack.specs.Points.{elementsAt, pointPlace, isPoint, pointAnswer, pointMemory, packAnswer, packMemory}
+use Rattle.pack.specs.Sound.{AddressSound, AddressesSound, Sound}
+use Rattle.pack_carries.specs.Kth.{kth, kthAnswer, kthMemory}
+use Rattle.pack_carries.proofs.Carried.{pack-says, pack-opens, pack-elements}
+
+-- a sound address is refused nothing
+pub resolved-sound : (look : Lookup) (code : List ℕ) (a : Address) → AddressSound look code a
+    → resolve look a ≡ elements (elementsOf look a)
+unfolding resolve
+resolved-sound look code a g = rw (g .mix, g .rows)
+
+pub kth-zero : (addresses : List Address) → kth addresses 0 ≡ none
+kth-zero [] = refl
+kth-zero (a ∷ more) = refl
+
+pub kth-none : (addresses : List Address) (j : ℕ) → length addresses ≤ j → kth addresses (suc j) ≡ none
+kth-none [] j h = refl
+kth-none (a ∷ more) zero h = absurd (omega arith)
+kth-none (a ∷ more) (suc j) h = kth-none more j (omega arith)
+
+-- the k-th of sound addresses is one of them
+record IsKth (look : Lookup) (code : List ℕ) (addresses : List Address) (j : ℕ) : Type 0 where
+  it : Address
+  is-kth : kth addresses (suc j) ≡ some it
+  at-place : getD addresses j it ≡ it
+  sound : AddressSound look code it
+
+kth-some : (look : Lookup) (code : List ℕ) (low : ℕ) (addresses : List Address) (j : ℕ)
+    → AddressesSound look code low addresses
+    → j < length addresses
+    → IsKth look code addresses j
+kth-some look code low [] j g l = absurd (omega arith)
+kth-some look code low (a ∷ more) zero g l = record { it = a; is-kth = refl; at-place = refl; sound = g .1 .0 }
+kth-some look code low (a ∷ more) (suc j) g l =
+    let k = kth-some look code (a .view) more j (g .1 .1) (omega arith) in
+    record { it = k .it; is-kth = k .is-kth; at-place = k .at-place; sound = k .sound }
+
+-- a number has a point exactly where it has an address, and they say the same
+data PointOf (look : Lookup) (addresses : List Address) (pack : List ℕ) (k : ℕ) : Type 0 where
+  neither : isPoint pack k ≡ false → kth addresses k ≡ none → PointOf look addresses pack k
+  each : (a : Address) → isPoint pack k ≡ true → kth addresses k ≡ some a
+      → resolve look a ≡ elements (elementsAt pack (pointPlace pack k))
+      → PointOf look addresses pack k
+
+module _ (look : Lookup) (addresses : List Address) (code : List ℕ) (g : Sound look addresses code) where
+  abbrev pack : List ℕ
+  pack = packOf look addresses code
+
+  point-at : (k : ℕ) → PointOf look addresses pack k
+  point-at zero = neither refl (kth-zero addresses)
+  point-at (suc j) = by-test (leb (suc j) (pointCount pack)) refl
+    where
+      some-number : leb 1 (suc j) ≡ true
+      some-number = le-leb 1 (suc j) (omega arith)
+
+      count : pointCount pack ≡ length addresses
+      count = pack-says look addresses code g .of-points
+
+      by-test : (t : Bool) → leb (suc j) (pointCount pack) ≡ t → PointOf look addresses pack (suc j)
+      by-test true e =
+          let l : j < length addresses = omega (arith, leb-true (suc j) (pointCount pack) e, count) in
+          let k = kth-some look code 0 addresses j (g .of-addresses) l in
+          each (k .it) (rw (some-number, e)) (k .is-kth)
+          (resolved-sound look code (k .it) (k .sound)
+          ∙ ap elements
+          (ap (elementsOf look) (sym (k .at-place)) ∙ sym (pack-elements look addresses code g j (k .it) l)))
+      by-test false e =
+          neither (rw (some-number, e))
+          (kth-none addresses j (omega (arith, leb-false (suc j) (pointCount pack) e, count)))
+
+  -- every number asks the pack and the source alike
+  pub pack-labels : (k : ℕ) (out : List ℕ) → packAnswer pack k out ≡ kthAnswer look addresses k out
+  unfolding packAnswer pointAnswer kthAnswer
+  pack-labels k out = rw (pack-opens look addresses code g) (by-case (point-at k))
+    where
+      by-case : PointOf look addresses pack k → pointAnswer pack k out ≡ kthAnswer look addresses k out
+      by-case (neither p q) = rw (p, q)
+      by-case (each a p q e) = rw (p, q, e)
+
+  pub pack-memories : (k : ℕ) (out : List ℕ) → packMemory pack k out ≡ kthMemory look addresses k out
+  unfolding packMemory pointMemory kthMemory
+  pack-memories k out = rw (pack-opens look addresses code g) (by-case (point-at k))
+    where
+      by-case : PointOf look addresses pack k → pointMemory pack k out ≡ kthMemory look addresses k out
+      by-case (neither p q) = rw (p, q)
+      by-case (each a p q e) = rw (p, q, e)

@@ -1,0 +1,55 @@
+-- `pack_label::label_of_point` meets its contract. Assumes nothing.
+use borrow.Author.Needs.{needs}
+use mathlib.Core.Path.{_≡_, sym, _∙_}
+use Rattle.pack_open.proofs.Opened.{opened-all, opened-sized}
+use Rattle.pack_label.proofs.Laws.{not-opened, opened-point}
+use Rattle.pack_label.proofs.label_of_point.Statement.{statement}
+use Rattle.pack_label.proofs.label_of_point.Tie as tie
+
+open-pack-requires : tie.Need-open-pack-requires
+open-pack-requires c κs = search needs
+
+enum-known-count : tie.Need-enum-known-count
+enum-known-count c = search needs
+
+label-at-requires : tie.Need-label-at-requires
+label-at-requires c κs =
+    let n = c .before .before in
+    let o = n .before .before in
+    let a = o .before .before .before .args in
+    let value = sym (o .open-pack .ensures) ∙ n .count .given .1 in
+    (opened-sized (a .pack .now) _ value, opened-all (a .pack .now) _ value .counted)
+
+enum-known-file : tie.Need-enum-known-file
+enum-known-file c = search needs
+
+same-length : tie.Need-same-length
+same-length c = search needs
+
+returns : tie.Need-returns
+returns c =
+    let l = c .before .before in
+    let n = l .before .before .before in
+    let o = n .before .before in
+    let a = o .before .before .before .args in
+    let says = opened-point (a .pack .now) (a .k) (a .out .now) _ (sym (o .open-pack .ensures) ∙ n .count .given .1) in
+    (l .label-at .ensures .0 ∙ says .0, l .label-at .ensures .1 ∙ says .1)
+
+returns-2 : tie.Need-returns-2
+returns-2 c =
+    let f = c .before in
+    let o = f .before .before in
+    let a = o .before .before .before .args in
+    not-opened (a .pack .now) (a .k) (a .out .now) _ _ (sym (o .open-pack .ensures) ∙ f .file .given .1)
+
+pub label-of-point-spec : {M : Type 1} → statement M
+label-of-point-spec =
+    tie.close
+    (tie.spec
+    open-pack-requires
+    enum-known-count
+    label-at-requires
+    enum-known-file
+    same-length
+    returns
+    returns-2)

@@ -1,0 +1,39 @@
+// The label of a point of a pack that is opened.
+use crate::spans::spans_at;
+use pack_read::PackPoint;
+use pack_read::PackTrailer;
+use pack_read::inner::trailer_number;
+use refusal::Answer;
+use refusal::Reason;
+ghost use mathlib.Core.Path.{_≡_};
+ghost use Prim.Native.Nat.{_≤_};
+ghost use Rattle.label.specs.Label.{labelOf, roomAnswer, roomMemory};
+ghost use Rattle.pack.specs.Opening.{pointCount};
+ghost use Rattle.pack.specs.Points.{elementsAt, pointPlace, pointAnswer, pointMemory};
+ghost use Rattle.pack_points.specs.Ready.{Sized};
+
+// The label of point k of a pack that has so many.
+fn point_label<'a>(pack: &'a [u8], k: usize, out: &mut [u8]) -> Answer
+    requires { ⌜ Sized (now pack) × ((1 ≤ k) × (k ≤ pointCount (now pack))) ⌝ }
+    ensures { λ r. ⌜ (r ≡ roomAnswer (labelOf (elementsAt (now (pack .entry)) (pointPlace (now (pack .entry)) k))) (now (out .entry))) × (now (out .exit) ≡ roomMemory (labelOf (elementsAt (now (pack .entry)) (pointPlace (now (pack .entry)) k))) (now (out .entry))) ⌝ }
+{
+    let start = trailer_number(pack, PackTrailer::START);
+    let at = start + PackPoint::WIDTH * (k - 1);
+    let rows = &pack[..start];
+    label_print::print_label(rows, pack, spans_at(pack, rows, at), out)
+}
+
+// The label of point k, counted from 1, of a pack that has so many points.
+pub fn label_at<'a>(pack: &'a [u8], count: usize, k: usize, out: &mut [u8]) -> Answer
+    requires { ⌜ Sized (now pack) × (count ≡ pointCount (now pack)) ⌝ }
+    ensures { λ r. ⌜ (r ≡ pointAnswer (now (pack .entry)) k (now (out .entry))) × (now (out .exit) ≡ pointMemory (now (pack .entry)) k (now (out .entry))) ⌝ }
+{
+    let there = (1 <= k) & (k <= count);
+    if !there {
+        return Answer::Refused {
+            file: 0,
+            reason: Reason::NoSuchNumber,
+        };
+    }
+    point_label(pack, k, out)
+}

@@ -1,0 +1,90 @@
+-- `pack_points::points::offsets_good` meets its contract. Assumes nothing.
+use borrow.Author.Needs.{needs}
+use mathlib.Core.Path.{_≡_, refl, sym, _∙_}
+use native.Mathlib.Omega.{arith}
+use borrow.Author.Tests.{not-true, not-false}
+use Rattle.pack.specs.Opening.{rowCount, rowArea, offsetOfPoint, offsetGood, offsetKinds, offsetsGood}
+use Rattle.pack_points.proofs.PointLaws.{offsets-step, offsets-stop, offsets-end}
+use Prim.Native.Nat.{_-_, _≤_}
+use lib.ListN.{drop, getD}
+use Rattle.pack_points.proofs.points.offsets_good.Statement.{statement}
+use Rattle.pack_points.proofs.points.offsets_good.Tie as tie
+
+abbrev Inv-loop : tie.InvT-loop
+Inv-loop pack rows width starts at n₀ n = (n ≤ 8) × (offsetsGood pack at 0 offsetKinds ≡ offsetsGood pack at n (drop n offsetKinds))
+
+abbrev μ-loop : tie.MeasureT-loop
+μ-loop pack rows width starts at n₀ n = 8 - n
+
+-- what was found of an offset is said of the pack's own rows
+judged : (c : tie.After-offset-good Inv-loop μ-loop)
+    → let l = c .before .before .before in
+    let p = l .before .before .before .before .args .pack .now in
+    c .offset-good .result
+    ≡ offsetGood (rowArea p) (rowCount p) (getD offsetKinds (l .loop .n) 0)
+    (offsetOfPoint p (l .before .before .before .before .args .at) (l .loop .n))
+judged c =
+    let o = c .before in
+    let s = o .before .before .before .before .before .before in
+    let ready = s .pre .1 in
+    rw (ready .area, o .offset-of .ensures .0) at (c .offset-good .ensures (rowCount (s .args .pack .now)) (ready .kept))
+
+loop-holds : tie.Need-loop-holds Inv-loop μ-loop
+loop-holds c = (search needs, refl)
+
+offset-of-requires : tie.Need-offset-of-requires Inv-loop μ-loop
+offset-of-requires c κs = search needs
+
+array-read-offset-good : tie.Need-array-read-offset-good Inv-loop μ-loop
+array-read-offset-good c = search needs
+
+offset-good-requires : tie.Need-offset-good-requires Inv-loop μ-loop
+offset-good-requires c κs = search needs
+
+returns : tie.Need-returns Inv-loop μ-loop
+returns c =
+    let g = c .before in
+    let l = g .before .before .before in
+    let a = l .before .before .before .before .args in
+    sym
+    (l .loop .inv .1
+    ∙ offsets-stop (a .pack .now) (a .at) (l .loop .n) offsetKinds (omega arith) (sym (judged g) ∙ not-true _ (c .if1 .taken)))
+
+add-n : tie.Need-add-n Inv-loop μ-loop
+add-n c = search needs
+
+loop-less : tie.Need-loop-less Inv-loop μ-loop
+loop-less c = search needs
+
+loop-again : tie.Need-loop-again Inv-loop μ-loop
+loop-again c =
+    let g = c .before in
+    let l = g .before .before .before in
+    let a = l .before .before .before .before .args in (
+      omega arith,
+      l .loop .inv .1
+          ∙ offsets-step (a .pack .now) (a .at) (l .loop .n) offsetKinds (omega arith)
+          (sym (judged g) ∙ not-false _ (c .if1 .left)),
+    )
+
+returns-2 : tie.Need-returns-2 Inv-loop μ-loop
+returns-2 c =
+    let l = c .before in
+    let a = l .before .before .before .before .args in
+    sym (l .loop .inv .1 ∙ offsets-end (a .pack .now) (a .at) (l .loop .n) offsetKinds (omega arith))
+
+pub offsets-good-spec : {M : Type 1} → statement M
+offsets-good-spec =
+    tie.close
+    (tie.spec
+    Inv-loop
+    μ-loop
+    loop-holds
+    offset-of-requires
+    array-read-offset-good
+    offset-good-requires
+    returns
+    add-n
+    loop-less
+    loop-again
+    returns-2)

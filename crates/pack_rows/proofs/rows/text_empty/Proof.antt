@@ -1,0 +1,40 @@
+-- `pack_rows::rows::text_empty` meets its contract. Assumes nothing.
+use borrow.Author.Needs.{needs}
+use Rattle.pack.specs.Opening.{rowText}
+use Rattle.pack_rows.proofs.Texts.{empty-length}
+use Rattle.pack_rows.proofs.rows.text_empty.Statement.{statement}
+use Rattle.pack_rows.proofs.rows.text_empty.Tie as tie
+
+add-text-place : tie.Need-add-text-place
+add-text-place c = search needs
+
+text-place-requires : tie.Need-text-place-requires
+text-place-requires c κs = search needs
+
+text-end-requires : tie.Need-text-end-requires
+text-end-requires c κs = search needs
+
+add-part-of : tie.Need-add-part-of
+add-part-of c = search needs
+
+part-of-requires : tie.Need-part-of-requires
+part-of-requires c κs = search needs
+
+returns : tie.Need-returns
+returns c =
+    let e = c .before in
+    let p = e .before in
+    let a = p .before .before .args in
+    rw (c .part-of .ensures, e .text-end .ensures .0, p .text-place .ensures .0)
+    (empty-length (rowText (a .rows .now) (a .at) (a .n)))
+
+pub text-empty-spec : {M : Type 1} → statement M
+text-empty-spec =
+    tie.close
+    (tie.spec
+    add-text-place
+    text-place-requires
+    text-end-requires
+    add-part-of
+    part-of-requires
+    returns)

@@ -1,0 +1,110 @@
+-- The label of a view goes into a fresh buffer of 499 bytes, and what is read of it is the view's text.
+-- Assumes nothing.
+use Prim.Native.Nat.{ℕ, _≤_}
+use mathlib.Core.Path.{_≡_, refl, sym, ap, subst}
+use mathlib.Core.Bool.{Bool, true, false, cond}
+use mathlib.Core.List.{List}
+use native.Mathlib.Omega.{arith}
+use borrow.Author.Tests.{eqb-false, le-leb}
+use lib.Dec.{eqb}
+use lib.ListN.{length, take, drop, length-append}
+use lib.Seq.{take-append-seam}
+use Rattle.refusal.specs.declared.Reason.{Reason}
+use Rattle.refusal.specs.declared.Answer.{Answer}
+use Rattle.refusal.specs.declared.Answer.the-variants.{Value, Refused}
+use Rattle.source.specs.Address.{Lookup, Address, Elements}
+use Rattle.source.specs.Resolve.{Resolved, elements, refused, forbidden, missing, elementsOf, resolve}
+use Rattle.changes_source.specs.Rows.{tableLookup}
+use Rattle.changes_source.specs.Addresses.{addressAt}
+use Rattle.label.specs.Label.{labelOf, roomAnswer, roomMemory, resolvedAnswer, resolvedMemory}
+use Rattle.label.specs.Widths.{Fits}
+use Rattle.label.proofs.Bounds.{at-most-499}
+use Rattle.changes_meaning.proofs.Fits as meaning
+use Rattle.changes_meaning.proofs.Meant.{address-fits}
+use Rattle.changes_label.specs.Pair.{resolvedAt, placeAnswer, placeMemory, ViewPlace}
+use Rattle.report.specs.Report.{refusedLine, resolvedText, viewText}
+
+-- what an answer and a buffer say of a text: it stands in front of the buffer, or it is the refusal's line
+abbrev pub Told : List ℕ → Answer → List ℕ → Type 0
+Told text (Value n) m = (n ≤ length m) × (take n m ≡ text)
+Told text (Refused file why) m = refusedLine why ≡ text
+
+pub told-value : (text : List ℕ) {m x : List ℕ} {a : Answer} (n : ℕ) → Told text a m → a ≡ Value n → x ≡ m
+    → (n ≤ length x) × (take n x ≡ text)
+told-value text {m} {x} n t e y =
+    subst (λ (l : List ℕ). (n ≤ length l) × (take n l ≡ text)) (sym y) (subst (λ (z : Answer). Told text z m) e t)
+
+pub told-refused : (text m : List ℕ) {a : Answer} (file : ℕ) (why : Reason) → Told text a m → a ≡ Refused file why
+    → refusedLine why ≡ text
+told-refused text m file why t e = subst (λ (z : Answer). Told text z m) e t
+
+room-told : (text out : List ℕ) → length text ≤ length out → Told text (roomAnswer text out) (roomMemory text out)
+unfolding roomAnswer roomMemory
+room-told text out h =
+    rw (le-leb (length text) (length out) h)
+    (omega (arith, length-append text (drop (length text) out)), take-append-seam text (drop (length text) out))
+
+resolved-told : (r : Resolved) (out : List ℕ) → ((e : Elements) → r ≡ elements e → length (labelOf e) ≤ length out)
+    → Told (resolvedText r) (resolvedAnswer r out) (resolvedMemory r out)
+resolved-told (elements e) out fits = room-told (labelOf e) out (fits e refl)
+resolved-told (refused why) out fits = refl
+
+-- what resolves has the address's elements
+abbrev outcome : Elements → Reason → Reason → Bool → Bool → Resolved
+outcome e eight nine t u = cond t (cond u (elements e) (refused nine)) (refused eight)
+
+resolved-by : (x e : Elements) (eight nine : Reason) (t u : Bool) → outcome x eight nine t u ≡ elements e → x ≡ e
+resolved-by x e eight nine true true h = cc
+resolved-by x e eight nine true false h = cc
+resolved-by x e eight nine false u h = cc
+
+resolved-is : (look : Lookup) (a : Address) (e : Elements) → resolve look a ≡ elements e → elementsOf look a ≡ e
+unfolding resolve
+resolved-is look a e h = resolved-by (elementsOf look a) e _ _ (eqb (forbidden a) 0) (eqb (missing look a) 0) h
+
+-- no text is longer than its field
+narrow : {e : Elements} → meaning.Fits e → Fits e
+narrow f =
+    record {
+      organisation = f .organisation;
+      department = f .department;
+      box = f .box;
+      sub-building = f .sub-building;
+      building = f .building;
+      dependent = f .dependent;
+      dependent-descriptor = f .dependent-descriptor;
+      thoroughfare = f .thoroughfare;
+      descriptor = f .descriptor;
+      double-locality = f .double-locality;
+      dependent-locality = f .dependent-locality;
+      town = f .town;
+      outward = f .outward;
+      inward = f .inward;
+    }
+
+module _ (table points : List ℕ) (place : ℕ) (v : ViewPlace table points place) where
+  -- the label of a view has at most 499 bytes
+  pub label-fits : (place ≡ 0 → ⊥) → length (labelOf (elementsOf (tableLookup table) (addressAt points 0 place))) ≤ 499
+  label-fits some =
+      at-most-499 (elementsOf (tableLookup table) (addressAt points 0 place))
+      (narrow
+      (address-fits table points (v .of-table) (v .of-points) place (v .low some) (v .high some) (v .a-view some) 0))
+
+  module _ (out : List ℕ) (n : 499 ≤ length out) where
+    some-told : (place ≡ 0 → ⊥)
+        → Told (resolvedText (resolvedAt table points place)) (resolvedAnswer (resolvedAt table points place) out)
+        (resolvedMemory (resolvedAt table points place) out)
+    some-told some =
+        resolved-told (resolvedAt table points place) out
+        (λ e h.
+        let same = resolved-is (tableLookup table) (addressAt points 0 place) e h in
+        omega (arith, label-fits some, ap (λ (x : Elements). length (labelOf x)) same))
+
+    pub view-told : Told (viewText table points place) (placeAnswer table points place out) (placeMemory table points place out)
+    unfolding viewText placeAnswer placeMemory
+    view-told = by-test (eqb place 0) refl
+      where
+        by-test : (t : Bool) → eqb place 0 ≡ t
+            → Told (viewText table points place) (placeAnswer table points place out) (placeMemory table points place out)
+        by-test true e = rw e refl
+        by-test false e = rw e (some-told (eqb-false place 0 e))

@@ -1,0 +1,61 @@
+// What is written of each view of a pair of accepted files, which are not judged again.
+use refusal::Answer;
+use report::inner::number_at;
+use report::inner::refused_at;
+use report::inner::text_at;
+ghost use Prim.Native.Nat.{_≤_};
+ghost use lib.ListN.{length};
+ghost use Rattle.file.proofs.Accepted.{Accepted};
+ghost use Rattle.file.specs.Formats.{tableFormat, pointFormat};
+ghost use Rattle.changes_label.specs.Pair.{ViewPlace};
+ghost use Rattle.report.specs.Fed.{Fed};
+ghost use Rattle.report.specs.Report.{viewText, block, blocks};
+
+// The label of the view at a place, or its refusal.
+fn view_at<'a>(table: &'a [u8], points: &'a [u8], place: usize, at: usize, out: &mut [u8]) -> usize
+    requires { ⌜ (at ≤ length (now out)) × ViewPlace (now table) (now points) place ⌝ }
+    ensures { λ r. ⌜ Fed (viewText (now (table .entry)) (now (points .entry)) place) (now (out .entry)) at r (now (out .exit)) ⌝ }
+{
+    let mut label = [0u8; 499];
+    match changes_label::inner::label_at(table, points, place, &mut label) {
+        Answer::Value(n) => text_at(&label[..n], at, out),
+        Answer::Refused { file: _, reason } => refused_at(reason, at, out),
+    }
+}
+
+// `view`, number, letter; then the label.
+fn block_at<'a>(table: &'a [u8], points: &'a [u8], view: usize, at: usize, out: &mut [u8]) -> usize
+    requires { ⌜ (at ≤ length (now out)) × Accepted tableFormat (now table) × Accepted pointFormat (now points) ⌝ }
+    ensures { λ r. ⌜ Fed (block (now (table .entry)) (now (points .entry)) view) (now (out .entry)) at r (now (out .exit)) ⌝ }
+{
+    let place = changes_views::wanted_at(points, &points[..0], view);
+    let letter = file_record::byte_of(
+        file_record::point_record(points, place),
+        file_record::Point::LETTER,
+    );
+    let ending = [b' ', letter, b'\n'];
+    let i = text_at(b"view", at, out);
+    let j = number_at(view, i, out);
+    let k = text_at(&ending, j, out);
+    view_at(table, points, place, k, out)
+}
+
+// The views from 1 on.
+pub fn blocks_at<'a>(
+    table: &'a [u8],
+    points: &'a [u8],
+    views: usize,
+    at: usize,
+    out: &mut [u8],
+) -> usize
+    requires { ⌜ (at ≤ length (now out)) × Accepted tableFormat (now table) × Accepted pointFormat (now points) ⌝ }
+    ensures { λ r. ⌜ Fed (blocks (now (table .entry)) (now (points .entry)) views) (now (out .entry)) at r (now (out .exit)) ⌝ }
+{
+    let mut view = 0;
+    let mut i = at;
+    while view < views {
+        view += 1;
+        i = block_at(table, points, view, i, out);
+    }
+    i
+}
