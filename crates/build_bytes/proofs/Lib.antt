@@ -1,4 +1,3 @@
-pub mod Going
 pub mod Numbers
 pub mod Texts
 pub mod Places

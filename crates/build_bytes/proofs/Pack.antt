@@ -12,7 +12,7 @@ use Rattle.pack.specs.Layout.{newest, trailerBytes}
 use Rattle.build_plan.specs.Places.{organisationsAt}
 use Rattle.build_bytes.specs.Emit.{tableRows, pointsAt, packAt}
 use Rattle.build_bytes.specs.Ready.{Ready}
-use Rattle.build_bytes.proofs.Going.{Going, going-start, going-as, going-step}
+use Rattle.label.proofs.Going.{Going, going-start, going-as, going-step}
 
 -- the points where the organisations' rows stand from i on, and the trailer where the points stand from j on
 abbrev pub pointsFrom : (table points starts code : List ℕ) → ℕ → List ℕ

@@ -14,8 +14,8 @@ use Rattle.field.specs.Text.{part}
 use Rattle.file_record.specs.Parts.{recordAt}
 use Rattle.refusal.specs.declared.Reason.{Reason}
 use Rattle.refusal.specs.declared.Reason.the-variants.{Combination, MissingKey}
-use Rattle.file.specs.declared.verdict.Verdict.{Verdict}
-use Rattle.file.specs.declared.verdict.Verdict.the-variants.{Fine, Bad}
+use Rattle.refusal.specs.declared.Verdict.{Verdict}
+use Rattle.refusal.specs.declared.Verdict.the-variants.{Fine, Bad}
 use Rattle.file.specs.Formats.{tableFormat, pointFormat}
 use Rattle.file.proofs.Accepted.{Accepted, both-fine}
 use Rattle.changes_rows.specs.Rows.{lastOf, rowOf}
@@ -25,7 +25,7 @@ use Rattle.changes_source.proofs.Table.{found-row}
 use Rattle.changes_keys.specs.Keys.{says, forbiddenIn, rowFor, lacksRow, missingIn, refusalIn}
 use Rattle.changes_meaning.proofs.Fields.{Key, keys-at}
 use Rattle.changes_meaning.proofs.Meant.{wanted-view}
-use Rattle.pack.specs.Layout.{ref}
+use Rattle.source.specs.Address.{ref}
 use Rattle.build_plan.specs.Places.{numberedRefusal, refusalAt, firstRefused, keyRow, refersTo}
 use Rattle.build_sound.specs.Packed.{viewsAt, WantedPlace, WantedPlaces}
 use Rattle.pack_carries.specs.Used.{refersIn, refers}

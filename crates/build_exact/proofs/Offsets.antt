@@ -15,9 +15,9 @@ use Rattle.field.specs.Test.{elem}
 use Rattle.file.specs.Formats.{tableFormat}
 use Rattle.file.proofs.Accepted.{Accepted}
 use Rattle.changes_rows.specs.Rows.{lastOf}
-use Rattle.source.specs.Address.{Lookup}
+use Rattle.source.specs.Address.{Lookup, kindOf, keyOf}
 use Rattle.changes_source.specs.Rows.{tableLookup}
-use Rattle.pack.specs.Layout.{kindOf, keyOf, textsOr, Entry, entry, tableEntries, entryBytes, entriesBytes, offsetOf}
+use Rattle.pack.specs.Layout.{textsOr, Entry, entry, tableEntries, entryBytes, entriesBytes, offsetOf}
 use Rattle.build_plan.specs.Rows.{rowBytesAt, isMarked, bytesTo, countTo, rowsFrom}
 use Rattle.pack_carries.specs.Used.{Rises}
 use Rattle.changes_refs.specs.Refs.{refAt}

@@ -13,7 +13,7 @@ use Rattle.field.specs.Digits.{digit, digitValue, value}
 use Rattle.field.proofs.Values.{value-whole}
 use Rattle.changes_source.proofs.Digits.{digit-again}
 use Rattle.changes_refs.proofs.Digits.{first-digit}
-use Rattle.pack.specs.Layout.{ref}
+use Rattle.source.specs.Address.{ref}
 use Rattle.pack_carries.specs.Used.{Rises}
 use Rattle.pack_carries.proofs.Rows.{or-true}
 

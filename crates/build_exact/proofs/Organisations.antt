@@ -14,10 +14,10 @@ use Rattle.file.specs.Formats.{needed, pointFormat}
 use Rattle.file.proofs.Accepted.{Accepted}
 use Rattle.file.proofs.Laws.{within-limit}
 use Rattle.changes_views.specs.Views.{lastOf, wanted, wantedFrom, wantedIn, viewNumber}
-use Rattle.source.specs.Address.{Organisation, none-needed, named, lacking}
+use Rattle.source.specs.Address.{Organisation, none-needed, named, lacking, ref, kindOf}
 use Rattle.changes_source.specs.Addresses.{organisationOf, addressOf}
 use Rattle.changes_meaning.proofs.Meant.{wanted-view}
-use Rattle.pack.specs.Layout.{Entry, entry, ref, kindOf, organisationEntry, organisationEntries, textsBytes, entryBytes, entriesBytes, offsetOf}
+use Rattle.pack.specs.Layout.{Entry, entry, organisationEntry, organisationEntries, textsBytes, entryBytes, entriesBytes, offsetOf}
 use Rattle.build_plan.specs.Places.{organisationAt, organisationsAt, organisationCount}
 use Rattle.build_sound.specs.Packed.{viewAt, viewsAt}
 use Rattle.build_sound.proofs.Numbers.{number-view, number-rises, number-bound}

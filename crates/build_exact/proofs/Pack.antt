@@ -9,9 +9,9 @@ use Rattle.file.specs.Formats.{pointFormat}
 use Rattle.file.proofs.Accepted.{Accepted}
 use Rattle.changes_views.specs.Views.{wantedIn}
 use Rattle.changes_rows.specs.Rows.{lastOf}
-use Rattle.source.specs.Address.{Address}
+use Rattle.source.specs.Address.{Address, ref}
 use Rattle.changes_source.specs.Rows.{tableLookup}
-use Rattle.pack.specs.Layout.{newest, ref, Entry, organisationEntries, entriesOf, entriesBytes, offsetOf, pointsBytes, trailerBytes, packBytes, packOf}
+use Rattle.pack.specs.Layout.{newest, Entry, organisationEntries, entriesOf, entriesBytes, offsetOf, pointsBytes, trailerBytes, packBytes, packOf}
 use Rattle.build_plan.specs.Places.{organisationsAt, organisationCount}
 use Rattle.build_plan.specs.Rows.{countTo}
 use Rattle.build_sound.specs.Packed.{packed, viewsAt}

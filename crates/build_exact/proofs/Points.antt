@@ -18,14 +18,14 @@ use Rattle.file_fault.proofs.Laws.{part-join}
 use Rattle.file.specs.Formats.{needed, pointFormat}
 use Rattle.file.proofs.Accepted.{Accepted}
 use Rattle.changes_views.specs.Views.{viewNumber}
-use Rattle.source.specs.Address.{none-needed, named, keysOf}
+use Rattle.source.specs.Address.{none-needed, named, keysOf, ref}
 use Rattle.changes_source.specs.Addresses.{organisationOf, addressOf}
 use Rattle.changes_meaning.proofs.Records.{record-length}
 use Rattle.changes_meaning.proofs.Fields.{view-passes}
 use Rattle.changes_meaning.proofs.Meant.{wanted-view}
 use Rattle.pack_carries.proofs.Rows.{or-true}
 use Rattle.pack.specs.Numbers.{bytesOf, absent}
-use Rattle.pack.specs.Layout.{newest, ref, Entry, keyRefs, organisationRef, refsOf, offsetOf, refBytes, refsBytes, markOf, postcodeOf, plainOf, pointBytes, pointsBytes}
+use Rattle.pack.specs.Layout.{newest, Entry, keyRefs, organisationRef, refsOf, offsetOf, refBytes, refsBytes, markOf, postcodeOf, plainOf, pointBytes, pointsBytes}
 use Rattle.build_plan.specs.Places.{organisationAt}
 use Rattle.build_sound.specs.Packed.{viewAt, viewsAt, WantedPlace, WantedPlaces}
 use Rattle.build_sound.proofs.Addresses.{one-passes}

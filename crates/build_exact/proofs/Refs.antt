@@ -28,7 +28,8 @@ use Rattle.changes_source.proofs.Digits.{digits-again}
 use Rattle.changes_source.proofs.Table.{keys-rise}
 use Rattle.changes_meaning.proofs.Records.{part-length, record-length}
 use Rattle.changes_meaning.proofs.Fields.{table-passes, digits-pass}
-use Rattle.pack.specs.Layout.{ref, kindOf, keyOf, textsOr, entry, textsBytes, entryBytes}
+use Rattle.pack.specs.Layout.{textsOr, entry, textsBytes, entryBytes}
+use Rattle.source.specs.Address.{ref, kindOf, keyOf}
 use Rattle.build_plan.specs.Rows.{rowBytesAt}
 use Rattle.build_sound.proofs.Addresses.{one-passes, eight}
 use Rattle.pack_carries.proofs.Used.{ref-kind, ref-key}

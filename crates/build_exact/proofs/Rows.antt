@@ -15,12 +15,12 @@ use Rattle.field.specs.Text.{part}
 use Rattle.file_record.specs.Parts.{recordAt}
 use Rattle.changes_views.specs.Views.{wantedIn}
 use Rattle.changes_rows.specs.Rows.{lastOf}
-use Rattle.source.specs.Address.{keysOf}
+use Rattle.source.specs.Address.{keysOf, ref}
 use Rattle.changes_source.specs.Rows.{tableLookup}
 use Rattle.changes_source.specs.Addresses.{addressOf}
 use Rattle.changes_keys.specs.Keys.{says, rowFor}
 use Rattle.pack.specs.Numbers.{bytesOf, absent}
-use Rattle.pack.specs.Layout.{ref, Entry, usedBy, tableEntries, organisationEntries, entriesOf, entriesBytes, keyRefs, offsetOf, refBytes, refsBytes}
+use Rattle.pack.specs.Layout.{Entry, usedBy, tableEntries, organisationEntries, entriesOf, entriesBytes, keyRefs, offsetOf, refBytes, refsBytes}
 use Rattle.build_plan.specs.Places.{keyRow, refersTo, markPlaces}
 use Rattle.build_plan.specs.Rows.{isMarked, bytesTo, countTo}
 use Rattle.build_bytes.specs.Emit.{keyOffsets, tableRows}

@@ -1,12 +1,12 @@
 // Marking the records of accepted files: the caller knows how many there are.
 use changes_keys::inner::first_rule;
-use file::Verdict;
 use file_record::View;
 use refusal::Reason;
+use refusal::Verdict;
 ghost use mathlib.Core.Path.{_≡_};
 ghost use Prim.Native.Nat.{_≤_};
 ghost use lib.ListN.{length};
-ghost use Rattle.file.specs.declared.verdict.Verdict.the-variants.{Fine};
+ghost use Rattle.refusal.specs.declared.Verdict.the-variants.{Fine};
 ghost use Rattle.changes_rows.specs.Rows.{lastOf};
 ghost use Rattle.changes_refs.specs.Refs.{Refs};
 ghost use Rattle.changes_views.specs.Views.{wantedIn};

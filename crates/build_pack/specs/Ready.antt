@@ -5,7 +5,7 @@ use mathlib.Core.Path.{_≡_}
 use mathlib.Core.List.{List}
 use lib.ListN.{length, getD}
 use Rattle.field_outward.specs.Outward.{outwardFault}
-use Rattle.file.specs.declared.verdict.Verdict.the-variants.{Fine}
+use Rattle.refusal.specs.declared.Verdict.the-variants.{Fine}
 use Rattle.file.specs.Formats.{tableFormat, pointFormat}
 use Rattle.file.proofs.Accepted.{Accepted}
 use Rattle.changes_views.specs.Views.{wantedIn}

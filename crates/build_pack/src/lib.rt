@@ -1,7 +1,7 @@
 // Building the pack of an outward code from a pair of files.
-use file::Verdict;
 use refusal::Answer;
 use refusal::Reason;
+use refusal::Verdict;
 ghost use mathlib.Core.Path.{_≡_};
 ghost use Rattle.changes_source.specs.Rows.{tableLookup};
 ghost use Rattle.label.specs.Label.{roomAnswer, roomMemory};

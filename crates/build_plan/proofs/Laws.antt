@@ -15,7 +15,7 @@ use Rattle.field.specs.Text.{textIn}
 use Rattle.file_record.specs.Parts.{recordAt}
 use Rattle.refusal.specs.Refusal.{withView}
 use Rattle.refusal.specs.declared.Reason.{Reason}
-use Rattle.file.specs.declared.verdict.Verdict.the-variants.{Fine, Bad}
+use Rattle.refusal.specs.declared.Verdict.the-variants.{Fine, Bad}
 use Rattle.file.specs.Formats.{needed}
 use Rattle.changes_views.specs.Views.{viewNumber}
 use Rattle.changes_rows.specs.Rows.{lastOf}

@@ -9,9 +9,9 @@ use Rattle.field.specs.Test.{elem}
 use Rattle.field.specs.Text.{textIn}
 use Rattle.file_record.specs.Parts.{recordAt}
 use Rattle.refusal.specs.Refusal.{withView}
-use Rattle.file.specs.declared.verdict.Verdict.{Verdict}
-use Rattle.file.specs.declared.verdict.Verdict.the-variants.{Fine, Bad}
-use Rattle.file.specs.Check.{orElse}
+use Rattle.refusal.specs.declared.Verdict.{Verdict}
+use Rattle.refusal.specs.declared.Verdict.the-variants.{Fine, Bad}
+use Rattle.refusal.specs.Verdict.{orElse}
 use Rattle.file.specs.Formats.{needed}
 use Rattle.changes_views.specs.Views.{viewNumber}
 use Rattle.changes_keys.specs.Keys.{says, rowFor, refusalIn}

@@ -20,7 +20,7 @@ use Rattle.file_compare.specs.Order.{order}
 use Rattle.file_compare.proofs.Order.{order-equal}
 use Rattle.file_fault.specs.Fields.{oneOf}
 use Rattle.file_fault.proofs.Laws.{one-byte}
-use Rattle.file.specs.declared.verdict.Verdict.the-variants.{Fine}
+use Rattle.refusal.specs.declared.Verdict.the-variants.{Fine}
 use Rattle.file.specs.Formats.{pointFormat}
 use Rattle.file.proofs.Accepted.{Accepted, both-fine}
 use Rattle.file.proofs.Laws.{within-limit}
@@ -31,7 +31,7 @@ use Rattle.changes_source.specs.Addresses.{addressOf, addressAt}
 use Rattle.changes_meaning.proofs.Records.{part-length, record-length}
 use Rattle.changes_meaning.proofs.Fields.{point-passes, view-passes}
 use Rattle.changes_meaning.proofs.Meant.{wanted-view}
-use Rattle.changes_spans.proofs.Laws.{digits-below}
+use Rattle.field.proofs.Fronts.{digits-below}
 use Rattle.pack.specs.Cutting.{badOf, firstBad}
 use Rattle.pack.specs.Sound.{AddressSound, AddressesSound}
 use Rattle.build_sound.specs.Packed.{packed, viewAt, viewsAt, WantedPlace}

@@ -10,8 +10,8 @@ use lib.ListN.{getD}
 use Rattle.file_record.specs.Parts.{recordAt}
 use Rattle.field_outward.specs.Outward.{outwardFault}
 use Rattle.refusal.specs.declared.Reason.{Reason}
-use Rattle.file.specs.declared.verdict.Verdict.{Verdict}
-use Rattle.file.specs.declared.verdict.Verdict.the-variants.{Fine, Bad}
+use Rattle.refusal.specs.declared.Verdict.{Verdict}
+use Rattle.refusal.specs.declared.Verdict.the-variants.{Fine, Bad}
 use Rattle.file.specs.Formats.{tableFormat, pointFormat}
 use Rattle.file.proofs.Accepted.{Accepted}
 use Rattle.changes_views.specs.Views.{wanted, lastOf, wantedIn, wantedCount, wantedAt, nextWanted, viewNumber}

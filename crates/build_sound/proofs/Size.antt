@@ -18,12 +18,12 @@ use Rattle.file.proofs.Laws.{within-limit}
 use Rattle.changes_rows.specs.Rows.{rowOf}
 use Rattle.changes_views.specs.Views.{wantedIn, wantedCount}
 use Rattle.changes_views.proofs.Laws.{count-bound}
-use Rattle.source.specs.Address.{none-needed, named, Address, present, Asked, keysOf}
+use Rattle.source.specs.Address.{none-needed, named, Address, present, Asked, keysOf, ref, kindOf, keyOf}
 use Rattle.changes_source.specs.Rows.{digitsOf, textsOf, tableLookup}
 use Rattle.changes_source.specs.Addresses.{organisationOf, addressOf}
-use Rattle.changes_spans.proofs.Laws.{text-in-bound}
+use Rattle.field.proofs.Fronts.{text-in-bound}
 use Rattle.pack.specs.Numbers.{bytesOf}
-use Rattle.pack.specs.Layout.{newest, ref, Entry, insert, insertKeys, usedBy, textsOr, tableEntries, organisationEntry, organisationEntries, entriesOf, textsBytes, entriesBytes, refsBytes, refsOf, postcodeOf, plainOf, pointBytes, pointsBytes, trailerBytes, packBytes, packOf, kindOf, keyOf}
+use Rattle.pack.specs.Layout.{newest, Entry, insert, insertKeys, usedBy, textsOr, tableEntries, organisationEntry, organisationEntries, entriesOf, textsBytes, entriesBytes, refsBytes, refsOf, postcodeOf, plainOf, pointBytes, pointsBytes, trailerBytes, packBytes, packOf}
 use Rattle.build_sound.specs.Packed.{packed, viewAt, viewsAt}
 use Rattle.build_sound.proofs.Packed.{code-length, packed-views, views-length}
 

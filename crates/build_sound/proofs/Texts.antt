@@ -14,7 +14,7 @@ use Rattle.field.proofs.Tests.{and-left, and-right}
 use Rattle.field.proofs.Faults.{no-fault-every}
 use Rattle.field.proofs.Texts.{text-blank, text-other}
 use Rattle.label.specs.Lines.{isEmpty}
-use Rattle.changes_spans.proofs.Laws.{text-in-bound}
+use Rattle.field.proofs.Fronts.{text-in-bound}
 use Rattle.pack.specs.Opening.{slot, textGood}
 
 -- a text without its padding is empty where the field is blank, and only there

@@ -8,8 +8,8 @@ use lib.Dec.{eqb}
 use Rattle.field.specs.Digits.{value}
 use Rattle.field.specs.Text.{part}
 use Rattle.refusal.specs.declared.Reason.the-variants.{Combination, MissingKey}
-use Rattle.file.specs.declared.verdict.Verdict.{Verdict}
-use Rattle.file.specs.declared.verdict.Verdict.the-variants.{Fine, Bad}
+use Rattle.refusal.specs.declared.Verdict.{Verdict}
+use Rattle.refusal.specs.declared.Verdict.the-variants.{Fine, Bad}
 use Rattle.changes_rows.specs.Search.{found}
 use Rattle.source.specs.Resolve.{forbiddenOf}
 

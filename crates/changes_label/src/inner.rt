@@ -1,7 +1,7 @@
 // The label of a view of accepted files, which are not judged again.
-use file::Verdict;
 use refusal::Answer;
 use refusal::Reason;
+use refusal::Verdict;
 ghost use mathlib.Core.Path.{_≡_};
 ghost use Rattle.changes_label.specs.Pair.{ViewPlace, placeAnswer, placeMemory};
 

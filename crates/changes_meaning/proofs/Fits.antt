@@ -15,7 +15,7 @@ use Rattle.label.specs.declared.Span.{Span}
 use Rattle.label.specs.declared.Spans.{Spans}
 use Rattle.label.specs.Spans.{textIn2, elementsIn}
 use Rattle.changes_spans.specs.Spans.{span, fieldSpan, rowSpan, followerSpan, rowOfKey, inwardSpan, spansOf}
-use Rattle.changes_spans.proofs.Laws.{text-in-bound, four-digits}
+use Rattle.field.proofs.Fronts.{text-in-bound, four-digits}
 
 pub record SpansFit (s : Spans) : Type 0 where
   pub organisation : s .organisation .len ≤ 60

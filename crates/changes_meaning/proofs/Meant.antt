@@ -9,7 +9,7 @@ use lib.ListN.{getD}
 use Rattle.field.proofs.Tests.{and-left}
 use Rattle.file_record.specs.Parts.{recordAt}
 use Rattle.refusal.specs.declared.Reason.{Reason}
-use Rattle.file.specs.declared.verdict.Verdict.the-variants.{Fine, Bad}
+use Rattle.refusal.specs.declared.Verdict.the-variants.{Fine, Bad}
 use Rattle.file.specs.Check.{records}
 use Rattle.file.specs.Formats.{tableFormat, pointFormat}
 use Rattle.file.proofs.Accepted.{Accepted}

@@ -13,8 +13,8 @@ use Rattle.field.specs.Text.{part, textIn}
 use Rattle.file_record.specs.Parts.{recordAt}
 use Rattle.refusal.specs.declared.Reason.{Reason}
 use Rattle.refusal.specs.declared.Reason.the-variants.{Combination, MissingKey}
-use Rattle.file.specs.declared.verdict.Verdict.{Verdict}
-use Rattle.file.specs.declared.verdict.Verdict.the-variants.{Fine, Bad}
+use Rattle.refusal.specs.declared.Verdict.{Verdict}
+use Rattle.refusal.specs.declared.Verdict.the-variants.{Fine, Bad}
 use Rattle.file.specs.Formats.{needed, tableFormat}
 use Rattle.file.proofs.Accepted.{Accepted}
 use Rattle.changes_rows.specs.Rows.{rowOf}

@@ -14,7 +14,7 @@ use Rattle.file_record.specs.Parts.{recordAt}
 use Rattle.file.specs.Formats.{needed}
 use Rattle.label.specs.Spans.{textIn2}
 use Rattle.changes_spans.specs.Spans.{span, fieldSpan, rowSpan, followerSpan, inwardSpan}
-use Rattle.changes_spans.proofs.Laws.{front-text}
+use Rattle.field.proofs.Fronts.{front-text}
 
 -- a part of a part
 drop-take : (m n : ℕ) (l : List ℕ) → drop m (take n l) ≡ take (n - m) (drop m l)

@@ -2,9 +2,9 @@
 use changes_keys::forbidden_in;
 use changes_keys::inner::first_rule;
 use changes_keys::says_some;
-use file::Verdict;
 use file_record::View;
 use refusal::Reason;
+use refusal::Verdict;
 ghost use mathlib.Core.Path.{_≡_};
 ghost use Rattle.changes_keys.specs.Keys.{rowFor, lacksRow, laterMissing, missingIn, refusalIn};
 

@@ -17,9 +17,10 @@ use Rattle.refusal.specs.declared.Answer.the-variants.{Value, Refused}
 use Rattle.source.specs.Address.{Lookup, Address}
 use Rattle.source.specs.Resolve.{forbidden, missing, elementsOf, Resolved, elements, refused, resolve}
 use Rattle.file_ends.specs.Ends.{headerOk, trailerOk}
-use Rattle.file.specs.declared.verdict.Verdict.{Verdict}
-use Rattle.file.specs.declared.verdict.Verdict.the-variants.{Fine, Bad}
-use Rattle.file.specs.Check.{Format, records, whole, at, rises, judged, orElse, scan, verdict, answered, checked}
+use Rattle.refusal.specs.declared.Verdict.{Verdict}
+use Rattle.refusal.specs.declared.Verdict.the-variants.{Fine, Bad}
+use Rattle.file.specs.Check.{Format, records, whole, at, rises, judged, scan, verdict, answered, checked}
+use Rattle.refusal.specs.Verdict.{orElse}
 use Rattle.file.specs.Formats.{tableFormat, pointFormat}
 use Rattle.changes_views.specs.Views.{wantedAt}
 use Rattle.label.specs.Label.{labelOf, roomAnswer, resolvedAnswer}

@@ -13,8 +13,9 @@ use Rattle.field_outward.specs.Outward.{outwardFault}
 use Rattle.refusal.specs.declared.Reason.the-variants.{NoSuchNumber, BadCode}
 use Rattle.refusal.specs.declared.Answer.{Answer}
 use Rattle.refusal.specs.declared.Answer.the-variants.{Refused}
-use Rattle.file.specs.declared.verdict.Verdict.{Verdict}
-use Rattle.file.specs.Check.{checked, orElse}
+use Rattle.refusal.specs.declared.Verdict.{Verdict}
+use Rattle.file.specs.Check.{checked}
+use Rattle.refusal.specs.Verdict.{orElse}
 use Rattle.file.specs.Formats.{tableFormat, pointFormat}
 use Rattle.file.proofs.Accepted.{Accepted, accepts}
 use Rattle.changes_views.specs.Views.{lastOf, wantedIn, wantedAt}

@@ -4,3 +4,4 @@ pub mod Values
 pub mod Texts
 pub mod Likes
 pub mod Runs
+pub mod Fronts

@@ -15,9 +15,10 @@ use Rattle.refusal.specs.declared.Reason.{Reason}
 use Rattle.refusal.specs.declared.Reason.the-variants.{NotAbove, Follower}
 use Rattle.refusal.proofs.Answers.{refused-value}
 use Rattle.refusal.specs.declared.Answer.the-variants.{Value, Refused}
-use Rattle.file.specs.declared.verdict.Verdict.{Verdict}
-use Rattle.file.specs.declared.verdict.Verdict.the-variants.{Fine, Bad}
-use Rattle.file.specs.Check.{Format, records, whole, at, rises, judged, orElse, scan, verdict, answered, checked}
+use Rattle.refusal.specs.declared.Verdict.{Verdict}
+use Rattle.refusal.specs.declared.Verdict.the-variants.{Fine, Bad}
+use Rattle.file.specs.Check.{Format, records, whole, at, rises, judged, scan, verdict, answered, checked}
+use Rattle.refusal.specs.Verdict.{orElse}
 use Rattle.file.proofs.Laws.{judged-fine, verdict-length, verdict-header, verdict-trailer, verdict-scan}
 
 -- no refusal is no answer that is fine

@@ -13,8 +13,8 @@ use Rattle.file_ends.specs.Ends.{headerOk, trailerOk}
 use Rattle.refusal.specs.Refusal.{malformedAt}
 use Rattle.refusal.specs.declared.Reason.{Reason}
 use Rattle.refusal.specs.declared.Reason.the-variants.{Length, Header, Trailer, NotAbove, Follower}
-use Rattle.file.specs.declared.verdict.Verdict.{Verdict}
-use Rattle.file.specs.declared.verdict.Verdict.the-variants.{Fine, Bad}
+use Rattle.refusal.specs.declared.Verdict.{Verdict}
+use Rattle.refusal.specs.declared.Verdict.the-variants.{Fine, Bad}
 use Rattle.file.specs.Check.{Format, records, whole, at, rises, judged, scan, verdict}
 use Rattle.file.specs.Formats.{tableFormat, pointFormat, formatOf}
 

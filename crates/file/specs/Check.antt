@@ -12,12 +12,13 @@ use Rattle.file_record.specs.Parts.{recordAt}
 use Rattle.file_compare.specs.Order.{above}
 use Rattle.file_ends.specs.Ends.{headerOk, trailerOk}
 use Rattle.refusal.specs.Refusal.{malformedAt}
+use Rattle.refusal.specs.Verdict.{orElse}
 use Rattle.refusal.specs.declared.Reason.{Reason}
 use Rattle.refusal.specs.declared.Reason.the-variants.{Length, Header, Trailer, NotAbove, Follower}
 use Rattle.refusal.specs.declared.Answer.{Answer}
 use Rattle.refusal.specs.declared.Answer.the-variants.{Value, Refused}
-use Rattle.file.specs.declared.verdict.Verdict.{Verdict}
-use Rattle.file.specs.declared.verdict.Verdict.the-variants.{Fine, Bad}
+use Rattle.refusal.specs.declared.Verdict.{Verdict}
+use Rattle.refusal.specs.declared.Verdict.the-variants.{Fine, Bad}
 
 pub record Format : Type 0 where
   -- the file to blame
@@ -59,10 +60,6 @@ module _ (f : Format) (file : List ℕ) where
       (cond (f .between (at (i - 1)) (at i) (at (i + 1))) Fine (Bad (Follower (i + 1))))
       (Bad (NotAbove (i + 1))))
       (Bad (malformedAt (i + 1) (f .fault (at i))))
-
-abbrev pub orElse : Verdict → Verdict → Verdict
-orElse Fine rest = rest
-orElse (Bad why) rest = Bad why
 
 -- the first refusal of k records from i on
 abbrev pub scan : (ℕ → Verdict) → ℕ → ℕ → Verdict

@@ -1,5 +1,4 @@
 // The check of a whole file: one pass, and the first refusal.
-use file::Verdict;
 use file_formats::inner::fault_in;
 use file_formats::inner::is_above;
 use file_formats::inner::is_between;
@@ -13,10 +12,11 @@ use file_formats::inner::records_in;
 use file_record::Cursor;
 use refusal::Answer;
 use refusal::Reason;
+use refusal::Verdict;
 ghost use mathlib.Core.Path.{_≡_};
 ghost use mathlib.Core.Bool.{true};
 ghost use Prim.Native.Nat.{_+_, _-_, _≤_, _<_};
-ghost use Rattle.file.specs.declared.verdict.Verdict.the-variants.{Fine};
+ghost use Rattle.refusal.specs.declared.Verdict.the-variants.{Fine};
 ghost use Rattle.file.specs.Check.{records, judged, scan, verdict, answered, checked};
 ghost use Rattle.file_check.specs.Scanning.{Scanning};
 ghost use Rattle.file.specs.Formats.{formatOf, tableFormat, pointFormat};

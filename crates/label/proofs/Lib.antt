@@ -7,3 +7,4 @@ pub mod Bounds
 pub mod Split
 pub mod Examples
 pub mod Room
+pub mod Going

@@ -8,9 +8,9 @@ use Rattle.file_compare.specs.Order.{same}
 use Rattle.refusal.specs.Refusal.{withView}
 use Rattle.refusal.specs.declared.Answer.{Answer}
 use Rattle.refusal.specs.declared.Answer.the-variants.{Refused}
-use Rattle.file.specs.declared.verdict.Verdict.{Verdict}
-use Rattle.file.specs.declared.verdict.Verdict.the-variants.{Fine, Bad}
-use Rattle.file.specs.Check.{orElse}
+use Rattle.refusal.specs.declared.Verdict.{Verdict}
+use Rattle.refusal.specs.declared.Verdict.the-variants.{Fine, Bad}
+use Rattle.refusal.specs.Verdict.{orElse}
 use Rattle.source.specs.Address.{Lookup, Address}
 use Rattle.source.specs.Resolve.{Resolved, elements, refused, resolve}
 use Rattle.label.specs.Label.{roomAnswer, roomMemory}

@@ -7,7 +7,7 @@ use mathlib.Core.List.{List, [], _∷_, _++_}
 use mathlib.Core.Option.{Option, none, some}
 use lib.Dec.{eqb, ltb}
 use lib.ListN.{length}
-use Rattle.source.specs.Address.{Lookup, Organisation, none-needed, named, lacking, Address, present, Asked, keysOf}
+use Rattle.source.specs.Address.{Lookup, Organisation, none-needed, named, lacking, Address, present, Asked, keysOf, ref, kindOf, keyOf}
 use Rattle.pack.specs.Numbers.{bytesOf, absent}
 
 -- the editions that there are, and the one that is built
@@ -23,17 +23,6 @@ pointWidth edition = 57
 
 abbrev pub trailerWidth : ℕ → ℕ
 trailerWidth edition = 21
-
--- what a row stands for, as one number: its type, and its key in the last eight digits; so a rising order is "by type then
--- key". A row of type 6 stands for its view.
-abbrev pub ref : ℕ → ℕ → ℕ
-ref kind key = kind * 100_000_000 + key
-
-abbrev pub kindOf : ℕ → ℕ
-kindOf r = r / 100_000_000
-
-abbrev pub keyOf : ℕ → ℕ
-keyOf r = r % 100_000_000
 
 -- a row of a pack
 pub record Entry : Type 0 where

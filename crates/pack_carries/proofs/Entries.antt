@@ -9,8 +9,8 @@ use native.Mathlib.Omega.{arith}
 use borrow.Author.Tests.{eq-eqb, ne-eqb, eqb-true, eqb-false}
 use lib.Dec.{eqb}
 use Rattle.field.specs.Test.{elem}
-use Rattle.source.specs.Address.{Lookup, Organisation, none-needed, named, lacking, Address, present, Asked, keysOf}
-use Rattle.pack.specs.Layout.{ref, kindOf, keyOf, Entry, entry, usedBy, textsOr, tableEntries, organisationEntry, organisationEntries, entriesOf}
+use Rattle.source.specs.Address.{Lookup, Organisation, none-needed, named, lacking, Address, present, Asked, keysOf, ref, kindOf, keyOf}
+use Rattle.pack.specs.Layout.{Entry, entry, usedBy, textsOr, tableEntries, organisationEntry, organisationEntries, entriesOf}
 use Rattle.pack.specs.Sound.{RowSound, OrganisationSound, KeysFit, AddressesSound, Sound}
 use Rattle.pack_carries.specs.Used.{refersIn, refers, Rises, RowFound}
 use Rattle.pack_carries.proofs.Used.{used-exactly, used-rises, used-each, used-found, Each, ref-kind, ref-key}

@@ -5,8 +5,8 @@ use mathlib.Core.Path.{_≡_, refl, ap, ap₂, _∙_}
 use mathlib.Core.List.{List, [], _∷_, _++_}
 use native.Mathlib.Omega.{arith}
 use lib.ListN.{length}
-use Rattle.source.specs.Address.{Lookup, Organisation, none-needed, named, lacking, Address}
-use Rattle.pack.specs.Layout.{kindOf, Entry, usedBy, textsBytes, entriesBytes, tableEntries, organisationEntry, organisationEntries, entriesOf, packOf}
+use Rattle.source.specs.Address.{Lookup, Organisation, none-needed, named, lacking, Address, kindOf}
+use Rattle.pack.specs.Layout.{Entry, usedBy, textsBytes, entriesBytes, tableEntries, organisationEntry, organisationEntries, entriesOf, packOf}
 use Rattle.pack.specs.Opening.{Slot, slotsOf, textEnd, rowEnd}
 use Rattle.pack.specs.Sound.{AddressesSound, Sound}
 use Rattle.pack_carries.specs.Rows.{rowRead, textsAt, rowsFrom, rowsIn, rowsOf, tableRows, organisationRow, organisationRows}

@@ -9,10 +9,10 @@ use native.Mathlib.Omega.{arith}
 use borrow.Author.Tests.{eq-eqb, ne-eqb}
 use lib.Dec.{eqb}
 use lib.ListN.{length, getD}
-use Rattle.source.specs.Address.{Lookup, Organisation, none-needed, named, lacking, Address, present}
+use Rattle.source.specs.Address.{Lookup, Organisation, none-needed, named, lacking, Address, present, ref, kindOf}
 use Rattle.source.specs.Resolve.{textOf, nameOf, departmentOf}
 use Rattle.pack.specs.Numbers.{absent}
-use Rattle.pack.specs.Layout.{ref, kindOf, Entry, entry, entriesBytes, offsetOf, organisationRef, refsOf}
+use Rattle.pack.specs.Layout.{Entry, entry, entriesBytes, offsetOf, organisationRef, refsOf}
 use Rattle.pack.specs.Opening.{rowCount, rowArea, slotsOf, rowKind, rowText, offsetGood, offsetOfPoint, given}
 use Rattle.pack.specs.Points.{offsetText}
 use Rattle.pack_carries.proofs.Stands.{stands-all}

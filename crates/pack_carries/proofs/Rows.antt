@@ -11,7 +11,8 @@ use lib.ListN.{length, getD, length-append}
 use Rattle.field.specs.Text.{part}
 use Rattle.field.proofs.Tests.{and-left, and-right}
 use Rattle.label.specs.Lines.{isEmpty}
-use Rattle.pack.specs.Layout.{Entry, kindOf, textsBytes, entryBytes, entriesBytes}
+use Rattle.pack.specs.Layout.{Entry, textsBytes, entryBytes, entriesBytes}
+use Rattle.source.specs.Address.{kindOf}
 use Rattle.pack.specs.Opening.{Slot, slotsOf, textGood, textEnd, textAt, textsEnd, textsGood, textPlace, rowKind, rowEnd, rowText, doubleGood, rowGood, rowsGood}
 use Rattle.pack.specs.Sound.{slotsGood, RowSound}
 use Rattle.pack_carries.proofs.Stands.{Stands, stands-first, stands-second, stands-fits, stands-part, stands-byte, stands-next}

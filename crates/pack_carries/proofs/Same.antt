@@ -9,9 +9,9 @@ use borrow.Author.Tests.{eq-eqb, eqb-true}
 use lib.Dec.{eqb}
 use Rattle.field.specs.Test.{elem}
 use Rattle.field.proofs.Tests.{and-right}
-use Rattle.source.specs.Address.{Lookup, Address, present, Asked, keysOf}
+use Rattle.source.specs.Address.{Lookup, Address, present, Asked, keysOf, ref, kindOf, keyOf}
 use Rattle.source.proofs.Same.{Agree}
-use Rattle.pack.specs.Layout.{ref, kindOf, keyOf, usedBy, textsOr, entry, tableEntries, organisationEntries, entriesOf, newest, packBytes, packOf}
+use Rattle.pack.specs.Layout.{usedBy, textsOr, entry, tableEntries, organisationEntries, entriesOf, newest, packBytes, packOf}
 use Rattle.pack.specs.Sound.{KeysFit, AddressesSound}
 use Rattle.pack_carries.specs.Used.{refersIn, refers}
 use Rattle.pack_carries.proofs.Used.{used-exactly, ref-kind, ref-key}

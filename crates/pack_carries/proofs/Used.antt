@@ -9,9 +9,9 @@ use native.Mathlib.Omega.{arith}
 use borrow.Author.Tests.{eqb-true, eqb-false, ltb-true, ltb-false}
 use lib.Dec.{eqb, ltb}
 use Rattle.field.specs.Test.{elem}
-use Rattle.source.specs.Address.{Lookup, Address, present, Asked, keysOf}
+use Rattle.source.specs.Address.{Lookup, Address, present, Asked, keysOf, ref, kindOf, keyOf}
 use Rattle.source.specs.Resolve.{lacks, missingFrom, lacksOrganisation, missing}
-use Rattle.pack.specs.Layout.{ref, kindOf, keyOf, insert, insertKeys, usedBy}
+use Rattle.pack.specs.Layout.{insert, insertKeys, usedBy}
 use Rattle.pack.specs.Sound.{RowSound, RowsSound, KeysFit, AddressesSound, Sound}
 use Rattle.pack_carries.specs.Used.{refersIn, refers, Rises, RowFound}
 

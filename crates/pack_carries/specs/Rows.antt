@@ -2,8 +2,8 @@
 -- Assumes nothing.
 use Prim.Native.Nat.{ℕ, zero, suc, _+_}
 use mathlib.Core.List.{List, [], _∷_, _++_}
-use Rattle.source.specs.Address.{Lookup, Organisation, none-needed, named, lacking, Address}
-use Rattle.pack.specs.Layout.{kindOf, keyOf, Entry, textsOr}
+use Rattle.source.specs.Address.{Lookup, Organisation, none-needed, named, lacking, Address, kindOf, keyOf}
+use Rattle.pack.specs.Layout.{Entry, textsOr}
 use Rattle.pack.specs.Opening.{rowCount, rowArea, Slot, slotsOf, textEnd, textAt, rowKind, rowEnd}
 
 -- what a row says: its type and its texts

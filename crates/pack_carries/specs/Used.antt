@@ -6,8 +6,7 @@ use mathlib.Core.Bool.{Bool, false, _&&_, _||_}
 use mathlib.Core.List.{List, [], _∷_}
 use mathlib.Core.Option.{some}
 use lib.Dec.{eqb}
-use Rattle.source.specs.Address.{Lookup, Address, present, Asked, keysOf}
-use Rattle.pack.specs.Layout.{ref, kindOf, keyOf}
+use Rattle.source.specs.Address.{Lookup, Address, present, Asked, keysOf, ref, kindOf, keyOf}
 use Rattle.pack.specs.Sound.{RowSound}
 
 -- whether one of these keys, not zero, refers to a row

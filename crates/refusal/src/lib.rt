@@ -21,6 +21,12 @@ pub enum Reason {
     BadCode,
 }
 
+// What a check says: of a record, of a file, of a delivery point.
+pub enum Verdict {
+    Fine,
+    Bad(Reason),
+}
+
 // What a call answers. `file` is the file to blame: 0 none, 1 the table file, 2 the point file.
 pub enum Answer {
     Value(usize),

@@ -16,11 +16,12 @@ use Rattle.refusal.specs.declared.Answer.{Answer}
 use Rattle.refusal.specs.declared.Answer.the-variants.{Value, Refused}
 use Rattle.refusal.proofs.Lossless.{number-to-12}
 use Rattle.refusal.specs.Refusal.{number, detail, second}
-use Rattle.file.specs.declared.verdict.Verdict.{Verdict}
-use Rattle.file.specs.declared.verdict.Verdict.the-variants.{Fine, Bad}
+use Rattle.refusal.specs.declared.Verdict.{Verdict}
+use Rattle.refusal.specs.declared.Verdict.the-variants.{Fine, Bad}
 use Rattle.file_ends.specs.Ends.{headerOk, trailerOk}
 use Rattle.file_fault.proofs.Bounds.{table-bound, point-bound}
-use Rattle.file.specs.Check.{Format, records, whole as whole-records, at, rises, judged, orElse, scan, verdict, answered, checked}
+use Rattle.file.specs.Check.{Format, records, whole as whole-records, at, rises, judged, scan, verdict, answered, checked}
+use Rattle.refusal.specs.Verdict.{orElse}
 use Rattle.file.specs.Formats.{tableFormat, pointFormat}
 use Rattle.file.proofs.Accepted.{Accepted, accepted}
 use Rattle.changes_views.specs.Views.{wantedCount, wantedAt}

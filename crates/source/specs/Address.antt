@@ -1,6 +1,6 @@
 -- Rows, addresses and elements. Nothing here knows of files, records or packs.
 -- Assumes nothing.
-use Prim.Native.Nat.{ℕ}
+use Prim.Native.Nat.{ℕ, _+_, _*_, _/_, _%_}
 use mathlib.Core.Bool.{Bool, not}
 use mathlib.Core.List.{List, [], _∷_}
 use mathlib.Core.Option.{Option}
@@ -70,6 +70,17 @@ keysOf a =
     ∷ asked 4 (a .building)
     ∷ asked 5 (a .sub-building)
     ∷ []
+
+-- what a row stands for, as one number: its type, and its key in the last eight digits; so a rising order is "by type then
+-- key". A row of type 6 stands for its view.
+abbrev pub ref : ℕ → ℕ → ℕ
+ref kind key = kind * 100_000_000 + key
+
+abbrev pub kindOf : ℕ → ℕ
+kindOf r = r / 100_000_000
+
+abbrev pub keyOf : ℕ → ℕ
+keyOf r = r % 100_000_000
 
 -- rows in order of kind and then key, and the addresses that count as live, in order
 pub record Source : Type 0 where

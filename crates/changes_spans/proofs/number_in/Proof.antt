@@ -4,7 +4,7 @@ use mathlib.Core.Path.{_≡_, refl, sym, ap, _∙_}
 use native.Mathlib.Omega.{arith}
 use Rattle.field.specs.Text.{part}
 use Rattle.field.proofs.Texts.{part-bound}
-use Rattle.changes_spans.proofs.Laws.{four-digits}
+use Rattle.field.proofs.Fronts.{four-digits}
 use Rattle.changes_spans.proofs.number_in.Statement.{statement}
 use Rattle.changes_spans.proofs.number_in.Tie as tie
 

@@ -4,7 +4,7 @@ use Prim.Native.Nat.{_+_, _*_}
 use mathlib.Core.Path.{_≡_, refl, sym, ap, _∙_}
 use native.Mathlib.Omega.{arith}
 use borrow.Author.Tests.{lt-ltb, le-ltb}
-use Rattle.changes_spans.proofs.Laws.{text-in-bound}
+use Rattle.field.proofs.Fronts.{text-in-bound}
 use Rattle.changes_spans.proofs.point_span.Statement.{statement}
 use Rattle.changes_spans.proofs.point_span.Tie as tie
 

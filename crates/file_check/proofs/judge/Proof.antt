@@ -5,7 +5,7 @@ use native.Mathlib.Omega.{arith}
 use borrow.Author.Tests.{not-true, not-false}
 use Prim.Native.Nat.{ℕ, _+_}
 use Rattle.refusal.specs.Refusal.{malformedAt}
-use Rattle.file.specs.declared.verdict.Verdict.the-variants.{Bad}
+use Rattle.refusal.specs.declared.Verdict.the-variants.{Bad}
 use Rattle.file.specs.Formats.{formatOf}
 use Rattle.file.proofs.Laws.{judged-malformed, judged-falls, judged-stray, judged-fine}
 use Rattle.file_check.proofs.judge.Statement.{statement}

@@ -2,7 +2,7 @@
 use borrow.Author.Needs.{needs}
 use mathlib.Core.Path.{_≡_, refl, sym, ap, _∙_}
 use lib.ListN.{length}
-use Rattle.changes_spans.proofs.Laws.{text-in-bound}
+use Rattle.field.proofs.Fronts.{text-in-bound}
 use native.Mathlib.Omega.{arith}
 use Rattle.build_place.proofs.inner.text_len.Statement.{statement}
 use Rattle.build_place.proofs.inner.text_len.Tie as tie

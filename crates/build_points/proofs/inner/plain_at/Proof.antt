@@ -4,7 +4,7 @@ use mathlib.Core.List.{_++_}
 use Rattle.field.specs.Text.{part}
 use Rattle.label.proofs.Puts.{room-first}
 use Rattle.build_bytes.specs.Emit.{numbersIn}
-use Rattle.build_bytes.proofs.Going.{room-second, room-third, put-three}
+use Rattle.label.proofs.Going.{room-second, room-third, put-three}
 use Rattle.build_points.proofs.inner.plain_at.Statement.{statement}
 use Rattle.build_points.proofs.inner.plain_at.Tie as tie
 

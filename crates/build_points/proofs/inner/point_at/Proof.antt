@@ -5,7 +5,7 @@ use mathlib.Core.List.{_++_}
 use Rattle.label.proofs.Puts.{room-first, put-as}
 use Rattle.pack.specs.Numbers.{bytesOf}
 use Rattle.build_bytes.specs.Emit.{keyOffsets, organisationOffset, plainIn}
-use Rattle.build_bytes.proofs.Going.{room-second, room-third, put-three}
+use Rattle.label.proofs.Going.{room-second, room-third, put-three}
 use Rattle.build_points.proofs.inner.point_at.Statement.{statement}
 use Rattle.build_points.proofs.inner.point_at.Tie as tie
 

@@ -11,7 +11,7 @@ use Rattle.label.proofs.Puts.{room-as, put-as}
 use Rattle.build_plan.specs.Places.{organisationAt}
 use Rattle.build_bytes.specs.Emit.{pointAt, pointsAt}
 use Rattle.build_bytes.proofs.Places.{organisationsLeft, organisations-start, organisations-length, pointsLeft, points-start, points-step, points-end, point-is}
-use Rattle.build_bytes.proofs.Going.{Going, going-start, going-as, going-room, going-step, going-end}
+use Rattle.label.proofs.Going.{Going, going-start, going-as, going-room, going-step, going-end}
 use Rattle.build_points.proofs.inner.points_at.Statement.{statement}
 use Rattle.build_points.proofs.inner.points_at.Tie as tie
 

@@ -9,7 +9,7 @@ use Rattle.changes_views.specs.Views.{wantedIn, nextWanted}
 use Rattle.changes_views.proofs.Laws.{next-next, next-range}
 use Rattle.build_plan.specs.Places.{organisationAt, organisationsAt}
 use Rattle.build_bytes.proofs.Places.{organisationsLeft, organisations-start, organisations-step, organisations-end}
-use Rattle.build_bytes.proofs.Going.{Going, going-start, going-as, going-room, going-step, going-end}
+use Rattle.label.proofs.Going.{Going, going-start, going-as, going-room, going-step, going-end}
 use Rattle.build_rows.proofs.organisations.organisations_at.Statement.{statement}
 use Rattle.build_rows.proofs.organisations.organisations_at.Tie as tie
 

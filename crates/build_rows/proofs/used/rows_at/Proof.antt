@@ -7,7 +7,7 @@ use native.Mathlib.Omega.{arith}
 use lib.ListN.{length}
 use Rattle.build_bytes.specs.Emit.{usedAt, tableRows}
 use Rattle.build_bytes.proofs.Places.{rowsLeft, rows-step, rows-end}
-use Rattle.build_bytes.proofs.Going.{Going, going-start, going-as, going-room, going-step, going-end}
+use Rattle.label.proofs.Going.{Going, going-start, going-as, going-room, going-step, going-end}
 use Rattle.build_rows.proofs.used.rows_at.Statement.{statement}
 use Rattle.build_rows.proofs.used.rows_at.Tie as tie
 

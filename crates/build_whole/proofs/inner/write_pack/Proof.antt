@@ -10,7 +10,7 @@ use Rattle.changes_views.proofs.Laws.{count-bound}
 use Rattle.label.proofs.Puts.{wrote}
 use Rattle.pack.specs.Layout.{newest, trailerBytes}
 use Rattle.build_bytes.specs.Emit.{tableRows}
-use Rattle.build_bytes.proofs.Going.{going-left, going-room, going-last}
+use Rattle.label.proofs.Going.{going-left, going-room, going-last}
 use Rattle.build_bytes.proofs.Pack.{pointsFrom, behindRows, organisationRows, pack-room, pack-start, after-rows, after-organisations, after-points}
 use Rattle.build_whole.proofs.inner.write_pack.Statement.{statement}
 use Rattle.build_whole.proofs.inner.write_pack.Tie as tie

@@ -4,7 +4,7 @@ use mathlib.Core.List.{[], _∷_, _++_}
 use Rattle.label.proofs.Puts.{room-first}
 use Rattle.pack.specs.Numbers.{bytesOf}
 use Rattle.pack.specs.Layout.{newest}
-use Rattle.build_bytes.proofs.Going.{room-second, room-third, put-three}
+use Rattle.label.proofs.Going.{room-second, room-third, put-three}
 use Rattle.build_whole.proofs.trailer.trailer_end_at.Statement.{statement}
 use Rattle.build_whole.proofs.trailer.trailer_end_at.Tie as tie
 

@@ -1,7 +1,7 @@
 -- `pack_label::spans::field_span` meets its contract. Assumes nothing.
 use borrow.Author.Needs.{needs}
 use native.Mathlib.Omega.{arith}
-use Rattle.changes_spans.proofs.Laws.{text-in-bound, front-text}
+use Rattle.field.proofs.Fronts.{text-in-bound, front-text}
 use Rattle.pack_label.proofs.spans.field_span.Statement.{statement}
 use Rattle.pack_label.proofs.spans.field_span.Tie as tie
 
