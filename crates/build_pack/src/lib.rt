@@ -1,4 +1,5 @@
 // Building the pack of an outward code from a pair of files.
+use pack_read::NewestPack;
 use refusal::Answer;
 use refusal::Reason;
 use refusal::Verdict;
@@ -10,11 +11,6 @@ ghost use Rattle.pack.specs.Cutting.{cutAnswer, cutMemory};
 ghost use Rattle.changes_refs.specs.Refs.{Refs};
 ghost use Rattle.build_pack.specs.Build.{liveIn, buildAnswer, buildMemory};
 ghost use Rattle.build_pack.specs.Ready.{Judged, Marked};
-
-// The bytes of a point and of the trailer.
-const POINT: usize = 57;
-
-const TRAILER: usize = 21;
 
 // The most records of a table file.
 const RECORDS: usize = 20000;
@@ -34,7 +30,7 @@ fn write_if_room(
     let of_table = build_place::inner::place_rows(table, starts);
     let of_points = build_place::inner::organisations_in(points, code);
     let count = changes_views::count_wanted(points, code);
-    let needed = of_table.bytes + of_points.bytes + POINT * count + TRAILER;
+    let needed = of_table.bytes + of_points.bytes + NewestPack::POINT * count + NewestPack::TRAILER;
     if out.len() < needed {
         return Answer::Refused {
             file: 0,

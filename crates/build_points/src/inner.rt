@@ -6,6 +6,7 @@ use build_bytes::inner::start_of;
 use build_bytes::inner::word_at;
 use file_record::Point;
 use file_record::View;
+use pack_read::PackPoint;
 ghost use mathlib.Core.Path.{_≡_};
 ghost use Prim.Native.Nat.{_+_, _<_, _≤_};
 ghost use lib.ListN.{length};
@@ -18,9 +19,6 @@ ghost use Rattle.pack.specs.Numbers.{bytesOf};
 ghost use Rattle.build_plan.specs.Places.{organisationAt, organisationsAt};
 ghost use Rattle.build_bytes.specs.Emit.{keyOffset, premisesOffsets, laterOffsets, keyOffsets, organisationOffset, numbersIn, plainIn, pointOf, pointsAt};
 
-// The offset that says that there is no row.
-const ABSENT: usize = 4_294_967_295;
-
 // Where the row of the key at `start` stands.
 fn key_offset(table: &[u8], refs: &[u32], starts: &[u32], rec: &[u8], kind: u8, start: u8) -> usize
     requires { ⌜ Refs (now table) (now refs) ⌝ }
@@ -31,7 +29,7 @@ fn key_offset(table: &[u8], refs: &[u32], starts: &[u32], rec: &[u8], kind: u8, 
         let row = changes_refs::inner::row_for(table, refs, rec, kind, start);
         return above(start_of(starts, row), 1);
     }
-    ABSENT
+    PackPoint::ABSENT
 }
 
 fn key_at(
@@ -169,7 +167,7 @@ fn organisation_offset(rec: &[u8], place: usize) -> usize
     ensures { λ r. ⌜ r ≡ organisationOffset (now (rec .entry)) place ⌝ }
 {
     if file::needed_next(rec) == 0 {
-        ABSENT
+        PackPoint::ABSENT
     } else {
         place
     }

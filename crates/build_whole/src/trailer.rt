@@ -2,18 +2,14 @@
 use build_bytes::inner::word_at;
 use label_pieces::inner::byte_at;
 use label_pieces::inner::bytes_at;
-ghost use Prim.Native.Nat.{_+_, _*_, _^_, _<_, _≤_};
+use pack_read::NewestPack;
+ghost use Prim.Native.Nat.{_+_, _≤_};
 ghost use lib.ListN.{length};
 ghost use Rattle.label.specs.Put.{Put};
-ghost use Rattle.pack.specs.Layout.{newest, trailerBytes};
+ghost use Rattle.pack.specs.Names.{newest};
+ghost use Rattle.pack.specs.Layout.{trailerBytes};
 ghost use Rattle.build_bytes.specs.Emit.{trailerEnd};
-
-// The widths of a point and of the trailer, and the edition.
-const POINT_WIDTH: usize = 57;
-
-const TRAILER_WIDTH: usize = 21;
-
-const EDITION: u8 = 1;
+ghost use Rattle.build_whole.specs.Room.{TrailerFits};
 
 // The outward code, the length of the pack and the edition.
 fn trailer_end_at(code: &[u8], bytes: usize, at: usize, out: &mut [u8]) -> usize
@@ -22,7 +18,7 @@ fn trailer_end_at(code: &[u8], bytes: usize, at: usize, out: &mut [u8]) -> usize
 {
     let i = bytes_at(code, at, out);
     let j = word_at(bytes, i, out);
-    byte_at(EDITION, j, out)
+    byte_at(NewestPack::EDITION, j, out)
 }
 
 // The trailer of a pack of so many rows, whose so many points begin at `start`.
@@ -34,10 +30,10 @@ pub fn trailer_at(
     at: usize,
     out: &mut [u8],
 ) -> usize
-    requires { ⌜ (start + 57 * count + 21 < 2 ^ 64) × (at + length (trailerBytes newest rows start count (now code)) ≤ length (now out)) ⌝ }
+    requires { ⌜ TrailerFits rows start count (now code) at (now out) ⌝ }
     ensures { λ r. ⌜ Put (trailerBytes newest rows start count (now (code .entry))) (now (out .entry)) at r (now (out .exit)) ⌝ }
 {
-    let bytes = start + POINT_WIDTH * count + TRAILER_WIDTH;
+    let bytes = start + NewestPack::POINT * count + NewestPack::TRAILER;
     let i = word_at(rows, at, out);
     let j = word_at(start, i, out);
     let k = word_at(count, j, out);

@@ -16,8 +16,8 @@ use Rattle.label.specs.Lines.{numberText, linesOf}
 use Rattle.label.specs.Label.{labelOf, roomAnswer}
 use Rattle.pack.specs.Numbers.{numberAt}
 use Rattle.pack.specs.Layout.{entriesOf, packBytes, packOf}
-use Rattle.pack.specs.Opening.{trailerGood, textGood, rowGood, offsetGood, allRowsGood, plainGood, allowedMix, organisationGood, pointGood, allPointsGood, opened}
-use Rattle.pack.specs.Points.{elementsAt, pointAnswer, packAnswer}
+use Rattle.pack.specs.Opening.{trailerGood, textGood, rowGood, offsetGood, allRowsGood, plainGood, allowedMix, organisationGood, partsGood, allPointsGood, opened}
+use Rattle.pack.specs.Points.{elementsFrom, pointAnswer, packAnswer}
 use Rattle.pack.proofs.Worked.{code, nowhere, rows}
 
 -- a view of AB1 9ZZ in locality 1, with the same name and descriptor for both of its thoroughfares
@@ -80,7 +80,7 @@ unfolding entriesOf packBytes packOf
 their-pack = refl
 
 pub it-opens : opened both ≡ Value 2
-unfolding numberAt outwardFault class allowed trailerGood textGood rowGood offsetGood allRowsGood plainGood allowedMix organisationGood pointGood allPointsGood opened inwardFault inwardLetter textFault
+unfolding numberAt outwardFault class allowed trailerGood textGood rowGood offsetGood allRowsGood plainGood allowedMix organisationGood partsGood allPointsGood opened inwardFault inwardLetter textFault
 it-opens = refl
 
 -- what its numbers are answered, into no buffer: "files and pack alike answer 7"
@@ -88,5 +88,5 @@ abbrev asked : List Answer
 asked = packAnswer both 0 [] ∷ packAnswer both 1 [] ∷ packAnswer both 2 [] ∷ packAnswer both 3 [] ∷ []
 
 pub answers : asked ≡ Refused 0 NoSuchNumber ∷ Refused 0 (Room 76) ∷ Refused 0 (Room 23) ∷ Refused 0 NoSuchNumber ∷ []
-unfolding numberAt outwardFault class allowed trailerGood textGood rowGood offsetGood allRowsGood plainGood allowedMix organisationGood pointGood allPointsGood opened inwardFault inwardLetter textFault packAnswer pointAnswer elementsAt textIn labelOf linesOf numberText numericLike roomAnswer
+unfolding numberAt outwardFault class allowed trailerGood textGood rowGood offsetGood allRowsGood plainGood allowedMix organisationGood partsGood allPointsGood opened inwardFault inwardLetter textFault packAnswer pointAnswer elementsFrom textIn labelOf linesOf numberText numericLike roomAnswer
 answers = refl

@@ -14,8 +14,8 @@ use Rattle.source.specs.Address.{Address}
 use Rattle.source.proofs.Worked.{bay, quarry, lane, range, attic, tables, view, printed}
 use Rattle.pack.specs.Numbers.{numberAt, absent}
 use Rattle.pack.specs.Layout.{entriesOf, packBytes, packOf}
-use Rattle.pack.specs.Opening.{trailerGood, textGood, rowGood, offsetGood, allRowsGood, plainGood, allowedMix, organisationGood, pointGood, allPointsGood, opened}
-use Rattle.pack.specs.Points.{elementsAt}
+use Rattle.pack.specs.Opening.{trailerGood, textGood, rowGood, offsetGood, allRowsGood, plainGood, allowedMix, organisationGood, partsGood, allPointsGood, opened}
+use Rattle.pack.specs.Points.{elementsFrom, elementsAt}
 
 abbrev pub view1 : Address
 view1 = view 1 7 3 0 0 9 4
@@ -56,11 +56,11 @@ pub has-129-bytes : length worked ≡ 129
 has-129-bytes = refl
 
 pub it-opens : opened worked ≡ Value 1
-unfolding numberAt outwardFault class allowed trailerGood textGood rowGood offsetGood allRowsGood plainGood allowedMix organisationGood pointGood allPointsGood opened inwardFault inwardLetter textFault
+unfolding numberAt outwardFault class allowed trailerGood textGood rowGood offsetGood allRowsGood plainGood allowedMix organisationGood partsGood allPointsGood opened inwardFault inwardLetter textFault
 it-opens = refl
 
 pub point-1 : elementsAt worked 51 ≡ printed
-unfolding numberAt textIn elementsAt
+unfolding numberAt textIn elementsFrom
 point-1 = refl
 
 -- "A code with no live view gives the 21 byte pack"

@@ -8,21 +8,9 @@ use mathlib.Core.Option.{Option, none, some}
 use lib.Dec.{eqb, ltb}
 use lib.ListN.{length}
 use Rattle.source.specs.Address.{Lookup, Organisation, none-needed, named, lacking, Address, present, Asked, keysOf, ref, kindOf, keyOf}
-use Rattle.pack.specs.Numbers.{bytesOf, absent}
-
--- the editions that there are, and the one that is built
-abbrev pub known : ℕ → Bool
-known edition = eqb edition 1
-
-abbrev pub newest : ℕ
-newest = 1
-
--- "57 bytes each", "Trailer, 21 bytes"
-abbrev pub pointWidth : ℕ → ℕ
-pointWidth edition = 57
-
-abbrev pub trailerWidth : ℕ → ℕ
-trailerWidth edition = 21
+use Rattle.pack.specs.Names.{absent, pointWidth, trailerWidth}
+pub use Rattle.pack.specs.Names.{newest}
+use Rattle.pack.specs.Numbers.{bytesOf}
 
 -- a row of a pack
 pub record Entry : Type 0 where
@@ -123,9 +111,13 @@ plainOf a =
     ∷ (bytesOf 4 (a .address-key)
     ++ (bytesOf 4 (a .organisation-key) ++ (bytesOf 2 (a .number) ++ (markOf (a .concatenation) ∷ a .box))))
 
+-- what an edition puts behind the postcode
+abbrev pub behindOf : ℕ → Address → List ℕ
+behindOf edition a = []
+
 -- a point of an edition
 abbrev pub pointBytes : ℕ → List Entry → Address → List ℕ
-pointBytes edition es a = postcodeOf a ++ (plainOf a ++ refsBytes es (refsOf a))
+pointBytes edition es a = postcodeOf a ++ (behindOf edition a ++ (plainOf a ++ refsBytes es (refsOf a)))
 
 abbrev pub pointsBytes : ℕ → List Entry → List Address → List ℕ
 pointsBytes edition es [] = []

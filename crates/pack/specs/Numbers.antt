@@ -3,6 +3,7 @@
 use Prim.Native.Nat.{ℕ, zero, suc, _+_, _*_, _/_, _%_, _^_}
 use mathlib.Core.List.{List, [], _∷_}
 use Rattle.field.specs.Text.{part}
+pub use Rattle.pack.specs.Names.{absent}
 
 -- a number in so many bytes
 abbrev pub bytesOf : ℕ → ℕ → List ℕ
@@ -17,7 +18,3 @@ numberFrom v (x ∷ xs) = numberFrom (v * 256 + x) xs
 -- the number in so many bytes at a place
 unfoldable pub numberAt : List ℕ → ℕ → ℕ → ℕ
 numberAt bytes at width = numberFrom 0 (part bytes at (at + width))
-
--- "4294967295 means absent"
-abbrev pub absent : ℕ
-absent = 4_294_967_295

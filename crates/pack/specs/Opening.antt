@@ -15,8 +15,8 @@ use Rattle.refusal.specs.declared.Answer.{Answer}
 use Rattle.refusal.specs.declared.Answer.the-variants.{Value, Refused}
 use Rattle.source.specs.Resolve.{forbiddenOf}
 use Rattle.label.specs.Lines.{isEmpty}
-use Rattle.pack.specs.Numbers.{numberAt, absent}
-use Rattle.pack.specs.Layout.{known, pointWidth, trailerWidth}
+use Rattle.pack.specs.Names.{known, inwardAt, postcodeWidth, typeAt, addressKeyAt, organisationKeyAt, buildingNumberAt, concatenationAt, boxAt, offsetsAt, restAt, pointWidth, absent, rowCountAt, pointsStartAt, pointCountAt, outwardAt, lengthAt, editionWidth, trailerWidth}
+use Rattle.pack.specs.Numbers.{numberAt}
 
 -- ---- the trailer
 
@@ -25,29 +25,38 @@ abbrev pub fromBack : List ℕ → ℕ → ℕ
 fromBack pack n = length pack - n
 
 module _ (pack : List ℕ) where
+  -- the last byte, whatever the edition
   abbrev pub edition : ℕ
-  edition = getD pack (fromBack pack 1) 0
+  edition = getD pack (fromBack pack editionWidth) 0
+
+  -- where the trailer of that edition starts
+  abbrev pub trailerStart : ℕ
+  trailerStart = fromBack pack (trailerWidth edition)
+
+  -- a number of the trailer, by its place there
+  abbrev pub trailerNumber : ℕ → ℕ
+  trailerNumber field = numberAt pack (trailerStart + field) 4
 
   abbrev pub rowCount : ℕ
-  rowCount = numberAt pack (fromBack pack 21) 4
+  rowCount = trailerNumber rowCountAt
 
   abbrev pub pointsStart : ℕ
-  pointsStart = numberAt pack (fromBack pack 17) 4
+  pointsStart = trailerNumber pointsStartAt
 
   abbrev pub pointCount : ℕ
-  pointCount = numberAt pack (fromBack pack 13) 4
+  pointCount = trailerNumber pointCountAt
 
   abbrev pub outward : List ℕ
-  outward = part pack (fromBack pack 9) (fromBack pack 5)
+  outward = part pack (trailerStart + outwardAt) (trailerStart + lengthAt)
 
   abbrev pub lengthSaid : ℕ
-  lengthSaid = numberAt pack (fromBack pack 5) 4
+  lengthSaid = trailerNumber lengthAt
 
   -- "Step 1: at least 21 bytes, edition 1, length true, outward well formed, points start + 57 x point count + 21 equal to
-  -- the length"
+  -- the length": 57 and 21 are those of the pack's own edition
   unfoldable pub trailerGood : Bool
   trailerGood =
-      leb 21 (length pack)
+      leb (trailerWidth edition) (length pack)
       && (known edition
       && (eqb lengthSaid (length pack)
       && (eqb (outwardFault outward) 0
@@ -153,65 +162,74 @@ allRowsGood pack = rowsGood (rowArea pack) (rowCount pack) 1 0
 abbrev pub offsetKinds : List ℕ
 offsetKinds = 1 ∷ 2 ∷ 3 ∷ 2 ∷ 3 ∷ 4 ∷ 5 ∷ 6 ∷ []
 
--- a point of an edition, by the places of its parts
-abbrev pub offsetsPlace : ℕ → ℕ → ℕ
-offsetsPlace e at = at + 25
+-- the rest of the point at a place
+abbrev pub restOf : List ℕ → ℕ → ℕ
+restOf pack at = restAt (edition pack) at
 
--- the n-th offset of a point, counted from 0
-abbrev pub offsetOfPoint : List ℕ → ℕ → ℕ → ℕ
-offsetOfPoint pack at n = numberAt pack (offsetsPlace (edition pack) at + 4 * n) 4
+-- "postcode well formed in the trailer's code"
+abbrev pub postcodeGood : List ℕ → ℕ → Bool
+postcodeGood pack at =
+    same (part pack at (at + inwardAt)) (outward pack)
+    && eqb (inwardFault (part pack (at + inwardAt) (at + postcodeWidth))) 0
 
-abbrev pub given : List ℕ → ℕ → ℕ → Bool
-given pack at n = not (eqb (offsetOfPoint pack at n) absent)
+-- what stands in the rest that starts at a place, in every edition alike
+module _ (pack : List ℕ) (rest : ℕ) where
+  -- the n-th offset, counted from 0
+  abbrev pub offsetOfPoint : ℕ → ℕ
+  offsetOfPoint n = numberAt pack (rest + offsetsAt + 4 * n) 4
 
-module _ (pack : List ℕ) (at : ℕ) where
-  -- "postcode well formed in the trailer's code"
-  abbrev pub postcodeGood : Bool
-  postcodeGood = same (part pack at (at + 4)) (outward pack) && eqb (inwardFault (part pack (at + 4) (at + 7))) 0
+  abbrev pub given : ℕ → Bool
+  given n = not (eqb (offsetOfPoint n) absent)
 
   abbrev pub typeByte : ℕ
-  typeByte = getD pack (at + 7) 0
+  typeByte = getD pack (rest + typeAt) 0
 
   abbrev pub organisationKey : ℕ
-  organisationKey = numberAt pack (at + 12) 4
+  organisationKey = numberAt pack (rest + organisationKeyAt) 4
 
   abbrev pub buildingNumber : ℕ
-  buildingNumber = numberAt pack (at + 16) 2
+  buildingNumber = numberAt pack (rest + buildingNumberAt) 2
 
   -- "type, concatenation, PO box well formed; keys up to 99,999,999; number up to 9,999"
   unfoldable pub plainGood : Bool
   plainGood =
       elem typeByte (83 ∷ 76 ∷ [])
-      && (leb (numberAt pack (at + 8) 4) 99_999_999
+      && (leb (numberAt pack (rest + addressKeyAt) 4) 99_999_999
       && (leb organisationKey 99_999_999
       && (leb buildingNumber 9_999
-      && (elem (getD pack (at + 18) 0) (89 ∷ 32 ∷ []) && eqb (textFault (part pack (at + 19) (at + 25))) 0))))
+      && (elem (getD pack (rest + concatenationAt) 0) (89 ∷ 32 ∷ [])
+      && eqb (textFault (part pack (rest + boxAt) (rest + offsetsAt))) 0))))
 
   -- "every offset is absent or the start of a row of its type, locality present": the offsets from the n-th on
   abbrev pub offsetsGood : ℕ → List ℕ → Bool
   offsetsGood n [] = true
   offsetsGood n (kind ∷ kinds) =
-      offsetGood (rowArea pack) (rowCount pack) kind (offsetOfPoint pack at n) && offsetsGood (suc n) kinds
+      offsetGood (rowArea pack) (rowCount pack) kind (offsetOfPoint n) && offsetsGood (suc n) kinds
 
   -- "rule 8 satisfied"
   unfoldable pub allowedMix : Bool
   allowedMix =
       eqb
-      (forbiddenOf (given pack at 6) (given pack at 5) (not (eqb buildingNumber 0)) (given pack at 1) (given pack at 2)
-      (given pack at 3) (given pack at 4))
+      (forbiddenOf (given 6) (given 5) (not (eqb buildingNumber 0)) (given 1) (given 2) (given 3) (given 4))
       0
 
   -- "L has an organisation row, S has one with a name exactly when its organisation key is above zero, and otherwise none"
   unfoldable pub organisationGood : Bool
   organisationGood =
-      cond (eqb typeByte 76) (given pack at 7)
-      (cond (eqb organisationKey 0) (not (given pack at 7))
-      (given pack at 7 && not (isEmpty (rowText (rowArea pack) (offsetOfPoint pack at 7) 0))))
+      cond (eqb typeByte 76) (given 7)
+      (cond (eqb organisationKey 0) (not (given 7))
+      (given 7 && not (isEmpty (rowText (rowArea pack) (offsetOfPoint 7) 0))))
 
-  unfoldable pub pointGood : Bool
-  pointGood =
-      offsetsGood 0 offsetKinds
-      && (given pack at 0 && (postcodeGood && (plainGood && (allowedMix && organisationGood))))
+-- a point whose rest starts at a place
+unfoldable pub partsGood : List ℕ → ℕ → ℕ → Bool
+partsGood pack at rest =
+    offsetsGood pack rest 0 offsetKinds
+    && (given pack rest 0
+    && (postcodeGood pack at && (plainGood pack rest && (allowedMix pack rest && organisationGood pack rest))))
+
+-- the same of a point of the pack's edition
+abbrev pub pointGood : List ℕ → ℕ → Bool
+pointGood pack at = partsGood pack at (restOf pack at)
 
 -- n points from a place on
 abbrev pub pointsGood : List ℕ → ℕ → ℕ → Bool

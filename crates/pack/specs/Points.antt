@@ -11,36 +11,39 @@ use Rattle.refusal.specs.declared.Answer.{Answer}
 use Rattle.refusal.specs.declared.Answer.the-variants.{Value, Refused}
 use Rattle.source.specs.Address.{Elements}
 use Rattle.label.specs.Label.{labelOf, roomAnswer, roomMemory}
-use Rattle.pack.specs.Numbers.{numberAt, absent}
-use Rattle.pack.specs.Layout.{pointWidth}
-use Rattle.pack.specs.Opening.{edition, pointsStart, pointCount, rowArea, rowText, offsetOfPoint, buildingNumber, opened}
+use Rattle.pack.specs.Names.{inwardAt, postcodeWidth, concatenationAt, boxAt, offsetsAt, pointWidth, absent}
+use Rattle.pack.specs.Opening.{edition, pointsStart, pointCount, rowArea, rowText, restOf, offsetOfPoint, buildingNumber, opened}
 
--- a text of the row that a point's n-th offset gives; none where it is absent
+-- a text of the row that the n-th offset of a rest gives; none where it is absent
 abbrev pub offsetText : List ℕ → ℕ → ℕ → ℕ → List ℕ
-offsetText pack at n which =
-    cond (eqb (offsetOfPoint pack at n) absent) [] (rowText (rowArea pack) (offsetOfPoint pack at n) which)
+offsetText pack rest n which =
+    cond (eqb (offsetOfPoint pack rest n) absent) [] (rowText (rowArea pack) (offsetOfPoint pack rest n) which)
 
--- what a point's label is printed from
-unfoldable pub elementsAt : List ℕ → ℕ → Elements
-elementsAt pack at =
+-- what the label of a point is printed from, its rest starting at a place
+unfoldable pub elementsFrom : List ℕ → ℕ → ℕ → Elements
+elementsFrom pack at rest =
     record {
-      organisation = offsetText pack at 7 0;
-      department = offsetText pack at 7 1;
-      box = textIn pack (at + 19) (at + 25);
-      sub-building = offsetText pack at 6 0;
-      building = offsetText pack at 5 0;
-      number = buildingNumber pack at;
-      concatenation = eqb (getD pack (at + 18) 0) 89;
-      dependent = offsetText pack at 3 0;
-      dependent-descriptor = offsetText pack at 4 0;
-      thoroughfare = offsetText pack at 1 0;
-      descriptor = offsetText pack at 2 0;
-      double-locality = offsetText pack at 0 2;
-      dependent-locality = offsetText pack at 0 1;
-      town = offsetText pack at 0 0;
-      outward = textIn pack at (at + 4);
-      inward = part pack (at + 4) (at + 7);
+      organisation = offsetText pack rest 7 0;
+      department = offsetText pack rest 7 1;
+      box = textIn pack (rest + boxAt) (rest + offsetsAt);
+      sub-building = offsetText pack rest 6 0;
+      building = offsetText pack rest 5 0;
+      number = buildingNumber pack rest;
+      concatenation = eqb (getD pack (rest + concatenationAt) 0) 89;
+      dependent = offsetText pack rest 3 0;
+      dependent-descriptor = offsetText pack rest 4 0;
+      thoroughfare = offsetText pack rest 1 0;
+      descriptor = offsetText pack rest 2 0;
+      double-locality = offsetText pack rest 0 2;
+      dependent-locality = offsetText pack rest 0 1;
+      town = offsetText pack rest 0 0;
+      outward = textIn pack at (at + inwardAt);
+      inward = part pack (at + inwardAt) (at + postcodeWidth);
     }
+
+-- the same of a point of the pack's edition
+abbrev pub elementsAt : List ℕ → ℕ → Elements
+elementsAt pack at = elementsFrom pack at (restOf pack at)
 
 -- where point k stands, counted from 1
 abbrev pub pointPlace : List ℕ → ℕ → ℕ

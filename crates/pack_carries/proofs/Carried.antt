@@ -6,15 +6,16 @@ use mathlib.Core.Bool.{true}
 use mathlib.Core.List.{List, [], _∷_, _++_, append-assoc}
 use native.Mathlib.Omega.{arith}
 use borrow.Author.Tests.{eq-eqb, le-leb}
-use lib.Dec.{eqb}
+use lib.Dec.{eqb, leb}
 use lib.ListN.{length, take, getD, length-append}
 use lib.Seq.{take-at}
 use Rattle.field_outward.specs.Outward.{outwardFault}
 use Rattle.refusal.specs.declared.Answer.the-variants.{Value}
 use Rattle.source.specs.Address.{Lookup, Address}
 use Rattle.source.specs.Resolve.{elementsOf}
-use Rattle.pack.specs.Layout.{newest, Entry, entriesOf, entryBytes, entriesBytes, pointsBytes, trailerBytes, packBytes, packOf}
-use Rattle.pack.specs.Opening.{pointsStart, pointCount, lengthSaid, trailerGood, rowsGood, allRowsGood, pointsGood, allPointsGood, opened}
+use Rattle.pack.specs.Names.{known, newest, pointWidth, trailerWidth}
+use Rattle.pack.specs.Layout.{Entry, entriesOf, entryBytes, entriesBytes, pointsBytes, trailerBytes, packBytes, packOf}
+use Rattle.pack.specs.Opening.{edition, pointsStart, pointCount, lengthSaid, trailerGood, rowsGood, allRowsGood, pointsGood, allPointsGood, opened}
 use Rattle.pack.specs.Points.{elementsAt, pointPlace}
 use Rattle.pack.specs.Sound.{Sound}
 use Rattle.pack_carries.proofs.Stands.{Stands, stands-end, stands-all, stands-first}
@@ -56,7 +57,7 @@ module _ (look : Lookup) (addresses : List Address) (code : List ℕ) (g : Sound
   front-and-trailer : pack ≡ (rows ++ points) ++ trailer
   front-and-trailer = in-parts ∙ sym (append-assoc rows points trailer)
 
-  pub pack-long : length pack ≡ length rows + 57 * length addresses + 21
+  pub pack-long : length pack ≡ length rows + pointWidth newest * length addresses + trailerWidth newest
   pack-long =
       ap length front-and-trailer
       ∙ omega (
@@ -91,12 +92,16 @@ module _ (look : Lookup) (addresses : List Address) (code : List ℕ) (g : Sound
   unfolding trailerGood
   trailer-good =
       let said = pack-says in
-      and-both (le-leb 21 (length pack) (omega (arith, pack-long)))
-      (and-both (ap (λ n. eqb n 1) (said .of-edition))
+      and-both
+      (ap (λ e. leb (trailerWidth e) (length pack)) (said .of-edition)
+      ∙ le-leb (trailerWidth newest) (length pack) (omega (arith, pack-long)))
+      (and-both (ap known (said .of-edition))
       (and-both (eq-eqb (lengthSaid pack) (length pack) (said .of-length ∙ sym pack-long))
       (and-both (ap (λ c. eqb (outwardFault c) 0) (said .of-code) ∙ eq-eqb (outwardFault code) 0 (g .of-code))
-      (eq-eqb (pointsStart pack + 57 * pointCount pack + 21) (length pack)
-      (ap₂ (λ s n. s + 57 * n + 21) (said .of-start) (said .of-points) ∙ sym pack-long)))))
+      (eq-eqb (pointsStart pack + pointWidth (edition pack) * pointCount pack + trailerWidth (edition pack)) (length pack)
+      (ap (λ e. pointsStart pack + pointWidth e * pointCount pack + trailerWidth e) (said .of-edition)
+      ∙ (ap₂ (λ s n. s + pointWidth newest * n + trailerWidth newest) (said .of-start) (said .of-points)
+      ∙ sym pack-long))))))
 
   all-rows-good : allRowsGood pack ≡ true
   unfolding allRowsGood
@@ -108,7 +113,7 @@ module _ (look : Lookup) (addresses : List Address) (code : List ℕ) (g : Sound
   unfolding allPointsGood
   all-points-good =
       ap₂ (pointsGood pack) (pack-says .of-points) (pack-says .of-start)
-      ∙ points-good look code four pack (pack-says .of-code) es pack-rows 0 (length rows) addresses (g .of-addresses)
+      ∙ points-good look code four pack (pack-says .of-edition) (pack-says .of-code) es pack-rows 0 (length rows) addresses (g .of-addresses)
       (all-found look addresses code g) points-stand
 
   -- every pack of a sound source is accepted, with as many points as there are addresses
@@ -121,7 +126,7 @@ module _ (look : Lookup) (addresses : List Address) (code : List ℕ) (g : Sound
       → elementsAt pack (pointPlace pack (suc k)) ≡ elementsOf look (getD addresses k d)
   pack-elements k d l =
       ap (elementsAt pack)
-      (ap (λ s. s + 57 * (suc k - 1)) (pack-says .of-start)
-      ∙ ap (λ n. length rows + 57 * n) (let z : suc k - 1 ≡ k = omega arith in z))
-      ∙ points-read look code four pack (pack-says .of-code) es pack-rows 0 (length rows) addresses k d (g .of-addresses)
+      (ap₂ (λ s e. s + pointWidth e * (suc k - 1)) (pack-says .of-start) (pack-says .of-edition)
+      ∙ ap (λ n. length rows + pointWidth newest * n) (let z : suc k - 1 ≡ k = omega arith in z))
+      ∙ points-read look code four pack (pack-says .of-edition) (pack-says .of-code) es pack-rows 0 (length rows) addresses k d (g .of-addresses)
       (all-found look addresses code g) points-stand l

@@ -16,9 +16,10 @@ use Rattle.field_outward.specs.Inward.{inwardFault}
 use Rattle.source.specs.Address.{Lookup, Organisation, none-needed, named, lacking, Address}
 use Rattle.source.specs.Resolve.{forbidden, nameOf, elementsOf}
 use Rattle.label.specs.Lines.{isEmpty}
-use Rattle.pack.specs.Layout.{newest, Entry, markOf, pointsBytes}
-use Rattle.pack.specs.Opening.{outward, offsetKinds, offsetsGood, given, postcodeGood, plainGood, allowedMix, organisationGood, pointGood, pointsGood, rowArea, rowText, offsetOfPoint}
-use Rattle.pack.specs.Points.{elementsAt}
+use Rattle.pack.specs.Names.{newest, restAt, pointWidth}
+use Rattle.pack.specs.Layout.{Entry, markOf, pointsBytes}
+use Rattle.pack.specs.Opening.{edition, outward, restOf, offsetKinds, offsetsGood, given, postcodeGood, plainGood, allowedMix, organisationGood, partsGood, pointGood, pointsGood, rowArea, rowText, offsetOfPoint}
+use Rattle.pack.specs.Points.{elementsFrom, elementsAt}
 use Rattle.pack.specs.Sound.{OrganisationSound, AddressSound, AddressesSound}
 use Rattle.pack_carries.proofs.Stands.{Stands}
 use Rattle.pack_carries.proofs.Used.{all-there}
@@ -43,9 +44,10 @@ the-first n a b e q = by-test (eqb n a) refl (rw q at e)
     by-test true h e = eqb-true n a h
     by-test false h e = let z : _≡_ {A = ℕ} 0 1 = cc in absurd (omega arith)
 
-module _ (look : Lookup) (code pack : List ℕ) (at : ℕ) (a : Address) (s : AddressSound look code a)
-    (of-code : outward pack ≡ code) (es : List Entry) (p : PointRead pack at es a) (r : RefsRead look pack at a) where
-  offsets-good : offsetsGood pack at 0 offsetKinds ≡ true
+module _ (look : Lookup) (code pack : List ℕ) (at rest : ℕ) (is-rest : restOf pack at ≡ rest) (a : Address)
+    (s : AddressSound look code a) (of-code : outward pack ≡ code) (es : List Entry) (p : PointRead pack at rest es a)
+    (r : RefsRead look pack rest a) where
+  offsets-good : offsetsGood pack rest 0 offsetKinds ≡ true
   offsets-good =
       and-both (r .of-locality .good)
       (and-both (r .of-thoroughfare .good)
@@ -55,7 +57,7 @@ module _ (look : Lookup) (code pack : List ℕ) (at : ℕ) (a : Address) (s : Ad
       (and-both (r .of-building .good)
       (and-both (r .of-sub-building .good) (and-both (r .of-organisation .good) refl)))))))
 
-  locality-given : given pack at 0 ≡ true
+  locality-given : given pack rest 0 ≡ true
   locality-given = r .of-locality .is-given ∙ all-there look a (s .rows) .locality
 
   postcode-good : postcodeGood pack at ≡ true
@@ -64,7 +66,7 @@ module _ (look : Lookup) (code pack : List ℕ) (at : ℕ) (a : Address) (s : Ad
       (ap₂ same (p .of-outward ∙ s .outward) of-code ∙ ap (λ n. eqb n 0) (order-same code))
       (ap (λ l. eqb (inwardFault l) 0) (p .of-inward) ∙ eq-eqb (inwardFault (a .inward)) 0 (s .inward))
 
-  plain-good : plainGood pack at ≡ true
+  plain-good : plainGood pack rest ≡ true
   unfolding plainGood
   plain-good =
       and-both (ap (λ n. elem n (83 ∷ 76 ∷ [])) (p .of-type) ∙ s .type)
@@ -75,7 +77,7 @@ module _ (look : Lookup) (code pack : List ℕ) (at : ℕ) (a : Address) (s : Ad
       (and-both (ap (λ n. elem n (89 ∷ 32 ∷ [])) (p .of-mark) ∙ mark-good (a .concatenation))
       (ap (λ l. eqb (textFault l) 0) (p .of-box) ∙ eq-eqb (textFault (a .box)) 0 (s .box-good))))))
 
-  mix-good : allowedMix pack at ≡ true
+  mix-good : allowedMix pack rest ≡ true
   unfolding allowedMix forbidden
   mix-good =
       rw (
@@ -91,9 +93,9 @@ module _ (look : Lookup) (code pack : List ℕ) (at : ℕ) (a : Address) (s : Ad
 
   -- by what the follower is
   organisation-case : (o : Organisation) → OrganisationSound (a .postcode-type) (a .organisation-key) o
-      → given pack at 7 ≡ isNamed o
-      → (isNamed o ≡ true → rowText (rowArea pack) (offsetOfPoint pack at 7) 0 ≡ nameOf o)
-      → organisationGood pack at ≡ true
+      → given pack rest 7 ≡ isNamed o
+      → (isNamed o ≡ true → rowText (rowArea pack) (offsetOfPoint pack rest 7) 0 ≡ nameOf o)
+      → organisationGood pack rest ≡ true
   unfolding organisationGood
   organisation-case none-needed h is first =
       rw (p .of-type, p .of-organisation-key, h .0, h .1, is)
@@ -108,9 +110,9 @@ module _ (look : Lookup) (code pack : List ℕ) (at : ℕ) (a : Address) (s : Ad
           rw (ne-eqb (a .organisation-key) 0 (λ e. omega (arith, small .0)), small .1)
   organisation-case lacking h is first = absurd h
 
-  pub point-good : pointGood pack at ≡ true
-  unfolding pointGood
-  point-good =
+  parts-good : partsGood pack at rest ≡ true
+  unfolding partsGood
+  parts-good =
       and-both offsets-good
       (and-both locality-given
       (and-both postcode-good
@@ -118,9 +120,12 @@ module _ (look : Lookup) (code pack : List ℕ) (at : ℕ) (a : Address) (s : Ad
       (and-both mix-good
       (organisation-case (a .organisation) (s .organisation) (r .of-organisation .is-given) (r .of-organisation .first))))))
 
-  pub elements-read : elementsAt pack at ≡ elementsOf look a
-  unfolding elementsAt elementsOf textIn
-  elements-read =
+  pub point-good : pointGood pack at ≡ true
+  point-good = ap (partsGood pack at) is-rest ∙ parts-good
+
+  from-rest : elementsFrom pack at rest ≡ elementsOf look a
+  unfolding elementsFrom elementsOf textIn
+  from-rest =
       λ i.
       record {
         organisation = r .of-organisation .name i;
@@ -141,32 +146,51 @@ module _ (look : Lookup) (code pack : List ℕ) (at : ℕ) (a : Address) (s : Ad
         inward = p .of-inward i;
       }
 
+  pub elements-read : elementsAt pack at ≡ elementsOf look a
+  elements-read = ap (elementsFrom pack at) is-rest ∙ from-rest
+
 -- all points, one after the other
-module _ (look : Lookup) (code : List ℕ) (four : length code ≡ 4) (pack : List ℕ) (of-code : outward pack ≡ code)
-    (es : List Entry) (g : RowsSaid pack es) where
+module _ (look : Lookup) (code : List ℕ) (four : length code ≡ 4) (pack : List ℕ) (of-edition : edition pack ≡ newest)
+    (of-code : outward pack ≡ code) (es : List Entry) (g : RowsSaid pack es) where
+  module _ (low at : ℕ) (a : Address) (more : List Address) (s : AddressesSound look code low (a ∷ more))
+      (f : AllFound look es (a ∷ more)) (h : Stands pack at (pointsBytes newest es (a ∷ more))) where
+    rest-here : restOf pack at ≡ restAt newest at
+    rest-here = ap (λ e. restAt e at) of-edition
+
+    here : PointRead pack at (restAt newest at) es a
+    here = point-read look code four es a (s .1 .0) pack at (first-point look code four es pack low a more at s h)
+
+    refs-here : RefsRead look pack (restAt newest at) a
+    refs-here = refs-read look pack es g at (restAt newest at) a (s .1 .0 .view) (f .0) here
+
+    good-here : pointGood pack at ≡ true
+    good-here = point-good look code pack at (restAt newest at) rest-here a (s .1 .0) of-code es here refs-here
+
+    elements-here : elementsAt pack at ≡ elementsOf look a
+    elements-here = elements-read look code pack at (restAt newest at) rest-here a (s .1 .0) of-code es here refs-here
+
   pub points-good : (low at : ℕ) (addresses : List Address) → AddressesSound look code low addresses
       → AllFound look es addresses
       → Stands pack at (pointsBytes newest es addresses)
       → pointsGood pack (length addresses) at ≡ true
   points-good low at [] s f h = refl
   points-good low at (a ∷ more) s f h =
-      let p = point-read look code four es a (s .1 .0) pack at (first-point look code four es pack low a more at s h) in
-      let r = refs-read look pack es g at a (s .1 .0 .view) (f .0) p in
-      and-both (point-good look code pack at a (s .1 .0) of-code es p r)
-      (points-good (a .view) (at + 57) more (s .1 .1) (f .1) (other-points look code four es pack low a more at s h))
+      and-both (good-here low at a more s f h)
+      (ap (λ e. pointsGood pack (length more) (at + pointWidth e)) of-edition
+      ∙ points-good (a .view) (at + pointWidth newest) more (s .1 .1) (f .1)
+      (other-points look code four es pack low a more at s h))
 
   pub points-read : (low at : ℕ) (addresses : List Address) (k : ℕ) (d : Address) → AddressesSound look code low addresses
       → AllFound look es addresses
       → Stands pack at (pointsBytes newest es addresses)
       → k < length addresses
-      → elementsAt pack (at + 57 * k) ≡ elementsOf look (getD addresses k d)
+      → elementsAt pack (at + pointWidth newest * k) ≡ elementsOf look (getD addresses k d)
   points-read low at [] k d s f h l = absurd (omega arith)
   points-read low at (a ∷ more) zero d s f h l =
-      let p = point-read look code four es a (s .1 .0) pack at (first-point look code four es pack low a more at s h) in
-      let r = refs-read look pack es g at a (s .1 .0 .view) (f .0) p in
-      ap (elementsAt pack) (let z : at + 57 * 0 ≡ at = omega arith in z)
-      ∙ elements-read look code pack at a (s .1 .0) of-code es p r
+      ap (elementsAt pack) (let z : at + pointWidth newest * 0 ≡ at = omega arith in z)
+      ∙ elements-here low at a more s f h
   points-read low at (a ∷ more) (suc k) d s f h l =
-      ap (elementsAt pack) (let z : at + 57 * suc k ≡ at + 57 + 57 * k = omega arith in z)
-      ∙ points-read (a .view) (at + 57) more k d (s .1 .1) (f .1)
+      ap (elementsAt pack)
+      (let z : at + pointWidth newest * suc k ≡ at + pointWidth newest + pointWidth newest * k = omega arith in z)
+      ∙ points-read (a .view) (at + pointWidth newest) more k d (s .1 .1) (f .1)
       (other-points look code four es pack low a more at s h) (omega arith)

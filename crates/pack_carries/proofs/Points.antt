@@ -1,7 +1,7 @@
 -- The points of a pack, read where they stand: each gives the fields of its address, and where its rows are.
 -- Assumes nothing.
 use Prim.Native.Nat.{ℕ, zero, suc, _+_, _*_, _<_}
-use mathlib.Core.Path.{_≡_, refl, ap, _∙_}
+use mathlib.Core.Path.{_≡_, refl, ap, subst, _∙_}
 use mathlib.Core.Bool.{Bool, true, false, cond}
 use mathlib.Core.List.{List, [], _∷_, _++_}
 use mathlib.Core.Option.{Option, none, some}
@@ -15,8 +15,10 @@ use Rattle.field.proofs.Tests.{and-left}
 use Rattle.field_outward.specs.Outward.{sequenceFrom, patterns, outwardFault}
 use Rattle.field_outward.specs.Inward.{inwardFault}
 use Rattle.source.specs.Address.{Lookup, Address}
-use Rattle.pack.specs.Numbers.{bytesOf, numberAt, absent}
-use Rattle.pack.specs.Layout.{newest, Entry, entriesBytes, offsetOf, refBytes, refsBytes, refsOf, markOf, postcodeOf, plainOf, pointBytes, pointsBytes}
+use Rattle.pack.specs.Names.{newest, inwardAt, postcodeWidth, behindPostcode, typeAt, addressKeyAt, organisationKeyAt, buildingNumberAt, concatenationAt, boxAt, offsetsAt, restAt, pointWidth, absent}
+use Rattle.pack.specs.Numbers.{bytesOf, numberAt}
+use Rattle.pack.specs.Layout.{Entry, entriesBytes, offsetOf, refBytes, refsBytes, refsOf, markOf, postcodeOf, plainOf, behindOf, pointBytes, pointsBytes}
+use Rattle.pack.specs.Opening.{typeByte, organisationKey, buildingNumber}
 use Rattle.pack.specs.Sound.{AddressSound, AddressesSound}
 use Rattle.pack_carries.proofs.Numbers.{bytes-long}
 use Rattle.pack_carries.proofs.Stands.{Stands, stands-first, stands-second, stands-part, stands-byte, stands-number}
@@ -69,100 +71,124 @@ module _ (pack : List ℕ) (es : List Entry) (small : length (entriesBytes es) <
 
 -- ---- a point
 
--- what is read at a point: the fields of its address, and its references
-pub record PointRead (pack : List ℕ) (at : ℕ) (es : List Entry) (a : Address) : Type 0 where
-  pub of-outward : part pack at (at + 4) ≡ a .outward
-  pub of-inward : part pack (at + 4) (at + 7) ≡ a .inward
-  pub of-type : getD pack (at + 7) 0 ≡ a .postcode-type
-  pub of-address-key : numberAt pack (at + 8) 4 ≡ a .address-key
-  pub of-organisation-key : numberAt pack (at + 12) 4 ≡ a .organisation-key
-  pub of-number : numberAt pack (at + 16) 2 ≡ a .number
-  pub of-mark : getD pack (at + 18) 0 ≡ markOf (a .concatenation)
-  pub of-box : part pack (at + 19) (at + 25) ≡ a .box
-  pub of-refs : Stands pack (at + 25) (refsBytes es (refsOf a))
+-- what is read at a point and in its rest: the fields of its address, and its references
+pub record PointRead (pack : List ℕ) (at rest : ℕ) (es : List Entry) (a : Address) : Type 0 where
+  pub of-outward : part pack at (at + inwardAt) ≡ a .outward
+  pub of-inward : part pack (at + inwardAt) (at + postcodeWidth) ≡ a .inward
+  pub of-type : typeByte pack rest ≡ a .postcode-type
+  pub of-address-key : numberAt pack (rest + addressKeyAt) 4 ≡ a .address-key
+  pub of-organisation-key : organisationKey pack rest ≡ a .organisation-key
+  pub of-number : buildingNumber pack rest ≡ a .number
+  pub of-mark : getD pack (rest + concatenationAt) 0 ≡ markOf (a .concatenation)
+  pub of-box : part pack (rest + boxAt) (rest + offsetsAt) ≡ a .box
+  pub of-refs : Stands pack (rest + offsetsAt) (refsBytes es (refsOf a))
 
 module _ (look : Lookup) (code : List ℕ) (four : length code ≡ 4) (es : List Entry) (a : Address)
     (g : AddressSound look code a) where
   outward-four : length (a .outward) ≡ 4
   outward-four = ap length (g .outward) ∙ four
 
-  postcode-long : length (postcodeOf a) ≡ 7
+  postcode-long : length (postcodeOf a) ≡ postcodeWidth
   postcode-long = length-append (a .outward) (a .inward) ∙ omega (arith, outward-four, inward-long (a .inward) (g .inward))
 
-  plain-long : length (plainOf a) ≡ 18
+  behind-long : length (behindOf newest a) ≡ behindPostcode newest
+  behind-long = refl
+
+  plain-long : length (plainOf a) ≡ offsetsAt
   plain-long = omega (arith, g .box-long)
 
-  pub point-long : length (pointBytes newest es a) ≡ 57
+  -- the bytes of the rest
+  abbrev bytes : List ℕ
+  bytes = plainOf a ++ refsBytes es (refsOf a)
+
+  pub point-long : length (pointBytes newest es a) ≡ pointWidth newest
   point-long =
-      length-append (postcodeOf a) (plainOf a ++ refsBytes es (refsOf a))
-      ∙ omega (arith, postcode-long, plain-long, length-append (plainOf a) (refsBytes es (refsOf a)), refs-long es (refsOf a))
+      length-append (postcodeOf a) (behindOf newest a ++ bytes)
+      ∙ omega (
+        arith,
+        postcode-long,
+        behind-long,
+        length-append (behindOf newest a) bytes,
+        plain-long,
+        length-append (plainOf a) (refsBytes es (refsOf a)),
+        refs-long es (refsOf a),
+      )
 
   module _ (pack : List ℕ) (at : ℕ) (h : Stands pack at (pointBytes newest es a)) where
-    abbrev rest : List ℕ
-    rest = plainOf a ++ refsBytes es (refsOf a)
+    abbrev rest : ℕ
+    rest = restAt newest at
 
-    abbrev behind : List ℕ
-    behind = refsBytes es (refsOf a)
+    at-postcode : Stands pack at (postcodeOf a)
+    at-postcode = stands-first (postcodeOf a) (behindOf newest a ++ bytes) h
 
-    first : Stands pack at (postcodeOf a)
-    first = stands-first (postcodeOf a) rest h
+    at-inward : Stands pack (at + inwardAt) (a .inward)
+    at-inward = stands-second (a .outward) (a .inward) 4 (at + inwardAt) outward-four refl at-postcode
 
-    second : Stands pack (at + 4) (a .inward)
-    second = stands-second (a .outward) (a .inward) 4 (at + 4) outward-four refl first
+    at-behind : Stands pack (at + postcodeWidth) (behindOf newest a ++ bytes)
+    at-behind =
+        stands-second (postcodeOf a) (behindOf newest a ++ bytes) postcodeWidth (at + postcodeWidth) postcode-long refl h
 
-    at-7 : Stands pack (at + 7) rest
-    at-7 = stands-second (postcodeOf a) rest 7 (at + 7) postcode-long refl h
+    at-rest : Stands pack rest bytes
+    at-rest = stands-second (behindOf newest a) bytes (behindPostcode newest) rest behind-long (omega arith) at-behind
 
-    plain : Stands pack (at + 7) (plainOf a)
-    plain = stands-first (plainOf a) behind at-7
+    at-type : Stands pack (rest + typeAt) (plainOf a)
+    at-type =
+        subst (λ n. Stands pack n (plainOf a)) (let z : rest ≡ rest + typeAt = omega arith in z)
+        (stands-first (plainOf a) (refsBytes es (refsOf a)) at-rest)
 
     abbrev marked : List ℕ
     marked = markOf (a .concatenation) ∷ a .box
 
-    at-8 : Stands pack (at + 8)
+    at-address-key : Stands pack (rest + addressKeyAt)
         (bytesOf 4 (a .address-key) ++ (bytesOf 4 (a .organisation-key) ++ (bytesOf 2 (a .number) ++ marked)))
-    at-8 = stands-second (a .postcode-type ∷ []) _ 1 (at + 8) refl (omega arith) plain
+    at-address-key = stands-second (a .postcode-type ∷ []) _ 1 (rest + addressKeyAt) refl (omega arith) at-type
 
-    at-12 : Stands pack (at + 12) (bytesOf 4 (a .organisation-key) ++ (bytesOf 2 (a .number) ++ marked))
-    at-12 = stands-second (bytesOf 4 (a .address-key)) _ 4 (at + 12) (bytes-long 4 (a .address-key)) (omega arith) at-8
+    at-organisation-key : Stands pack (rest + organisationKeyAt)
+        (bytesOf 4 (a .organisation-key) ++ (bytesOf 2 (a .number) ++ marked))
+    at-organisation-key =
+        stands-second (bytesOf 4 (a .address-key)) _ 4 (rest + organisationKeyAt) (bytes-long 4 (a .address-key))
+        (omega arith) at-address-key
 
-    at-16 : Stands pack (at + 16) (bytesOf 2 (a .number) ++ marked)
-    at-16 =
-        stands-second (bytesOf 4 (a .organisation-key)) _ 4 (at + 16) (bytes-long 4 (a .organisation-key)) (omega arith)
-        at-12
+    at-number : Stands pack (rest + buildingNumberAt) (bytesOf 2 (a .number) ++ marked)
+    at-number =
+        stands-second (bytesOf 4 (a .organisation-key)) _ 4 (rest + buildingNumberAt)
+        (bytes-long 4 (a .organisation-key)) (omega arith) at-organisation-key
 
-    at-18 : Stands pack (at + 18) marked
-    at-18 = stands-second (bytesOf 2 (a .number)) marked 2 (at + 18) (bytes-long 2 (a .number)) (omega arith) at-16
+    at-mark : Stands pack (rest + concatenationAt) marked
+    at-mark =
+        stands-second (bytesOf 2 (a .number)) marked 2 (rest + concatenationAt) (bytes-long 2 (a .number)) (omega arith)
+        at-number
 
-    at-19 : Stands pack (at + 19) (a .box)
-    at-19 = stands-second (markOf (a .concatenation) ∷ []) (a .box) 1 (at + 19) refl (omega arith) at-18
+    at-box : Stands pack (rest + boxAt) (a .box)
+    at-box = stands-second (markOf (a .concatenation) ∷ []) (a .box) 1 (rest + boxAt) refl (omega arith) at-mark
 
-    pub point-read : PointRead pack at es a
+    pub point-read : PointRead pack at rest es a
     point-read =
         record {
-          of-outward = stands-part (stands-first (a .outward) (a .inward) first) 4 outward-four;
+          of-outward = stands-part (stands-first (a .outward) (a .inward) at-postcode) 4 outward-four;
           of-inward =
-              ap (part pack (at + 4)) (let z : at + 7 ≡ at + 4 + 3 = omega arith in z)
-              ∙ stands-part second 3 (inward-long (a .inward) (g .inward));
-          of-type = stands-byte (a .postcode-type) _ plain;
+              ap (part pack (at + inwardAt)) (let z : at + postcodeWidth ≡ at + inwardAt + 3 = omega arith in z)
+              ∙ stands-part at-inward 3 (inward-long (a .inward) (g .inward));
+          of-type = stands-byte (a .postcode-type) _ at-type;
           of-address-key = stands-number 4 (a .address-key) (omega (arith, g .address-key))
-              (stands-first (bytesOf 4 (a .address-key)) _ at-8);
+              (stands-first (bytesOf 4 (a .address-key)) _ at-address-key);
           of-organisation-key = stands-number 4 (a .organisation-key) (omega (arith, g .organisation-key))
-              (stands-first (bytesOf 4 (a .organisation-key)) _ at-12);
+              (stands-first (bytesOf 4 (a .organisation-key)) _ at-organisation-key);
           of-number = stands-number 2 (a .number) (omega (arith, g .number))
-              (stands-first (bytesOf 2 (a .number)) marked at-16);
-          of-mark = stands-byte (markOf (a .concatenation)) (a .box) at-18;
+              (stands-first (bytesOf 2 (a .number)) marked at-number);
+          of-mark = stands-byte (markOf (a .concatenation)) (a .box) at-mark;
           of-box =
-              ap (part pack (at + 19)) (let z : at + 25 ≡ at + 19 + 6 = omega arith in z)
-              ∙ stands-part at-19 6 (g .box-long);
-          of-refs = stands-second (plainOf a) behind 18 (at + 25) plain-long (omega arith) at-7;
+              ap (part pack (rest + boxAt)) (let z : rest + offsetsAt ≡ rest + boxAt + 6 = omega arith in z)
+              ∙ stands-part at-box 6 (g .box-long);
+          of-refs =
+              stands-second (plainOf a) (refsBytes es (refsOf a)) offsetsAt (rest + offsetsAt) plain-long refl at-rest;
         }
 
 -- ---- all points
 
 module _ (look : Lookup) (code : List ℕ) (four : length code ≡ 4) (es : List Entry) where
   pub points-long : (low : ℕ) (addresses : List Address) → AddressesSound look code low addresses
-      → length (pointsBytes newest es addresses) ≡ 57 * length addresses
+      → length (pointsBytes newest es addresses) ≡ pointWidth newest * length addresses
   points-long low [] g = refl
   points-long low (a ∷ more) g =
       length-append (pointBytes newest es a) (pointsBytes newest es more)
@@ -173,7 +199,7 @@ module _ (look : Lookup) (code : List ℕ) (four : length code ≡ 4) (es : List
     pub first-point : Stands pack at (pointBytes newest es a)
     first-point = stands-first (pointBytes newest es a) (pointsBytes newest es more) h
 
-    pub other-points : Stands pack (at + 57) (pointsBytes newest es more)
+    pub other-points : Stands pack (at + pointWidth newest) (pointsBytes newest es more)
     other-points =
-        stands-second (pointBytes newest es a) (pointsBytes newest es more) 57 (at + 57)
+        stands-second (pointBytes newest es a) (pointsBytes newest es more) (pointWidth newest) (at + pointWidth newest)
         (point-long look code four es a (g .1 .0)) refl h

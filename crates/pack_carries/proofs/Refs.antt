@@ -11,7 +11,7 @@ use lib.Dec.{eqb}
 use lib.ListN.{length, getD}
 use Rattle.source.specs.Address.{Lookup, Organisation, none-needed, named, lacking, Address, present, ref, kindOf}
 use Rattle.source.specs.Resolve.{textOf, nameOf, departmentOf}
-use Rattle.pack.specs.Numbers.{absent}
+use Rattle.pack.specs.Names.{offsetsAt, absent}
 use Rattle.pack.specs.Layout.{Entry, entry, entriesBytes, offsetOf, organisationRef, refsOf}
 use Rattle.pack.specs.Opening.{rowCount, rowArea, slotsOf, rowKind, rowText, offsetGood, offsetOfPoint, given}
 use Rattle.pack.specs.Points.{offsetText}
@@ -29,18 +29,18 @@ pub record RowsSaid (pack : List ℕ) (es : List Entry) : Type 0 where
   pub count : rowCount pack ≡ length es
   pub small : length (entriesBytes es) < absent
 
--- the n-th offset of a point leads to a row of this kind with these texts
-pub record LeadsTo (pack : List ℕ) (at n kind : ℕ) (texts : List (List ℕ)) : Type 0 where
-  pub there : eqb (offsetOfPoint pack at n) absent ≡ false
-  pub good : offsetGood (rowArea pack) (rowCount pack) kind (offsetOfPoint pack at n) ≡ true
+-- the n-th offset of a rest leads to a row of this kind with these texts
+pub record LeadsTo (pack : List ℕ) (rest n kind : ℕ) (texts : List (List ℕ)) : Type 0 where
+  pub there : eqb (offsetOfPoint pack rest n) absent ≡ false
+  pub good : offsetGood (rowArea pack) (rowCount pack) kind (offsetOfPoint pack rest n) ≡ true
   pub text : (which : ℕ) → which < length (slotsOf kind)
-      → rowText (rowArea pack) (offsetOfPoint pack at n) which ≡ getD texts which []
+      → rowText (rowArea pack) (offsetOfPoint pack rest n) which ≡ getD texts which []
 
--- the n-th offset of a point, by the key that it was packed for
-pub record KeyRead (look : Lookup) (pack : List ℕ) (at n kind key : ℕ) : Type 0 where
-  pub is-given : given pack at n ≡ present key
-  pub good : offsetGood (rowArea pack) (rowCount pack) kind (offsetOfPoint pack at n) ≡ true
-  pub text : (which : ℕ) → which < length (slotsOf kind) → offsetText pack at n which ≡ textOf look kind key which
+-- the n-th offset of a rest, by the key that it was packed for
+pub record KeyRead (look : Lookup) (pack : List ℕ) (rest n kind key : ℕ) : Type 0 where
+  pub is-given : given pack rest n ≡ present key
+  pub good : offsetGood (rowArea pack) (rowCount pack) kind (offsetOfPoint pack rest n) ≡ true
+  pub text : (which : ℕ) → which < length (slotsOf kind) → offsetText pack rest n which ≡ textOf look kind key which
 
 -- the same of an organisation's offset
 abbrev pub isNamed : Organisation → Bool
@@ -48,12 +48,12 @@ isNamed none-needed = false
 isNamed (named name department) = true
 isNamed lacking = false
 
-pub record OrganisationRead (pack : List ℕ) (at : ℕ) (o : Organisation) : Type 0 where
-  pub is-given : given pack at 7 ≡ isNamed o
-  pub good : offsetGood (rowArea pack) (rowCount pack) 6 (offsetOfPoint pack at 7) ≡ true
-  pub name : offsetText pack at 7 0 ≡ nameOf o
-  pub department : offsetText pack at 7 1 ≡ departmentOf o
-  pub first : isNamed o ≡ true → rowText (rowArea pack) (offsetOfPoint pack at 7) 0 ≡ nameOf o
+pub record OrganisationRead (pack : List ℕ) (rest : ℕ) (o : Organisation) : Type 0 where
+  pub is-given : given pack rest 7 ≡ isNamed o
+  pub good : offsetGood (rowArea pack) (rowCount pack) 6 (offsetOfPoint pack rest 7) ≡ true
+  pub name : offsetText pack rest 7 0 ≡ nameOf o
+  pub department : offsetText pack rest 7 1 ≡ departmentOf o
+  pub first : isNamed o ≡ true → rowText (rowArea pack) (offsetOfPoint pack rest 7) 0 ≡ nameOf o
 
 module _ (pack : List ℕ) (es : List Entry) (g : RowsSaid pack es) where
   abbrev rows : List ℕ
@@ -65,16 +65,16 @@ module _ (pack : List ℕ) (es : List Entry) (g : RowsSaid pack es) where
       subst (FoundAt rows (length es) 0 r texts) (let z : 0 + offsetOf es r ≡ offsetOf es r = omega arith in z)
       (found-at rows es 1 0 r texts (g .sound) (stands-all rows) f)
 
-  module _ (at n kind : ℕ) where
+  module _ (rest n kind : ℕ) where
     leads : (r : ℕ) (texts : List (List ℕ)) → kindOf r ≡ kind → textsFor es r ≡ some texts
-        → offsetOfPoint pack at n ≡ offsetOf es r
-        → LeadsTo pack at n kind texts
+        → offsetOfPoint pack rest n ≡ offsetOf es r
+        → LeadsTo pack rest n kind texts
     unfolding offsetGood
     leads r texts k f o =
         let row = found-row r texts f in
         let e = entry r texts in
-        let apart : eqb (offsetOfPoint pack at n) absent ≡ false =
-        ne-eqb (offsetOfPoint pack at n) absent (λ q. omega (arith, offset-within es r, g .small)) in
+        let apart : eqb (offsetOfPoint pack rest n) absent ≡ false =
+        ne-eqb (offsetOfPoint pack rest n) absent (λ q. omega (arith, offset-within es r, g .small)) in
         let is-kind : rowKind rows (offsetOf es r) ≡ kind = row-kind rows e (offsetOf es r) (row .sound) (row .stands) ∙ k in
         record {
           there = apart;
@@ -86,13 +86,13 @@ module _ (pack : List ℕ) (es : List Entry) (g : RowsSaid pack es) where
         }
 
     key-read : (look : Lookup) (key : ℕ) → (present key ≡ true → KeyFound look es kind key)
-        → offsetOfPoint pack at n ≡ placeOf es (cond (present key) (some (ref kind key)) none)
-        → KeyRead look pack at n kind key
+        → offsetOfPoint pack rest n ≡ placeOf es (cond (present key) (some (ref kind key)) none)
+        → KeyRead look pack rest n kind key
     unfolding offsetGood
     key-read look key found o = by-test (present key) refl o
       where
-        by-test : (t : Bool) → present key ≡ t → offsetOfPoint pack at n ≡ placeOf es (cond t (some (ref kind key)) none)
-            → KeyRead look pack at n kind key
+        by-test : (t : Bool) → present key ≡ t → offsetOfPoint pack rest n ≡ placeOf es (cond t (some (ref kind key)) none)
+            → KeyRead look pack rest n kind key
         by-test true q o =
             let f = found q in
             let l = leads (ref kind key) (f .texts) (ref-kind kind key (f .small)) (f .found) o in
@@ -102,15 +102,15 @@ module _ (pack : List ℕ) (es : List Entry) (g : RowsSaid pack es) where
               text = λ which h. rw (l .there, q, f .row) (l .text which h);
             }
         by-test false q o =
-            let gone : eqb (offsetOfPoint pack at n) absent ≡ true = eq-eqb (offsetOfPoint pack at n) absent o in
+            let gone : eqb (offsetOfPoint pack rest n) absent ≡ true = eq-eqb (offsetOfPoint pack rest n) absent o in
             record { is-given = rw (gone, q); good = rw gone; text = λ which h. rw (gone, q) }
 
-  organisation-read : (at view : ℕ) (o : Organisation) → view ≤ 99_999_999 → OrganisationFound es view o
-      → offsetOfPoint pack at 7 ≡ placeOf es (organisationRef view o)
-      → OrganisationRead pack at o
+  organisation-read : (rest view : ℕ) (o : Organisation) → view ≤ 99_999_999 → OrganisationFound es view o
+      → offsetOfPoint pack rest 7 ≡ placeOf es (organisationRef view o)
+      → OrganisationRead pack rest o
   unfolding offsetGood
-  organisation-read at view none-needed small f o =
-      let gone : eqb (offsetOfPoint pack at 7) absent ≡ true = eq-eqb (offsetOfPoint pack at 7) absent o in
+  organisation-read rest view none-needed small f o =
+      let gone : eqb (offsetOfPoint pack rest 7) absent ≡ true = eq-eqb (offsetOfPoint pack rest 7) absent o in
       record {
         is-given = rw gone;
         good = rw gone;
@@ -118,8 +118,8 @@ module _ (pack : List ℕ) (es : List Entry) (g : RowsSaid pack es) where
         department = rw gone;
         first = λ e. let z : _≡_ {A = ℕ} 0 1 = cc in absurd (omega arith);
       }
-  organisation-read at view (named name department) small f o =
-      let l = leads at 7 6 (ref 6 view) (name ∷ department ∷ []) (ref-kind 6 view small) f o in
+  organisation-read rest view (named name department) small f o =
+      let l = leads rest 7 6 (ref 6 view) (name ∷ department ∷ []) (ref-kind 6 view small) f o in
       record {
         is-given = rw (l .there);
         good = l .good;
@@ -127,37 +127,37 @@ module _ (pack : List ℕ) (es : List Entry) (g : RowsSaid pack es) where
         department = rw (l .there) (l .text 1 (omega arith));
         first = λ e. l .text 0 (omega arith);
       }
-  organisation-read at view lacking small f o = absurd f
+  organisation-read rest view lacking small f o = absurd f
 
--- the offsets of a point, in order
-pub record RefsRead (look : Lookup) (pack : List ℕ) (at : ℕ) (a : Address) : Type 0 where
-  pub of-locality : KeyRead look pack at 0 1 (a .locality)
-  pub of-thoroughfare : KeyRead look pack at 1 2 (a .thoroughfare)
-  pub of-descriptor : KeyRead look pack at 2 3 (a .descriptor)
-  pub of-dependent : KeyRead look pack at 3 2 (a .dependent)
-  pub of-dependent-descriptor : KeyRead look pack at 4 3 (a .dependent-descriptor)
-  pub of-building : KeyRead look pack at 5 4 (a .building)
-  pub of-sub-building : KeyRead look pack at 6 5 (a .sub-building)
-  pub of-organisation : OrganisationRead pack at (a .organisation)
+-- the offsets of a rest, in order
+pub record RefsRead (look : Lookup) (pack : List ℕ) (rest : ℕ) (a : Address) : Type 0 where
+  pub of-locality : KeyRead look pack rest 0 1 (a .locality)
+  pub of-thoroughfare : KeyRead look pack rest 1 2 (a .thoroughfare)
+  pub of-descriptor : KeyRead look pack rest 2 3 (a .descriptor)
+  pub of-dependent : KeyRead look pack rest 3 2 (a .dependent)
+  pub of-dependent-descriptor : KeyRead look pack rest 4 3 (a .dependent-descriptor)
+  pub of-building : KeyRead look pack rest 5 4 (a .building)
+  pub of-sub-building : KeyRead look pack rest 6 5 (a .sub-building)
+  pub of-organisation : OrganisationRead pack rest (a .organisation)
 
-module _ (look : Lookup) (pack : List ℕ) (es : List Entry) (g : RowsSaid pack es) (at : ℕ) (a : Address)
-    (small : a .view ≤ 99_999_999) (f : RowsFound look es a) (p : PointRead pack at es a) where
-  offset-back : (n : ℕ) → n < length (refsOf a) → offsetOfPoint pack at n ≡ placeOf es (getD (refsOf a) n none)
-  offset-back n l = refs-back pack es (g .small) n (refsOf a) (at + 25) l (p .of-refs)
+module _ (look : Lookup) (pack : List ℕ) (es : List Entry) (g : RowsSaid pack es) (at rest : ℕ) (a : Address)
+    (small : a .view ≤ 99_999_999) (f : RowsFound look es a) (p : PointRead pack at rest es a) where
+  offset-back : (n : ℕ) → n < length (refsOf a) → offsetOfPoint pack rest n ≡ placeOf es (getD (refsOf a) n none)
+  offset-back n l = refs-back pack es (g .small) n (refsOf a) (rest + offsetsAt) l (p .of-refs)
 
-  pub refs-read : RefsRead look pack at a
+  pub refs-read : RefsRead look pack rest a
   refs-read =
       let k = f .keys in
       record {
-        of-locality = key-read pack es g at 0 1 look (a .locality) (k .0) (offset-back 0 (omega arith));
-        of-thoroughfare = key-read pack es g at 1 2 look (a .thoroughfare) (k .1 .0) (offset-back 1 (omega arith));
-        of-descriptor = key-read pack es g at 2 3 look (a .descriptor) (k .1 .1 .0) (offset-back 2 (omega arith));
-        of-dependent = key-read pack es g at 3 2 look (a .dependent) (k .1 .1 .1 .0) (offset-back 3 (omega arith));
-        of-dependent-descriptor = key-read pack es g at 4 3 look (a .dependent-descriptor) (k .1 .1 .1 .1 .0)
+        of-locality = key-read pack es g rest 0 1 look (a .locality) (k .0) (offset-back 0 (omega arith));
+        of-thoroughfare = key-read pack es g rest 1 2 look (a .thoroughfare) (k .1 .0) (offset-back 1 (omega arith));
+        of-descriptor = key-read pack es g rest 2 3 look (a .descriptor) (k .1 .1 .0) (offset-back 2 (omega arith));
+        of-dependent = key-read pack es g rest 3 2 look (a .dependent) (k .1 .1 .1 .0) (offset-back 3 (omega arith));
+        of-dependent-descriptor = key-read pack es g rest 4 3 look (a .dependent-descriptor) (k .1 .1 .1 .1 .0)
             (offset-back 4 (omega arith));
-        of-building = key-read pack es g at 5 4 look (a .building) (k .1 .1 .1 .1 .1 .0) (offset-back 5 (omega arith));
-        of-sub-building = key-read pack es g at 6 5 look (a .sub-building) (k .1 .1 .1 .1 .1 .1 .0)
+        of-building = key-read pack es g rest 5 4 look (a .building) (k .1 .1 .1 .1 .1 .0) (offset-back 5 (omega arith));
+        of-sub-building = key-read pack es g rest 6 5 look (a .sub-building) (k .1 .1 .1 .1 .1 .1 .0)
             (offset-back 6 (omega arith));
-        of-organisation = organisation-read pack es g at (a .view) (a .organisation) small (f .organisation)
+        of-organisation = organisation-read pack es g rest (a .view) (a .organisation) small (f .organisation)
             (offset-back 7 (omega arith));
       }

@@ -10,26 +10,27 @@ use Rattle.field.specs.Text.{part}
 use Rattle.source.specs.Address.{Elements}
 use Rattle.label.specs.declared.Spans.{Spans}
 use Rattle.label.specs.Spans.{textIn2, elementsIn}
-use Rattle.pack.specs.Numbers.{absent}
+use Rattle.pack.specs.Names.{inwardAt, postcodeWidth, absent}
 use Rattle.pack.specs.Opening.{rowArea, textPlace, offsetOfPoint}
 use Rattle.pack.specs.Points.{offsetText}
 
 -- the text of a row that an offset gives, where its parts are read one after the other
-pub offset-there : (pack rows : List ℕ) (at i n o p b : ℕ) → rows ≡ rowArea pack → o ≡ offsetOfPoint pack at i
+pub offset-there : (pack rows : List ℕ) (rest i n o p b : ℕ) → rows ≡ rowArea pack → o ≡ offsetOfPoint pack rest i
     → (o ≡ absent → ⊥)
     → p ≡ textPlace rows n (o + 1)
     → b ≡ getD rows p 0
-    → part rows (p + 1) (p + 1 + b) ≡ offsetText pack at i n
-offset-there pack rows at i n o p b is-area is-offset there is-place is-byte =
+    → part rows (p + 1) (p + 1 + b) ≡ offsetText pack rest i n
+offset-there pack rows rest i n o p b is-area is-offset there is-place is-byte =
     let other = rw is-offset at there in
-    rw (is-byte, is-place, is-offset, is-area) (simp (ne-eqb (offsetOfPoint pack at i) absent other))
+    rw (is-byte, is-place, is-offset, is-area) (simp (ne-eqb (offsetOfPoint pack rest i) absent other))
 
-pub offset-absent : (pack : List ℕ) (at i n o : ℕ) → o ≡ offsetOfPoint pack at i → o ≡ absent → [] ≡ offsetText pack at i n
-offset-absent pack at i n o is-offset none = simp (eq-eqb (offsetOfPoint pack at i) absent (sym is-offset ∙ none))
+pub offset-absent : (pack : List ℕ) (rest i n o : ℕ) → o ≡ offsetOfPoint pack rest i → o ≡ absent → [] ≡ offsetText pack rest i n
+offset-absent pack rest i n o is-offset none = simp (eq-eqb (offsetOfPoint pack rest i) absent (sym is-offset ∙ none))
 
 -- the three bytes behind the outward code
-pub inward-bytes : (pack : List ℕ) (at : ℕ) → part pack (at + 4) (at + 4 + 3) ≡ part pack (at + 4) (at + 7)
-inward-bytes pack at = rw (let end : at + 4 + 3 ≡ at + 7 = omega arith in end)
+pub inward-bytes : (pack : List ℕ) (at : ℕ)
+    → part pack (at + inwardAt) (at + inwardAt + 3) ≡ part pack (at + inwardAt) (at + postcodeWidth)
+inward-bytes pack at = rw (let end : at + inwardAt + 3 ≡ at + postcodeWidth = omega arith in end)
 
 -- spans of which each says its element
 pub record Stand (a b : List ℕ) (s : Spans) (e : Elements) : Type 0 where

@@ -1,8 +1,8 @@
 // The label of a point of a pack that is opened.
 use crate::spans::spans_at;
-use pack_read::PackPoint;
 use pack_read::PackTrailer;
 use pack_read::inner::trailer_number;
+use pack_read::layout_in;
 use refusal::Answer;
 use refusal::Reason;
 ghost use mathlib.Core.Path.{_≡_};
@@ -17,10 +17,11 @@ fn point_label<'a>(pack: &'a [u8], k: usize, out: &mut [u8]) -> Answer
     requires { ⌜ Sized (now pack) × ((1 ≤ k) × (k ≤ pointCount (now pack))) ⌝ }
     ensures { λ r. ⌜ (r ≡ roomAnswer (labelOf (elementsAt (now (pack .entry)) (pointPlace (now (pack .entry)) k))) (now (out .entry))) × (now (out .exit) ≡ roomMemory (labelOf (elementsAt (now (pack .entry)) (pointPlace (now (pack .entry)) k))) (now (out .entry))) ⌝ }
 {
-    let start = trailer_number(pack, PackTrailer::START);
-    let at = start + PackPoint::WIDTH * (k - 1);
+    let layout = layout_in(pack);
+    let start = trailer_number(pack, layout, PackTrailer::START);
+    let at = start + layout.point * (k - 1);
     let rows = &pack[..start];
-    label_print::print_label(rows, pack, spans_at(pack, rows, at), out)
+    label_print::print_label(rows, pack, spans_at(pack, rows, at, at + layout.rest), out)
 }
 
 // The label of point k, counted from 1, of a pack that has so many points.

@@ -11,15 +11,17 @@ ghost use Prim.Native.Nat.{ℕ, _+_, _≤_};
 ghost use lib.ListN.{length};
 ghost use Rattle.field.specs.Text.{textIn};
 ghost use Rattle.label.specs.Spans.{textIn2, elementsIn};
+ghost use Rattle.pack.specs.Names.{postcodeWidth};
 ghost use Rattle.pack.specs.Opening.{rowArea};
-ghost use Rattle.pack.specs.Points.{offsetText, elementsAt};
+ghost use Rattle.pack.specs.Points.{offsetText, elementsFrom};
+ghost use Rattle.pack_read.specs.Laid.{RestIn};
 
-// The n-th text of the row that the i-th offset of a point gives; no bytes where it is absent.
-fn offset_span(pack: &[u8], rows: &[u8], at: usize, i: usize, n: usize) -> Span
-    requires { ⌜ (at + 57 ≤ length (now pack)) × ((i ≤ 7) × ((n ≤ 2) × (now rows ≡ rowArea (now pack)))) ⌝ }
-    ensures { λ r. ⌜ textIn2 (now (rows .entry)) (now (pack .entry)) r ≡ offsetText (now (pack .entry)) at i n ⌝ }
+// The n-th text of the row that the i-th offset of a rest gives; no bytes where it is absent.
+fn offset_span(pack: &[u8], rows: &[u8], rest: usize, i: usize, n: usize) -> Span
+    requires { ⌜ RestIn (now pack) rest × ((i ≤ 7) × ((n ≤ 2) × (now rows ≡ rowArea (now pack)))) ⌝ }
+    ensures { λ r. ⌜ textIn2 (now (rows .entry)) (now (pack .entry)) r ≡ offsetText (now (pack .entry)) rest i n ⌝ }
 {
-    let o = offset_of(pack, at, i);
+    let o = offset_of(pack, rest, i);
     if o == PackPoint::ABSENT {
         return Span {
             first: true,
@@ -48,26 +50,26 @@ fn field_span(pack: &[u8], from: usize, to: usize) -> Span
     }
 }
 
-// Where the elements of the point at a place stand.
-pub fn spans_at(pack: &[u8], rows: &[u8], at: usize) -> Spans
-    requires { ⌜ (at + 57 ≤ length (now pack)) × (now rows ≡ rowArea (now pack)) ⌝ }
-    ensures { λ r. ⌜ elementsIn (now (rows .entry)) (now (pack .entry)) r ≡ elementsAt (now (pack .entry)) at ⌝ }
+// Where the elements of the point at a place stand, its rest starting at another.
+pub fn spans_at(pack: &[u8], rows: &[u8], at: usize, rest: usize) -> Spans
+    requires { ⌜ (at + postcodeWidth ≤ length (now pack)) × (RestIn (now pack) rest × (now rows ≡ rowArea (now pack))) ⌝ }
+    ensures { λ r. ⌜ elementsIn (now (rows .entry)) (now (pack .entry)) r ≡ elementsFrom (now (pack .entry)) at rest ⌝ }
 {
     Spans {
-        organisation: offset_span(pack, rows, at, 7, 0),
-        department: offset_span(pack, rows, at, 7, 1),
-        po_box: field_span(pack, at + PackPoint::PO_BOX, at + PackPoint::OFFSETS),
-        sub_building: offset_span(pack, rows, at, 6, 0),
-        building: offset_span(pack, rows, at, 5, 0),
-        number: number_at(pack, at + PackPoint::NUMBER, 2) as u16,
-        concatenation: file_record::byte_of(pack, at + PackPoint::CONCATENATION) == b'Y',
-        dependent: offset_span(pack, rows, at, 3, 0),
-        dependent_descriptor: offset_span(pack, rows, at, 4, 0),
-        thoroughfare: offset_span(pack, rows, at, 1, 0),
-        descriptor: offset_span(pack, rows, at, 2, 0),
-        double_locality: offset_span(pack, rows, at, 0, 2),
-        dependent_locality: offset_span(pack, rows, at, 0, 1),
-        town: offset_span(pack, rows, at, 0, 0),
+        organisation: offset_span(pack, rows, rest, 7, 0),
+        department: offset_span(pack, rows, rest, 7, 1),
+        po_box: field_span(pack, rest + PackPoint::PO_BOX, rest + PackPoint::OFFSETS),
+        sub_building: offset_span(pack, rows, rest, 6, 0),
+        building: offset_span(pack, rows, rest, 5, 0),
+        number: number_at(pack, rest + PackPoint::NUMBER, 2) as u16,
+        concatenation: file_record::byte_of(pack, rest + PackPoint::CONCATENATION) == b'Y',
+        dependent: offset_span(pack, rows, rest, 3, 0),
+        dependent_descriptor: offset_span(pack, rows, rest, 4, 0),
+        thoroughfare: offset_span(pack, rows, rest, 1, 0),
+        descriptor: offset_span(pack, rows, rest, 2, 0),
+        double_locality: offset_span(pack, rows, rest, 0, 2),
+        dependent_locality: offset_span(pack, rows, rest, 0, 1),
+        town: offset_span(pack, rows, rest, 0, 0),
         outward: field_span(pack, at, at + PackPoint::INWARD),
         inward: Span {
             first: false,

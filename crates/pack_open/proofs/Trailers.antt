@@ -1,7 +1,7 @@
 -- Laws of the trailer, and of an array of starts that is fresh.
 -- Assumes nothing.
 use Prim.Native.Nat.{ℕ, _+_, _*_, _/_, _≤_, _<_}
-use mathlib.Core.Path.{_≡_}
+use mathlib.Core.Path.{_≡_, sym}
 use mathlib.Core.Bool.{Bool, true, false, _&&_}
 use mathlib.Core.List.{List}
 use native.Mathlib.Omega.{arith}
@@ -11,46 +11,63 @@ use lib.Dec.{eqb, leb}
 use lib.ListN.{length, replicate, length-replicate}
 use Rattle.field.proofs.Tests.{and-left, and-right}
 use Rattle.field_outward.specs.Outward.{outwardFault}
+use Rattle.pack.specs.Names.{known, pointWidth, trailerWidth}
 use Rattle.pack.specs.Opening.{edition, rowCount, pointsStart, pointCount, outward, lengthSaid, trailerGood}
+use Rattle.pack_read.specs.declared.layout.Layout.{Layout}
+use Rattle.pack_read.specs.Laid.{Laid}
 use Rattle.pack_rows.specs.Walks.{GoodRows, Cut, Starts}
 use Rattle.pack_points.specs.Ready.{Sized, Area, Ready}
 
 module _ (pack : List ℕ) where
-  pub trailer-short : length pack < 21 → trailerGood pack ≡ false
+  abbrev width : ℕ
+  width = trailerWidth (edition pack)
+
+  pub trailer-short : length pack < width → trailerGood pack ≡ false
   unfolding trailerGood
-  trailer-short h = simp (lt-leb 21 (length pack) h)
+  trailer-short h = simp (lt-leb width (length pack) h)
 
   abbrev size-test : Bool
-  size-test = eqb (pointsStart pack + 57 * pointCount pack + 21) (length pack)
+  size-test = eqb (pointsStart pack + pointWidth (edition pack) * pointCount pack + width) (length pack)
 
   abbrev tests : Bool
   tests =
-      eqb (edition pack) 1
+      known (edition pack)
       && (eqb (lengthSaid pack) (length pack) && (eqb (outwardFault (outward pack)) 0 && size-test))
 
-  pub trailer-long : 21 ≤ length pack → trailerGood pack ≡ tests
+  trailer-long : width ≤ length pack → trailerGood pack ≡ tests
   unfolding trailerGood
-  trailer-long h = simp (le-leb 21 (length pack) h)
+  trailer-long h = simp (le-leb width (length pack) h)
 
-  module _ (good : trailerGood pack ≡ true) where
-    pub trailer-room : 21 ≤ length pack
-    unfolding trailerGood
-    trailer-room = leb-true 21 (length pack) (and-left (leb 21 (length pack)) tests good)
+  -- the same of what was read, one after the other
+  pub trailer-tests : (l : Layout) → Laid (edition pack) l → l .trailer ≤ length pack
+      → {k : Bool} {said fault start count : ℕ}
+      → k ≡ known (l .edition)
+      → said ≡ lengthSaid pack
+      → fault ≡ outwardFault (outward pack)
+      → start ≡ pointsStart pack
+      → count ≡ pointCount pack
+      → k
+      && (eqb said (length pack)
+      && (eqb fault 0 && eqb (start + l .point * count + l .trailer) (length pack)))
+      ≡ trailerGood pack
+  trailer-tests l laid long k said fault start count =
+      rw (k, said, fault, start, count, laid .edition, laid .point, laid .trailer)
+      (sym (trailer-long (rw (laid .trailer) at long)))
 
-    pub trailer-sized : Sized pack
-    unfolding trailerGood
-    trailer-sized =
-        eqb-true _ (length pack)
-        (and-right (eqb (outwardFault (outward pack)) 0) size-test
-        (and-right (eqb (lengthSaid pack) (length pack)) _
-        (and-right (eqb (edition pack) 1) _ (and-right (leb 21 (length pack)) tests good))))
+  pub trailer-sized : trailerGood pack ≡ true → Sized pack
+  unfolding trailerGood
+  trailer-sized good =
+      eqb-true _ (length pack)
+      (and-right (eqb (outwardFault (outward pack)) 0) size-test
+      (and-right (eqb (lengthSaid pack) (length pack)) _
+      (and-right (known (edition pack)) _ (and-right (leb width (length pack)) tests good))))
 
 -- k stretches are enough, and keep so
 module _ (k : ℕ) (some : 0 < k) (pack rows : List ℕ) (is : Area pack rows) where
-  abbrev width : ℕ
-  width = length rows / k + 1
+  abbrev stretch : ℕ
+  stretch = length rows / k + 1
 
-  fresh-cut : Cut rows width (replicate {A = ℕ} k 0)
+  fresh-cut : Cut rows stretch (replicate {A = ℕ} k 0)
   fresh-cut =
       record {
         some = omega arith;
@@ -58,12 +75,12 @@ module _ (k : ℕ) (some : 0 < k) (pack rows : List ℕ) (is : Area pack rows) w
         enough = rw (length-replicate {A = ℕ} k 0) (le-of-lt (lt-mul-div-succ (length rows) some));
       }
 
-  pub fresh : (length rows < 4_294_967_296) × (GoodRows rows × Cut rows width (replicate {A = ℕ} k 0))
+  pub fresh : (length rows < 4_294_967_296) × (GoodRows rows × Cut rows stretch (replicate {A = ℕ} k 0))
   fresh = (is .small, (record { count = rowCount pack; good = is .good }, fresh-cut))
 
   pub ready : (starts : List ℕ) → length starts ≡ length (replicate {A = ℕ} k 0)
-      → Starts rows (rowCount pack) width starts
-      → Ready pack rows width starts
+      → Starts rows (rowCount pack) stretch starts
+      → Ready pack rows stretch starts
   ready starts e kept =
       record {
         area = is .area;

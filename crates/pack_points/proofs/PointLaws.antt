@@ -1,6 +1,6 @@
 -- Laws of the points of a pack.
 -- Assumes nothing.
-use Prim.Native.Nat.{ℕ, suc, _+_, _-_, _≤_, _<_}
+use Prim.Native.Nat.{ℕ, suc, _+_, _-_, _*_, _≤_, _<_}
 use mathlib.Core.Path.{_≡_, refl, sym, ap}
 use mathlib.Core.Bool.{Bool, true, false, cond, not, _&&_, _||_}
 use mathlib.Core.List.{List, [], _∷_}
@@ -12,7 +12,12 @@ use lib.Seq.{drop-cons}
 use Rattle.field.specs.Test.{elem}
 use Rattle.field.proofs.Tests.{or-false}
 use Rattle.source.specs.Resolve.{forbiddenOf}
-use Rattle.pack.specs.Opening.{rowCount, rowArea, offsetGood, offsetOfPoint, offsetsGood, pointGood, pointsGood}
+use Rattle.pack.specs.Names.{pointWidth}
+use Rattle.pack.specs.Opening.{edition, rowCount, pointsStart, pointCount, rowArea, offsetGood, offsetOfPoint, offsetsGood, pointGood, pointsGood}
+use Rattle.pack.proofs.Widths.{one-of}
+use Rattle.pack_read.specs.declared.layout.Layout.{Layout}
+use Rattle.pack_read.specs.Laid.{Laid, Trailed}
+use Rattle.pack_points.specs.Ready.{Sized, PointIn}
 
 -- one offset more
 module _ (pack : List ℕ) (at n : ℕ) (kinds : List ℕ) where
@@ -48,10 +53,18 @@ mix-test sub name number street descriptor dependent second =
 pub pair-test : (b x y : ℕ) → eqb b x || eqb b y ≡ elem b (x ∷ y ∷ [])
 pair-test b x y = ap (eqb b x ||_) (sym (or-false (eqb b y)))
 
+-- the trailer and the points that are counted are there
+module _ (pack : List ℕ) (sized : Sized pack) where
+  pub trailed : (l : Layout) → Laid (edition pack) l → Trailed pack l
+  trailed l laid = record { laid = laid; room = omega (arith, sized) }
+
+  pub point-in : (i at : ℕ) → i < pointCount pack → at ≡ pointsStart pack + pointWidth (edition pack) * i → PointIn pack at
+  point-in i at h is = omega (arith, sized, is, one-of (pointWidth (edition pack)) i (pointCount pack) h)
+
 -- one point more
 module _ (pack : List ℕ) (count i at : ℕ) where
   pub points-step : i < count → pointGood pack at ≡ true
-      → pointsGood pack (count - i) at ≡ pointsGood pack (count - (i + 1)) (at + 57)
+      → pointsGood pack (count - i) at ≡ pointsGood pack (count - (i + 1)) (at + pointWidth (edition pack))
   points-step h e = rw (let size : count - i ≡ suc (count - (i + 1)) = omega arith in size) (simp e)
 
   pub points-stop : i < count → pointGood pack at ≡ false → pointsGood pack (count - i) at ≡ false

@@ -1,10 +1,14 @@
 // Numbers and texts at places of a pack.
 use crate::kinds::PackPoint;
+use crate::kinds::PackTrailer;
+use crate::layout::Layout;
 ghost use mathlib.Core.Path.{_≡_};
 ghost use Prim.Native.Nat.{_+_, _*_, _^_, _≤_, _<_};
 ghost use lib.ListN.{length};
 ghost use Rattle.pack.specs.Numbers.{numberFrom, numberAt};
-ghost use Rattle.pack.specs.Opening.{fromBack, textEnd, textPlace, offsetOfPoint};
+ghost use Rattle.pack.specs.Names.{lengthAt};
+ghost use Rattle.pack.specs.Opening.{trailerNumber, outward, textEnd, textPlace, offsetOfPoint};
+ghost use Rattle.pack_read.specs.Laid.{Trailed, RestIn};
 
 // What so few bytes say, the most significant first.
 fn number_in(s: &[u8]) -> usize
@@ -58,18 +62,27 @@ pub fn text_place(rows: &[u8], from: usize, n: usize) -> usize
     at
 }
 
-// The number so many bytes before the end of the pack, where a trailer has it.
-pub fn trailer_number(pack: &[u8], back: usize) -> usize
-    requires { ⌜ back ≤ length (now pack) ⌝ }
-    ensures { λ r. ⌜ (r ≡ numberAt (now (pack .entry)) (fromBack (now (pack .entry)) back) 4) × (r < 4294967296) ⌝ }
+// A number of the trailer, by its place there.
+pub fn trailer_number(pack: &[u8], layout: Layout, field: usize) -> usize
+    requires { ⌜ Trailed (now pack) layout × (field ≤ lengthAt) ⌝ }
+    ensures { λ r. ⌜ (r ≡ trailerNumber (now (pack .entry)) field) × (r < 4294967296) ⌝ }
 {
-    number_at(pack, pack.len() - back, 4)
+    number_within(pack, pack.len() - layout.trailer + field, 4)
 }
 
-// The n-th offset of the point at a place, counted from 0.
-pub fn offset_of(pack: &[u8], at: usize, n: usize) -> usize
-    requires { ⌜ (at + 57 ≤ length (now pack)) × (n ≤ 7) ⌝ }
-    ensures { λ r. ⌜ (r ≡ offsetOfPoint (now (pack .entry)) at n) × (r < 4294967296) ⌝ }
+// The outward code of the trailer, as a part of the pack.
+pub fn outward_of(pack: &[u8], layout: Layout) -> &[u8]
+    requires { ⌜ Trailed (now pack) layout ⌝ }
+    ensures { λ r. ⌜ now r ≡ outward (now (pack .entry)) ⌝ }
 {
-    number_within(pack, at + PackPoint::OFFSETS + 4 * n, 4)
+    let at = pack.len() - layout.trailer;
+    &pack[at + PackTrailer::OUTWARD..at + PackTrailer::LENGTH]
+}
+
+// The n-th offset of the rest at a place, counted from 0.
+pub fn offset_of(pack: &[u8], rest: usize, n: usize) -> usize
+    requires { ⌜ RestIn (now pack) rest × (n ≤ 7) ⌝ }
+    ensures { λ r. ⌜ (r ≡ offsetOfPoint (now (pack .entry)) rest n) × (r < 4294967296) ⌝ }
+{
+    number_within(pack, rest + PackPoint::OFFSETS + 4 * n, 4)
 }

@@ -1,46 +1,62 @@
 // Where the parts of a pack stand. A part ends where the next begins.
 
-// The trailer: how many bytes before the end of the pack each part begins.
+// A point: its postcode, what its edition puts behind it, and the rest.
+pub struct PackPoint;
+
+impl PackPoint {
+    // In the postcode, and where it ends.
+    pub const INWARD: usize = 4;
+
+    pub const POSTCODE_END: usize = 7;
+
+    // In the rest, counted from the rest's start, and how many bytes it has.
+    pub const TYPE: usize = 0;
+
+    pub const ADDRESS_KEY: usize = 1;
+
+    pub const ORGANISATION_KEY: usize = 5;
+
+    pub const NUMBER: usize = 9;
+
+    pub const CONCATENATION: usize = 11;
+
+    pub const PO_BOX: usize = 12;
+
+    pub const OFFSETS: usize = 18;
+
+    pub const REST: usize = 50;
+
+    // The offset that refers to no row.
+    pub const ABSENT: usize = 4294967295;
+}
+
+// The trailer: its fields, what its edition puts behind them, and the edition as its last byte.
 pub struct PackTrailer;
 
 impl PackTrailer {
-    pub const WIDTH: usize = 21;
+    // Counted from the trailer's start, and how many bytes they have.
+    pub const ROWS: usize = 0;
 
-    pub const ROWS: usize = 21;
+    pub const START: usize = 4;
 
-    pub const START: usize = 17;
+    pub const POINTS: usize = 8;
 
-    pub const POINTS: usize = 13;
+    pub const OUTWARD: usize = 12;
 
-    pub const OUTWARD: usize = 9;
+    pub const LENGTH: usize = 16;
 
-    pub const LENGTH: usize = 5;
+    pub const FIELDS: usize = 20;
 
     pub const EDITION: usize = 1;
 }
 
-// A point: the first byte of each part, counted from 0.
-pub struct PackPoint;
+// The edition that is built, and the widths of its points and its trailer.
+pub struct NewestPack;
 
-impl PackPoint {
-    pub const WIDTH: usize = 57;
+impl NewestPack {
+    pub const EDITION: u8 = 1;
 
-    pub const INWARD: usize = 4;
+    pub const POINT: usize = PackPoint::POSTCODE_END + PackPoint::REST;
 
-    pub const TYPE: usize = 7;
-
-    pub const ADDRESS_KEY: usize = 8;
-
-    pub const ORGANISATION_KEY: usize = 12;
-
-    pub const NUMBER: usize = 16;
-
-    pub const CONCATENATION: usize = 18;
-
-    pub const PO_BOX: usize = 19;
-
-    pub const OFFSETS: usize = 25;
-
-    // The offset that refers to no row.
-    pub const ABSENT: usize = 4294967295;
+    pub const TRAILER: usize = PackTrailer::FIELDS + PackTrailer::EDITION;
 }

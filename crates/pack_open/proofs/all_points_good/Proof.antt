@@ -15,7 +15,7 @@ slice-aggregate-keep-starts c = search needs
 keep-starts-requires : tie.Need-keep-starts-requires
 keep-starts-requires c κs =
     let s = c .before .before .before in
-    fresh 16384 (lit< tt) (s .args .pack .now) (s .args .rows .now) (s .pre .1)
+    fresh 16384 (lit< tt) (s .args .pack .now) (s .args .rows .now) (s .pre .1 .1)
 
 slice-aggregate-points-good : tie.Need-slice-aggregate-points-good
 slice-aggregate-points-good c = search needs
@@ -26,8 +26,11 @@ points-good-requires c κs =
     let s = k .before .before .before .before in
     let p = s .args .pack .now in (
       s .pre .0,
-      ready 16384 (lit< tt) p (s .args .rows .now) (s .pre .1) _ (k .keep-starts .kept .1 .1 .0)
-          (k .keep-starts .ensures (rowCount p) (s .pre .1 .good)),
+      (
+        s .pre .1 .0,
+        ready 16384 (lit< tt) p (s .args .rows .now) (s .pre .1 .1) _ (k .keep-starts .kept .1 .1 .0)
+            (k .keep-starts .ensures (rowCount p) (s .pre .1 .1 .good)),
+      ),
     )
 
 returns : tie.Need-returns

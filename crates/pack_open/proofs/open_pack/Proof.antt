@@ -6,27 +6,30 @@ use lib.Seq.{length-take-le}
 use borrow.Author.Tests.{not-true, not-false}
 use mathlib.Core.Bool.{true}
 use Prim.Native.Nat.{ℕ, _≤_}
+use lib.Dec.{lit≤}
 use lib.ListN.{length, take}
 use mathlib.Core.List.{List}
 use Rattle.pack_points.specs.Ready.{Sized, Area}
 use Rattle.pack.specs.Opening.{rowsGood, trailerGood, allRowsGood, opened}
-use Rattle.pack_open.proofs.Trailers.{trailer-room, trailer-sized}
+use Rattle.pack_read.specs.Laid.{Trailed}
+use Rattle.pack_points.proofs.PointLaws.{trailed}
+use Rattle.pack_open.proofs.Trailers.{trailer-sized}
 use Rattle.pack_open.proofs.open_pack.Statement.{statement}
 use Rattle.pack_open.proofs.open_pack.Tie as tie
 
 -- past step 1
 module _ (c : tie.Else1) where
   abbrev Pack : List ℕ
-  Pack = c .before .before .before .args .pack .now
+  Pack = c .before .before .before .before .args .pack .now
 
   trailer : trailerGood Pack ≡ true
   trailer = sym (c .before .trailer-good .ensures) ∙ not-false _ (c .if1 .left)
 
-  room : 21 ≤ length Pack
-  room = trailer-room Pack trailer
-
   sized : Sized Pack
   sized = trailer-sized Pack trailer
+
+  there : Trailed Pack (c .before .before .layout-in .result)
+  there = trailed Pack sized _ (c .before .before .layout-in .ensures)
 
 within : (c : tie.After-trailer-number) → c .trailer-number .result ≤ length (Pack (c .before))
 within c = omega (arith, c .trailer-number .ensures .0, sized (c .before))
@@ -56,6 +59,9 @@ area c =
       good = rw (t .trailer-number .ensures .0) good;
     }
 
+layout-in-requires : tie.Need-layout-in-requires
+layout-in-requires c κs = search needs
+
 trailer-good-requires : tie.Need-trailer-good-requires
 trailer-good-requires c κs = search needs
 
@@ -69,13 +75,13 @@ returns c =
     rw (c .bad-pack .ensures) (simp (sym (t .trailer-good .ensures) ∙ not-true _ (c .before .if1 .taken)))
 
 trailer-number-requires : tie.Need-trailer-number-requires
-trailer-number-requires c κs = omega (arith, room c)
+trailer-number-requires c κs = (there c, lit≤ tt)
 
 slice-aggregate-rows : tie.Need-slice-aggregate-rows
 slice-aggregate-rows c = sym (length-take-le _ _ (within (c .before)))
 
 trailer-number-requires-2 : tie.Need-trailer-number-requires-2
-trailer-number-requires-2 c κs = room (c .before .before)
+trailer-number-requires-2 c κs = (there (c .before .before), lit≤ tt)
 
 rows-good-requires : tie.Need-rows-good-requires
 rows-good-requires c κs = search needs
@@ -92,7 +98,9 @@ returns-2 c =
     (simp (trailer e, sym (rows-said g) ∙ not-true _ (c .before .if2 .taken)))
 
 all-points-good-requires : tie.Need-all-points-good-requires
-all-points-good-requires c κs = (sized (c .before .before .before .before .before), area c)
+all-points-good-requires c κs =
+    let opened = c .before .before .before .before .before in
+    (sized opened, (opened .before .before .layout-in .ensures, area c))
 
 bad-pack-requires-3 : tie.Need-bad-pack-requires-3
 bad-pack-requires-3 c κs = search needs
@@ -111,7 +119,7 @@ returns-3 c =
     ))
 
 trailer-number-requires-3 : tie.Need-trailer-number-requires-3
-trailer-number-requires-3 c κs = omega (arith, room (c .before .before .before .before .before .before .before))
+trailer-number-requires-3 c κs = (there (c .before .before .before .before .before .before .before), lit≤ tt)
 
 returns-4 : tie.Need-returns-4
 unfolding opened
@@ -131,6 +139,7 @@ pub open-pack-spec : {M : Type 1} → statement M
 open-pack-spec =
     tie.close
     (tie.spec
+    layout-in-requires
     trailer-good-requires
     bad-pack-requires
     returns

@@ -11,7 +11,7 @@ returns : tie.Need-returns
 returns c =
     let o = c .before in
     let a = o .before .before .before .args in
-    offset-absent (a .pack .now) (a .at) (a .i) (a .n) (o .offset-of .result) (o .offset-of .ensures .0) (c .if1 .taken)
+    offset-absent (a .pack .now) (a .rest) (a .i) (a .n) (o .offset-of .result) (o .offset-of .ensures .0) (c .if1 .taken)
 
 add-text-place : tie.Need-add-text-place
 add-text-place c = search needs
@@ -32,7 +32,7 @@ returns-2 c =
     let o = e .before in
     let s = o .before .before .before in
     let a = s .args in
-    offset-there (a .pack .now) (a .rows .now) (a .at) (a .i) (a .n) (o .offset-of .result) (t .text-place .result)
+    offset-there (a .pack .now) (a .rows .now) (a .rest) (a .i) (a .n) (o .offset-of .result) (t .text-place .result)
     (c .byte-of .result) (s .pre .1 .1 .1) (o .offset-of .ensures .0) (e .if1 .left) (t .text-place .ensures .0)
     (c .byte-of .ensures)
 

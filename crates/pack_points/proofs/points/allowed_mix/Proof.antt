@@ -50,8 +50,8 @@ returns c =
       b .is-given2 .ensures,
       b .before .is-given .ensures,
     )
-    (mix-test (given p (a .at) 6) (given p (a .at) 5) (not (eqb (buildingNumber p (a .at)) 0)) (given p (a .at) 1)
-    (given p (a .at) 2) (given p (a .at) 3) (given p (a .at) 4))
+    (mix-test (given p (a .rest) 6) (given p (a .rest) 5) (not (eqb (buildingNumber p (a .rest)) 0)) (given p (a .rest) 1)
+    (given p (a .rest) 2) (given p (a .rest) 3) (given p (a .rest) 4))
 
 pub allowed-mix-spec : {M : Type 1} → statement M
 allowed-mix-spec =

@@ -1,4 +1,5 @@
--- `pack_points::points::offsets_good` meets its contract. Assumes nothing.
+-- `pack_points::points::offsets_good` meets its contract. The invariant: the offsets before the n-th are good, so that the
+-- others decide. Assumes nothing.
 use borrow.Author.Needs.{needs}
 use mathlib.Core.Path.{_≡_, refl, sym, _∙_}
 use native.Mathlib.Omega.{arith}
@@ -11,10 +12,11 @@ use Rattle.pack_points.proofs.points.offsets_good.Statement.{statement}
 use Rattle.pack_points.proofs.points.offsets_good.Tie as tie
 
 abbrev Inv-loop : tie.InvT-loop
-Inv-loop pack rows width starts at n₀ n = (n ≤ 8) × (offsetsGood pack at 0 offsetKinds ≡ offsetsGood pack at n (drop n offsetKinds))
+Inv-loop pack rows width starts rest n₀ n =
+    (n ≤ 8) × (offsetsGood pack rest 0 offsetKinds ≡ offsetsGood pack rest n (drop n offsetKinds))
 
 abbrev μ-loop : tie.MeasureT-loop
-μ-loop pack rows width starts at n₀ n = 8 - n
+μ-loop pack rows width starts rest n₀ n = 8 - n
 
 -- what was found of an offset is said of the pack's own rows
 judged : (c : tie.After-offset-good Inv-loop μ-loop)
@@ -22,7 +24,7 @@ judged : (c : tie.After-offset-good Inv-loop μ-loop)
     let p = l .before .before .before .before .args .pack .now in
     c .offset-good .result
     ≡ offsetGood (rowArea p) (rowCount p) (getD offsetKinds (l .loop .n) 0)
-    (offsetOfPoint p (l .before .before .before .before .args .at) (l .loop .n))
+    (offsetOfPoint p (l .before .before .before .before .args .rest) (l .loop .n))
 judged c =
     let o = c .before in
     let s = o .before .before .before .before .before .before in
@@ -48,7 +50,7 @@ returns c =
     let a = l .before .before .before .before .args in
     sym
     (l .loop .inv .1
-    ∙ offsets-stop (a .pack .now) (a .at) (l .loop .n) offsetKinds (omega arith) (sym (judged g) ∙ not-true _ (c .if1 .taken)))
+    ∙ offsets-stop (a .pack .now) (a .rest) (l .loop .n) offsetKinds (omega arith) (sym (judged g) ∙ not-true _ (c .if1 .taken)))
 
 add-n : tie.Need-add-n Inv-loop μ-loop
 add-n c = search needs
@@ -63,7 +65,7 @@ loop-again c =
     let a = l .before .before .before .before .args in (
       omega arith,
       l .loop .inv .1
-          ∙ offsets-step (a .pack .now) (a .at) (l .loop .n) offsetKinds (omega arith)
+          ∙ offsets-step (a .pack .now) (a .rest) (l .loop .n) offsetKinds (omega arith)
           (sym (judged g) ∙ not-false _ (c .if1 .left)),
     )
 
@@ -71,7 +73,7 @@ returns-2 : tie.Need-returns-2 Inv-loop μ-loop
 returns-2 c =
     let l = c .before in
     let a = l .before .before .before .before .args in
-    sym (l .loop .inv .1 ∙ offsets-end (a .pack .now) (a .at) (l .loop .n) offsetKinds (omega arith))
+    sym (l .loop .inv .1 ∙ offsets-end (a .pack .now) (a .rest) (l .loop .n) offsetKinds (omega arith))
 
 pub offsets-good-spec : {M : Type 1} → statement M
 offsets-good-spec =

@@ -2,6 +2,7 @@
 use borrow.Author.Needs.{needs}
 use Prim.Native.Nat.{_+_}
 use lib.ListN.{getD}
+use Rattle.pack.specs.Names.{typeAt, concatenationAt}
 use Rattle.pack.specs.Opening.{plainGood}
 use Rattle.pack_points.proofs.PointLaws.{pair-test}
 use Rattle.pack_points.proofs.points.plain_good.Statement.{statement}
@@ -67,8 +68,8 @@ returns c =
       n .number-within3 .ensures .0,
       o .number-within2 .ensures .0,
       k .number-within .ensures .0,
-      pair-test (getD (a .pack .now) (a .at + 7) 0) 83 76,
-      pair-test (getD (a .pack .now) (a .at + 18) 0) 89 32,
+      pair-test (getD (a .pack .now) (a .rest + typeAt) 0) 83 76,
+      pair-test (getD (a .pack .now) (a .rest + concatenationAt) 0) 89 32,
     )
 
 pub plain-good-spec : {M : Type 1} → statement M

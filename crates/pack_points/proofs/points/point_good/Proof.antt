@@ -1,8 +1,11 @@
 -- `pack_points::points::point_good` meets its contract. Assumes nothing.
 use borrow.Author.Needs.{needs}
-use Rattle.pack.specs.Opening.{pointGood}
+use Rattle.pack.specs.Opening.{partsGood}
 use Rattle.pack_points.proofs.points.point_good.Statement.{statement}
 use Rattle.pack_points.proofs.points.point_good.Tie as tie
+
+add-rest : tie.Need-add-rest
+add-rest c = search needs
 
 offsets-good-requires : tie.Need-offsets-good-requires
 offsets-good-requires c κs = search needs
@@ -23,7 +26,7 @@ organisation-good-requires : tie.Need-organisation-good-requires
 organisation-good-requires c κs = search needs
 
 returns : tie.Need-returns
-unfolding pointGood
+unfolding partsGood
 returns c =
     let m = c .before in
     let p = m .before in
@@ -36,12 +39,14 @@ returns c =
       w .postcode-good .ensures,
       g .is-given .ensures,
       g .before .offsets-good .ensures,
+      g .before .before .before .before .before .before .pre .1 .0 .laid .rest,
     )
 
 pub point-good-spec : {M : Type 1} → statement M
 point-good-spec =
     tie.close
     (tie.spec
+    add-rest
     offsets-good-requires
     is-given-requires
     postcode-good-requires

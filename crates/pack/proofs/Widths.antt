@@ -1,0 +1,23 @@
+-- Laws of the widths of a pack's parts, whatever its edition.
+-- Assumes nothing.
+use Prim.Native.Nat.{ℕ, _+_, _*_, _^_, _≤_, _<_}
+use native.Mathlib.Omega.{arith}
+use native.Mathlib.Nat.{mul-le-mul, mul-le-mul-left}
+use native.Mathlib.Numerals.{add-one}
+use lib.Dec.{lit≤}
+use Rattle.pack.specs.Names.{pointWidth, trailerWidth}
+
+-- no edition has a wider point or trailer
+pub point-small : (edition : ℕ) → pointWidth edition ≤ 64
+point-small edition = lit≤ tt
+
+pub trailer-small : (edition : ℕ) → trailerWidth edition ≤ 64
+trailer-small edition = lit≤ tt
+
+-- so that no sum over a pack is too large
+pub points-small : (edition count : ℕ) → count < 4_294_967_296 → pointWidth edition * count ≤ 64 * 4_294_967_296
+points-small edition count h = mul-le-mul {m₂ = 4_294_967_296} (point-small edition) (omega arith)
+
+-- what is counted ends before all of them do
+pub one-of : (width i n : ℕ) → i < n → width * i + width ≤ width * n
+one-of width i n h = omega (arith, mul-le-mul-left width (let z : i + 1 ≤ n = omega arith in z))

@@ -1,0 +1,101 @@
+-- Where the parts of a pack stand, by name: the editions, a point and the trailer.
+-- Assumes nothing.
+use Prim.Native.Nat.{ℕ, _+_}
+use mathlib.Core.Bool.{Bool}
+use lib.Dec.{eqb}
+
+-- ---- editions
+
+-- the editions that there are, and the one that is built
+abbrev pub known : ℕ → Bool
+known edition = eqb edition 1
+
+abbrev pub newest : ℕ
+newest = 1
+
+-- ---- a point: its postcode, what its edition puts behind it, and the rest
+
+-- "postcode 7": outward 4, inward 3
+abbrev pub inwardAt : ℕ
+inwardAt = 4
+
+abbrev pub postcodeWidth : ℕ
+postcodeWidth = 7
+
+-- what stands between the postcode and the rest
+abbrev pub behindPostcode : ℕ → ℕ
+behindPostcode edition = 0
+
+-- the rest, counted from its own start: "postcode type 1, address key 4, organisation key 4, building number 2,
+-- concatenation 1, PO box 6, then eight row offsets of 4"
+abbrev pub typeAt : ℕ
+typeAt = 0
+
+abbrev pub addressKeyAt : ℕ
+addressKeyAt = 1
+
+abbrev pub organisationKeyAt : ℕ
+organisationKeyAt = 5
+
+abbrev pub buildingNumberAt : ℕ
+buildingNumberAt = 9
+
+abbrev pub concatenationAt : ℕ
+concatenationAt = 11
+
+abbrev pub boxAt : ℕ
+boxAt = 12
+
+abbrev pub offsetsAt : ℕ
+offsetsAt = 18
+
+abbrev pub restWidth : ℕ
+restWidth = 50
+
+-- where the rest of a point starts, counted from the point, and in the pack
+abbrev pub restStart : ℕ → ℕ
+restStart edition = postcodeWidth + behindPostcode edition
+
+abbrev pub restAt : ℕ → ℕ → ℕ
+restAt edition at = at + restStart edition
+
+-- "57 bytes each"
+abbrev pub pointWidth : ℕ → ℕ
+pointWidth edition = restStart edition + restWidth
+
+-- "4294967295 means absent"
+abbrev pub absent : ℕ
+absent = 4_294_967_295
+
+-- ---- the trailer: its fields, what its edition puts behind them, and the edition as its last byte
+
+-- the fields, counted from the trailer's start: "row count 4, points start 4, point count 4, outward 4, pack length 4"
+abbrev pub rowCountAt : ℕ
+rowCountAt = 0
+
+abbrev pub pointsStartAt : ℕ
+pointsStartAt = 4
+
+abbrev pub pointCountAt : ℕ
+pointCountAt = 8
+
+abbrev pub outwardAt : ℕ
+outwardAt = 12
+
+abbrev pub lengthAt : ℕ
+lengthAt = 16
+
+abbrev pub fieldsWidth : ℕ
+fieldsWidth = 20
+
+-- what stands between the fields and the edition
+abbrev pub behindFields : ℕ → ℕ
+behindFields edition = 0
+
+-- "edition 1"
+abbrev pub editionWidth : ℕ
+editionWidth = 1
+
+-- "Trailer, 21 bytes"
+abbrev pub trailerWidth : ℕ → ℕ
+trailerWidth edition = fieldsWidth + behindFields edition + editionWidth

@@ -1,0 +1,46 @@
+// What the edition of a pack decides: how wide its points and its trailer are.
+use crate::kinds::PackPoint;
+use crate::kinds::PackTrailer;
+ghost use mathlib.Core.Path.{_≡_};
+ghost use Rattle.pack.specs.Names.{known};
+ghost use Rattle.pack.specs.Opening.{edition};
+ghost use Rattle.pack_read.specs.Laid.{Laid};
+
+// The widths of an edition: a point up to its rest, a point, the trailer.
+pub struct Layout {
+    pub edition: u8,
+    pub rest: usize,
+    pub point: usize,
+    pub trailer: usize,
+}
+
+// Whether there is such an edition.
+pub fn is_known(edition: u8) -> bool
+    ensures { λ r. ⌜ r ≡ known edition ⌝ }
+{
+    edition == 1
+}
+
+// The widths of an edition; those of edition 1 where there is none such.
+pub fn layout_of(edition: u8) -> Layout
+    ensures { λ r. ⌜ Laid edition r ⌝ }
+{
+    let rest = PackPoint::POSTCODE_END;
+    Layout {
+        edition,
+        rest,
+        point: rest + PackPoint::REST,
+        trailer: PackTrailer::FIELDS + PackTrailer::EDITION,
+    }
+}
+
+// The widths of the edition that a pack's last byte says, 0 where it has no byte.
+pub fn layout_in(pack: &[u8]) -> Layout
+    ensures { λ r. ⌜ Laid (edition (now (pack .entry))) r ⌝ }
+{
+    let n = pack.len();
+    if n < PackTrailer::EDITION {
+        return layout_of(0);
+    }
+    layout_of(pack[n - PackTrailer::EDITION])
+}
