@@ -8,13 +8,11 @@ use pack_read::inner::text_place;
 ghost use mathlib.Core.Path.{_≡_};
 ghost use mathlib.Core.List.{List};
 ghost use Prim.Native.Nat.{ℕ, _+_, _≤_};
-ghost use lib.ListN.{length};
 ghost use Rattle.field.specs.Text.{textIn};
 ghost use Rattle.label.specs.Spans.{textIn2, elementsIn};
-ghost use Rattle.pack.specs.Names.{postcodeWidth};
 ghost use Rattle.pack.specs.Opening.{rowArea};
 ghost use Rattle.pack.specs.Points.{offsetText, elementsFrom};
-ghost use Rattle.pack_read.specs.Laid.{RestIn};
+ghost use Rattle.pack_read.specs.Laid.{PostcodeIn, RestIn};
 
 // The n-th text of the row that the i-th offset of a rest gives; no bytes where it is absent.
 fn offset_span(pack: &[u8], rows: &[u8], rest: usize, i: usize, n: usize) -> Span
@@ -52,7 +50,7 @@ fn field_span(pack: &[u8], from: usize, to: usize) -> Span
 
 // Where the elements of the point at a place stand, its rest starting at another.
 pub fn spans_at(pack: &[u8], rows: &[u8], at: usize, rest: usize) -> Spans
-    requires { ⌜ (at + postcodeWidth ≤ length (now pack)) × (RestIn (now pack) rest × (now rows ≡ rowArea (now pack))) ⌝ }
+    requires { ⌜ PostcodeIn (now pack) at × (RestIn (now pack) rest × (now rows ≡ rowArea (now pack))) ⌝ }
     ensures { λ r. ⌜ elementsIn (now (rows .entry)) (now (pack .entry)) r ≡ elementsFrom (now (pack .entry)) at rest ⌝ }
 {
     Spans {

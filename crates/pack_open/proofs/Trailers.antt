@@ -14,7 +14,7 @@ use Rattle.field_outward.specs.Outward.{outwardFault}
 use Rattle.pack.specs.Names.{known, pointWidth, trailerWidth}
 use Rattle.pack.specs.Opening.{edition, rowCount, pointsStart, pointCount, outward, lengthSaid, trailerGood}
 use Rattle.pack_read.specs.declared.layout.Layout.{Layout}
-use Rattle.pack_read.specs.Laid.{Laid}
+use Rattle.pack_read.specs.Laid.{LaidIn}
 use Rattle.pack_rows.specs.Walks.{GoodRows, Cut, Starts}
 use Rattle.pack_points.specs.Ready.{Sized, Area, Ready}
 
@@ -39,7 +39,7 @@ module _ (pack : List ℕ) where
   trailer-long h = simp (le-leb width (length pack) h)
 
   -- the same of what was read, one after the other
-  pub trailer-tests : (l : Layout) → Laid (edition pack) l → l .trailer ≤ length pack
+  pub trailer-tests : (l : Layout) → LaidIn pack l → l .trailer ≤ length pack
       → {k : Bool} {said fault start count : ℕ}
       → k ≡ known (l .edition)
       → said ≡ lengthSaid pack

@@ -13,8 +13,8 @@ use refusal::Reason;
 ghost use mathlib.Core.Path.{_≡_};
 ghost use Rattle.refusal.specs.declared.Reason.the-variants.{BadPack};
 ghost use Rattle.refusal.specs.declared.Answer.the-variants.{Refused};
-ghost use Rattle.pack.specs.Opening.{edition, trailerGood, allPointsGood, opened};
-ghost use Rattle.pack_read.specs.Laid.{Laid};
+ghost use Rattle.pack.specs.Opening.{trailerGood, allPointsGood, opened};
+ghost use Rattle.pack_read.specs.Laid.{LaidIn};
 ghost use Rattle.pack_points.specs.Ready.{Sized, Area};
 
 // Into how many stretches the row area is cut, so that the walk to an offset is short.
@@ -22,7 +22,7 @@ const STRETCHES: usize = 16384;
 
 // Step 1: whether the trailer is good.
 fn trailer_good(pack: &[u8], layout: Layout) -> bool
-    requires { ⌜ Laid (edition (now pack)) layout ⌝ }
+    requires { ⌜ LaidIn (now pack) layout ⌝ }
     ensures { λ r. ⌜ r ≡ trailerGood (now (pack .entry)) ⌝ }
 {
     let n = pack.len();
@@ -40,7 +40,7 @@ fn trailer_good(pack: &[u8], layout: Layout) -> bool
 
 // Step 3: whether the points are good, the rows being so.
 fn all_points_good(pack: &[u8], rows: &[u8], layout: Layout) -> bool
-    requires { ⌜ Sized (now pack) × (Laid (edition (now pack)) layout × Area (now pack) (now rows)) ⌝ }
+    requires { ⌜ Sized (now pack) × (LaidIn (now pack) layout × Area (now pack) (now rows)) ⌝ }
     ensures { λ r. ⌜ r ≡ allPointsGood (now (pack .entry)) ⌝ }
 {
     let width = rows.len() / STRETCHES + 1;

@@ -16,7 +16,7 @@ use Rattle.pack.specs.Names.{pointWidth}
 use Rattle.pack.specs.Opening.{edition, rowCount, pointsStart, pointCount, rowArea, offsetGood, offsetOfPoint, offsetsGood, pointGood, pointsGood}
 use Rattle.pack.proofs.Widths.{one-of}
 use Rattle.pack_read.specs.declared.layout.Layout.{Layout}
-use Rattle.pack_read.specs.Laid.{Laid, Trailed}
+use Rattle.pack_read.specs.Laid.{LaidIn, Trailed}
 use Rattle.pack_points.specs.Ready.{Sized, PointIn}
 
 -- one offset more
@@ -55,7 +55,7 @@ pair-test b x y = ap (eqb b x ||_) (sym (or-false (eqb b y)))
 
 -- the trailer and the points that are counted are there
 module _ (pack : List ℕ) (sized : Sized pack) where
-  pub trailed : (l : Layout) → Laid (edition pack) l → Trailed pack l
+  pub trailed : (l : Layout) → LaidIn pack l → Trailed pack l
   trailed l laid = record { laid = laid; room = omega (arith, sized) }
 
   pub point-in : (i at : ℕ) → i < pointCount pack → at ≡ pointsStart pack + pointWidth (edition pack) * i → PointIn pack at

@@ -9,11 +9,9 @@ use pack_read::inner::trailer_number;
 use pack_rows::inner::offset_good;
 use pack_rows::inner::text_empty;
 ghost use mathlib.Core.Path.{_≡_};
-ghost use Prim.Native.Nat.{_+_, _≤_};
-ghost use lib.ListN.{length};
-ghost use Rattle.pack.specs.Names.{postcodeWidth};
-ghost use Rattle.pack.specs.Opening.{edition, rowArea, offsetKinds, given, postcodeGood, plainGood, offsetsGood, allowedMix, organisationGood, pointGood, allPointsGood};
-ghost use Rattle.pack_read.specs.Laid.{Laid, Trailed, RestIn};
+ghost use Prim.Native.Nat.{_≤_};
+ghost use Rattle.pack.specs.Opening.{rowArea, offsetKinds, given, postcodeGood, plainGood, offsetsGood, allowedMix, organisationGood, pointGood, allPointsGood};
+ghost use Rattle.pack_read.specs.Laid.{LaidIn, Trailed, PostcodeIn, RestIn};
 ghost use Rattle.pack_points.specs.Ready.{Sized, PointIn, Ready};
 
 // The types of the rows that the offsets of a point refer to.
@@ -45,7 +43,7 @@ fn offsets_good(pack: &[u8], rows: &[u8], width: usize, starts: &[u32], rest: us
 
 // Whether the postcode is well formed, in the code of the trailer.
 fn postcode_good(pack: &[u8], layout: Layout, at: usize) -> bool
-    requires { ⌜ (at + postcodeWidth ≤ length (now pack)) × Trailed (now pack) layout ⌝ }
+    requires { ⌜ PostcodeIn (now pack) at × Trailed (now pack) layout ⌝ }
     ensures { λ r. ⌜ r ≡ postcodeGood (now (pack .entry)) at ⌝ }
 {
     let inward = at + PackPoint::INWARD;
@@ -111,7 +109,7 @@ fn point_good(
     layout: Layout,
     at: usize,
 ) -> bool
-    requires { ⌜ PointIn (now pack) at × (Trailed (now pack) layout × Ready (now pack) (now rows) width (now starts)) ⌝ }
+    requires { ⌜ PointIn (now pack) at × Trailed (now pack) layout × Ready (now pack) (now rows) width (now starts) ⌝ }
     ensures { λ r. ⌜ r ≡ pointGood (now (pack .entry)) at ⌝ }
 {
     let rest = at + layout.rest;
@@ -126,7 +124,7 @@ fn point_good(
 
 // Whether all points are good.
 pub fn points_good(pack: &[u8], rows: &[u8], width: usize, starts: &[u32], layout: Layout) -> bool
-    requires { ⌜ Sized (now pack) × (Laid (edition (now pack)) layout × Ready (now pack) (now rows) width (now starts)) ⌝ }
+    requires { ⌜ Sized (now pack) × (LaidIn (now pack) layout × Ready (now pack) (now rows) width (now starts)) ⌝ }
     ensures { λ r. ⌜ r ≡ allPointsGood (now (pack .entry)) ⌝ }
 {
     let count = trailer_number(pack, layout, PackTrailer::POINTS);

@@ -4,7 +4,7 @@ use Prim.Native.Nat.{ℕ, _+_, _≤_}
 use mathlib.Core.Path.{_≡_}
 use mathlib.Core.List.{List}
 use lib.ListN.{length}
-use Rattle.pack.specs.Names.{restStart, restWidth, pointWidth, trailerWidth}
+use Rattle.pack.specs.Names.{postcodeWidth, restStart, restWidth, pointWidth, trailerWidth}
 use Rattle.pack.specs.Opening.{edition}
 use Rattle.pack_read.specs.declared.layout.Layout.{Layout}
 
@@ -15,11 +15,18 @@ pub record Laid (e : ℕ) (l : Layout) : Type 0 where
   pub point : l .point ≡ pointWidth e
   pub trailer : l .trailer ≡ trailerWidth e
 
--- those of a pack that has room for its trailer
+-- those of a pack's own edition
+abbrev pub LaidIn : List ℕ → Layout → Type 0
+LaidIn pack l = Laid (edition pack) l
+
+-- and the pack has room for its trailer
 pub record Trailed (pack : List ℕ) (l : Layout) : Type 0 where
-  pub laid : Laid (edition pack) l
+  pub laid : LaidIn pack l
   pub room : trailerWidth (edition pack) ≤ length pack
 
--- all bytes of a rest are there
+-- all bytes of a postcode and of a rest are there
+abbrev pub PostcodeIn : List ℕ → ℕ → Type 0
+PostcodeIn pack at = at + postcodeWidth ≤ length pack
+
 abbrev pub RestIn : List ℕ → ℕ → Type 0
 RestIn pack rest = rest + restWidth ≤ length pack

@@ -3,8 +3,7 @@ use crate::kinds::PackPoint;
 use crate::kinds::PackTrailer;
 ghost use mathlib.Core.Path.{_≡_};
 ghost use Rattle.pack.specs.Names.{known};
-ghost use Rattle.pack.specs.Opening.{edition};
-ghost use Rattle.pack_read.specs.Laid.{Laid};
+ghost use Rattle.pack_read.specs.Laid.{Laid, LaidIn};
 
 // The widths of an edition: a point up to its rest, a point, the trailer.
 pub struct Layout {
@@ -36,7 +35,7 @@ pub fn layout_of(edition: u8) -> Layout
 
 // The widths of the edition that a pack's last byte says, 0 where it has no byte.
 pub fn layout_in(pack: &[u8]) -> Layout
-    ensures { λ r. ⌜ Laid (edition (now (pack .entry))) r ⌝ }
+    ensures { λ r. ⌜ LaidIn (now (pack .entry)) r ⌝ }
 {
     let n = pack.len();
     if n < PackTrailer::EDITION {

@@ -7,9 +7,9 @@ use Prim.Native.Nat.{ℕ, _+_, _-_, _*_, _≤_}
 use lib.Dec.{lit≤}
 use lib.ListN.{take, length}
 use lib.Seq.{length-take-le}
-use Rattle.pack.specs.Opening.{edition, restOf}
+use Rattle.pack.specs.Opening.{restOf}
 use Rattle.pack.specs.Points.{elementsFrom, pointPlace}
-use Rattle.pack_read.specs.Laid.{Laid}
+use Rattle.pack_read.specs.Laid.{LaidIn}
 use Rattle.pack_points.specs.Ready.{PointIn}
 use Rattle.pack_points.proofs.PointLaws.{trailed, point-in}
 use Rattle.pack_label.proofs.inner.point_label.Statement.{statement}
@@ -26,7 +26,7 @@ module _ (c : tie.After-trailer-number) where
   abbrev k : ℕ
   k = start .args .k
 
-  abbrev laid : Laid (edition pack) (c .before .layout-in .result)
+  abbrev laid : LaidIn pack (c .before .layout-in .result)
   laid = c .before .layout-in .ensures
 
   place : c .trailer-number .result + c .before .layout-in .result .point * (k - 1) ≡ pointPlace pack k

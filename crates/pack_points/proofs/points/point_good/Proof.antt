@@ -39,7 +39,7 @@ returns c =
       w .postcode-good .ensures,
       g .is-given .ensures,
       g .before .offsets-good .ensures,
-      g .before .before .before .before .before .before .pre .1 .0 .laid .rest,
+      g .before .before .before .before .before .before .pre .1 .laid .rest,
     )
 
 pub point-good-spec : {M : Type 1} → statement M

@@ -56,7 +56,8 @@ point-good-requires : tie.Need-point-good-requires Inv-loop μ-loop
 point-good-requires c κs =
     let start = c .before .before .before .before .before .before .before in (
       room c,
-      (trailed (start .args .pack .now) (start .pre .0) (start .args .layout) (start .pre .1 .0), start .pre .1 .1),
+      trailed (start .args .pack .now) (start .pre .0) (start .args .layout) (start .pre .1 .0),
+      start .pre .1 .1,
     )
 
 returns : tie.Need-returns Inv-loop μ-loop
