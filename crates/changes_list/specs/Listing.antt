@@ -7,6 +7,7 @@ use lib.Dec.{eqb}
 use lib.ListN.{getD}
 use Rattle.field_outward.specs.Outward.{outwardFault}
 use Rattle.file_record.specs.Parts.{recordAt}
+use Rattle.file_record.specs.Names.Point
 use Rattle.refusal.specs.declared.Reason.the-variants.{NoSuchNumber, BadCode}
 use Rattle.refusal.specs.declared.Answer.{Answer}
 use Rattle.refusal.specs.declared.Answer.the-variants.{Value, Refused}
@@ -25,7 +26,7 @@ viewsAnswer points = after (checked pointFormat points) (Value (wantedCount [] p
 
 -- the letter of the record at a place; "7: no view or point of that number" where there is no place
 unfoldable pub letterAt : List ℕ → ℕ → Answer
-letterAt points place = cond (eqb place 0) (Refused 0 NoSuchNumber) (Value (getD (recordAt 168 points place) 40 0))
+letterAt points place = cond (eqb place 0) (Refused 0 NoSuchNumber) (Value (getD (recordAt Point.width points place) Point.letter 0))
 
 -- a view's amendment letter
 unfoldable pub letterAnswer : List ℕ → ℕ → Answer

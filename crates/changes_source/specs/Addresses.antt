@@ -9,43 +9,46 @@ use Rattle.field.specs.Test.{elem}
 use Rattle.field.specs.Digits.{value}
 use Rattle.field.specs.Text.{part, textIn}
 use Rattle.file_record.specs.Parts.{recordAt}
+use Rattle.file_record.specs.Names.Point
+use Rattle.file_record.specs.Names.View
+use Rattle.file_record.specs.Names.Organisation as Follower
 use Rattle.file.specs.Formats.{needed}
 use Rattle.changes_views.specs.Views.{wantedIn}
 use Rattle.source.specs.Address.{Organisation, none-needed, named, Address}
 
 -- "organisation 60, department 60" of the follower, where the view needs one
 abbrev pub organisationOf : List ℕ → List ℕ → Organisation
-organisationOf rec next = cond (eqb (needed rec) 0) none-needed (named (textIn next 42 102) (textIn next 102 162))
+organisationOf rec next = cond (eqb (needed rec) 0) none-needed (named (textIn next Follower.name Follower.department) (textIn next Follower.department Follower.departmentEnd))
 
 -- what a view's record and the next say
 unfoldable pub addressOf : ℕ → List ℕ → List ℕ → Address
 addressOf n rec next =
     record {
       view = n;
-      letter = getD rec 40 0;
-      outward = part rec 14 18;
-      inward = part rec 18 21;
-      suffix = part rec 21 23;
-      postcode-type = getD rec 23 0;
-      address-key = value (part rec 24 32);
-      organisation-key = value (part rec 32 40);
-      locality = value (part rec 42 50);
-      thoroughfare = value (part rec 50 58);
-      descriptor = value (part rec 58 66);
-      dependent = value (part rec 66 74);
-      dependent-descriptor = value (part rec 74 82);
-      building = value (part rec 86 94);
-      sub-building = value (part rec 94 102);
-      number = value (part rec 82 86);
-      concatenation = eqb (getD rec 106 0) 89;
-      box = part rec 107 113;
-      indicator = eqb (getD rec 113 0) 89;
+      letter = getD rec Point.letter 0;
+      outward = part rec Point.outward Point.inward;
+      inward = part rec Point.inward Point.suffix;
+      suffix = part rec Point.suffix Point.postcodeType;
+      postcode-type = getD rec Point.postcodeType 0;
+      address-key = value (part rec Point.addressKey Point.organisationKey);
+      organisation-key = value (part rec Point.organisationKey Point.letter);
+      locality = value (part rec View.locality View.thoroughfare);
+      thoroughfare = value (part rec View.thoroughfare View.descriptor);
+      descriptor = value (part rec View.descriptor View.dependent);
+      dependent = value (part rec View.dependent View.dependentDescriptor);
+      dependent-descriptor = value (part rec View.dependentDescriptor View.number);
+      building = value (part rec View.building View.subBuilding);
+      sub-building = value (part rec View.subBuilding View.households);
+      number = value (part rec View.number View.building);
+      concatenation = eqb (getD rec View.concatenation 0) 89;
+      box = part rec View.box View.indicator;
+      indicator = eqb (getD rec View.indicator 0) 89;
       organisation = organisationOf rec next;
     }
 
 -- the view at a place of the file
 abbrev pub addressAt : List ℕ → ℕ → ℕ → Address
-addressAt points n place = addressOf n (recordAt 168 points place) (recordAt 168 points (place + 1))
+addressAt points n place = addressOf n (recordAt Point.width points place) (recordAt Point.width points (place + 1))
 
 -- the views at these places, numbered on from n
 abbrev pub numbered : List ℕ → ℕ → List ℕ → List Address

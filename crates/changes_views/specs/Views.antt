@@ -8,18 +8,19 @@ use lib.ListN.{length, getD}
 use Rattle.field.specs.Test.{elem}
 use Rattle.field.specs.Text.{part}
 use Rattle.file_record.specs.Parts.{recordAt}
+use Rattle.file_record.specs.Names.Point
 use Rattle.file_compare.specs.Order.{same}
 
 -- "A view is a type 1 record of the point file"
 abbrev pub isView : List ℕ → Bool
-isView rec = eqb (getD rec 41 0) 49
+isView rec = eqb (getD rec Point.type 0) 49
 
 -- "It is live if its amendment letter is I or C"
 abbrev pub isLive : List ℕ → Bool
-isLive rec = elem (getD rec 40 0) (73 ∷ 67 ∷ [])
+isLive rec = elem (getD rec Point.letter 0) (73 ∷ 67 ∷ [])
 
 abbrev pub inCode : List ℕ → List ℕ → Bool
-inCode code rec = same (part rec 14 18) code
+inCode code rec = same (part rec Point.outward Point.inward) code
 
 abbrev pub isEmpty : List ℕ → Bool
 isEmpty [] = true
@@ -31,13 +32,13 @@ wanted code rec = isView rec && (isEmpty code || (isLive rec && inCode code rec)
 
 -- the trailer's place, behind which there is no record
 abbrev pub lastOf : List ℕ → ℕ
-lastOf file = length file / 168 - 1
+lastOf file = length file / Point.width - 1
 
 -- "numbered from 1 in file order": the places of the wanted among k records from i on
 abbrev pub wantedFrom : List ℕ → List ℕ → ℕ → ℕ → List ℕ
 wantedFrom code file zero i = []
 wantedFrom code file (suc k) i =
-    cond (wanted code (recordAt 168 file i)) (i ∷ wantedFrom code file k (suc i)) (wantedFrom code file k (suc i))
+    cond (wanted code (recordAt Point.width file i)) (i ∷ wantedFrom code file k (suc i)) (wantedFrom code file k (suc i))
 
 -- the places of all that are wanted, between header and trailer
 unfoldable pub wantedIn : List ℕ → List ℕ → List ℕ
@@ -54,7 +55,7 @@ wantedAt code file k = getD (0 ∷ wantedIn code file) k 0
 -- the place of the first that is wanted among k records from i on; i + k where there is none
 abbrev pub nextFrom : List ℕ → List ℕ → ℕ → ℕ → ℕ
 nextFrom code file zero i = i
-nextFrom code file (suc k) i = cond (wanted code (recordAt 168 file i)) i (nextFrom code file k (suc i))
+nextFrom code file (suc k) i = cond (wanted code (recordAt Point.width file i)) i (nextFrom code file k (suc i))
 
 -- the step: the first that is wanted from i on; the trailer's place where there is none, or i where that is behind it
 unfoldable pub nextWanted : List ℕ → List ℕ → ℕ → ℕ

@@ -16,7 +16,6 @@ use Rattle.refusal.specs.declared.Answer.{Answer}
 use Rattle.refusal.specs.declared.Answer.the-variants.{Value, Refused}
 use Rattle.source.specs.Address.{Lookup, Address}
 use Rattle.source.specs.Resolve.{forbidden, missing, elementsOf, Resolved, elements, refused, resolve}
-use Rattle.file_ends.specs.Ends.{headerOk, trailerOk}
 use Rattle.refusal.specs.declared.Verdict.{Verdict}
 use Rattle.refusal.specs.declared.Verdict.the-variants.{Fine, Bad}
 use Rattle.file.specs.Check.{Format, records, whole, at, rises, judged, scan, verdict, answered, checked}
@@ -73,8 +72,8 @@ module _ (f : Format) (file : List ℕ) where
   unfolding checked verdict
   checked-of-file =
       by-verdict (verdict f file)
-      (by-tests (whole f file) (headerOk (f .identifier) (f .name) (at f file 0))
-      (trailerOk (f .identifier) (records f file) (at f file (records f file - 1))))
+      (by-tests (whole f file) (f .headed (at f file 0))
+      (f .ended (records f file) (at f file (records f file - 1))))
     where
       by-tests : (t u v : Bool)
           → OfFile

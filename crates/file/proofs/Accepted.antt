@@ -9,7 +9,6 @@ use native.Mathlib.Omega.{arith}
 use native.Mathlib.Nat.{eq-or-lt-of-le}
 use borrow.Author.Tests.{eqb-true}
 use lib.Dec.{eqb}
-use Rattle.file_ends.specs.Ends.{headerOk, trailerOk}
 use Rattle.refusal.specs.Refusal.{malformedAt}
 use Rattle.refusal.specs.declared.Reason.{Reason}
 use Rattle.refusal.specs.declared.Reason.the-variants.{NotAbove, Follower}
@@ -17,7 +16,7 @@ use Rattle.refusal.proofs.Answers.{refused-value}
 use Rattle.refusal.specs.declared.Answer.the-variants.{Value, Refused}
 use Rattle.refusal.specs.declared.Verdict.{Verdict}
 use Rattle.refusal.specs.declared.Verdict.the-variants.{Fine, Bad}
-use Rattle.file.specs.Check.{Format, records, whole, at, rises, judged, scan, verdict, answered, checked}
+use Rattle.file.specs.Check.{Format, records, whole, at, rises, inPlace, judged, scan, verdict, answered, checked}
 use Rattle.refusal.specs.Verdict.{orElse}
 use Rattle.file.proofs.Laws.{judged-fine, verdict-length, verdict-header, verdict-trailer, verdict-scan}
 
@@ -41,17 +40,17 @@ scan-fine judge (suc k) i e j p q =
 pub record FineRecord (f : Format) (file : List ℕ) (i : ℕ) : Type 0 where
   pub well-formed : f .fault (at f file i) ≡ 0
   pub rising : rises f file i ≡ true
-  pub in-place : f .between (at f file (i - 1)) (at f file i) (at f file (i + 1)) ≡ true
+  pub in-place : inPlace f file i ≡ true
 
 pub judged-record : (f : Format) (file : List ℕ) (i : ℕ) → judged f file i ≡ Fine → FineRecord f file i
 unfolding judged
 judged-record f file i e =
     by-tests (eqb (f .fault (at f file i)) 0) (rises f file i)
-    (f .between (at f file (i - 1)) (at f file i) (at f file (i + 1))) (Follower (i + 1)) (NotAbove (i + 1))
+    (inPlace f file i) (Follower (i + 1)) (NotAbove (i + 1))
     (malformedAt (i + 1) (f .fault (at f file i))) refl refl refl e
   where
     by-tests : (t u v : Bool) (stray falls malformed : Reason) → eqb (f .fault (at f file i)) 0 ≡ t → rises f file i ≡ u
-        → f .between (at f file (i - 1)) (at f file i) (at f file (i + 1)) ≡ v
+        → inPlace f file i ≡ v
         → cond t (cond u (cond v Fine (Bad stray)) (Bad falls)) (Bad malformed) ≡ Fine
         → FineRecord f file i
     by-tests true true true stray falls malformed p q r e =
@@ -71,23 +70,23 @@ fine-scan judge (suc k) i h =
 -- an accepted file
 pub record Accepted (f : Format) (file : List ℕ) : Type 0 where
   pub is-whole : whole f file ≡ true
-  pub headed : headerOk (f .identifier) (f .name) (at f file 0) ≡ true
-  pub ended : trailerOk (f .identifier) (records f file) (at f file (records f file - 1)) ≡ true
+  pub headed : f .headed (at f file 0) ≡ true
+  pub ended : f .ended (records f file) (at f file (records f file - 1)) ≡ true
   pub each : (i : ℕ) → 1 ≤ i → i < records f file - 1 → FineRecord f file i
 
 module _ (f : Format) (file : List ℕ) where
   verdict-accepted : verdict f file ≡ Fine → Accepted f file
   verdict-accepted e =
-      by-tests (whole f file) (headerOk (f .identifier) (f .name) (at f file 0))
-      (trailerOk (f .identifier) (records f file) (at f file (records f file - 1))) refl refl refl
+      by-tests (whole f file) (f .headed (at f file 0))
+      (f .ended (records f file) (at f file (records f file - 1))) refl refl refl
     where
       scanned : scan (judged f file) (records f file - 2) 1 ≡ Fine → (i : ℕ) → 1 ≤ i → i < records f file - 1
           → FineRecord f file i
       scanned h i p q =
           judged-record f file i (scan-fine (judged f file) (records f file - 2) 1 h i p (omega arith))
 
-      by-tests : (t u v : Bool) → whole f file ≡ t → headerOk (f .identifier) (f .name) (at f file 0) ≡ u
-          → trailerOk (f .identifier) (records f file) (at f file (records f file - 1)) ≡ v
+      by-tests : (t u v : Bool) → whole f file ≡ t → f .headed (at f file 0) ≡ u
+          → f .ended (records f file) (at f file (records f file - 1)) ≡ v
           → Accepted f file
       by-tests true true true p q r =
           record { is-whole = p; headed = q; ended = r; each = scanned (sym (verdict-scan f file p q r) ∙ e) }

@@ -2,29 +2,31 @@
 -- Assumes nothing.
 use Prim.Native.Nat.{ℕ, suc, _+_, _-_, _*_, _≤_, _<_}
 use mathlib.Core.Path.{_≡_, refl, sym, ap, _∙_}
-use mathlib.Core.Bool.{Bool, true, false, cond, _&&_}
+use mathlib.Core.Bool.{true, false, _&&_}
 use mathlib.Core.List.{List}
 use native.Mathlib.Omega.{arith}
 use borrow.Author.Tests.{leb-true, eq-eqb, ne-eqb}
-use lib.Dec.{leb, eqb}
+use lib.Dec.{leb, eqb, lit≤}
 use lib.ListN.{length}
 use Rattle.field.proofs.Tests.{and-left, and-right}
-use Rattle.file_ends.specs.Ends.{headerOk, trailerOk}
 use Rattle.refusal.specs.Refusal.{malformedAt}
 use Rattle.refusal.specs.declared.Reason.{Reason}
 use Rattle.refusal.specs.declared.Reason.the-variants.{Length, Header, Trailer, NotAbove, Follower}
 use Rattle.refusal.specs.declared.Verdict.{Verdict}
 use Rattle.refusal.specs.declared.Verdict.the-variants.{Fine, Bad}
-use Rattle.file.specs.Check.{Format, records, whole, at, rises, judged, scan, verdict}
-use Rattle.file.specs.Formats.{tableFormat, pointFormat, formatOf}
+use Rattle.file.specs.Check.{Format, records, whole, at, rises, inPlace, judged, scan, verdict}
+use Rattle.file.specs.Formats.{formatOf}
+use Rattle.file.specs.declared.Kind.{Kind}
+use Rattle.file.specs.declared.Kind.the-variants.{Table, Points}
 
--- both formats have one limit
-pub limit-of : (kind : ℕ) → formatOf kind .limit ≡ 20_000
-limit-of kind = either (eqb kind 1)
-  where
-    either : (t : Bool) → (cond t tableFormat pointFormat) .limit ≡ 20_000
-    either true = refl
-    either false = refl
+-- no format has more records than a refusal can name
+pub limit-few : (kind : Kind) → formatOf kind .limit ≤ 1_000_000
+limit-few Table = lit≤ tt
+limit-few Points = lit≤ tt
+
+pub width-some : (kind : Kind) → 1 ≤ formatOf kind .width
+width-some Table = lit≤ tt
+width-some Points = lit≤ tt
 
 -- a whole file has from 2 up to the limit's records
 module _ (f : Format) (file : List ℕ) (is-whole : whole f file ≡ true) where
@@ -66,12 +68,12 @@ module _ (f : Format) (file : List ℕ) (i : ℕ) where
     judged-falls e = simp (eq-eqb (f .fault (at f file i)) 0 well-formed, e)
 
     module _ (rising : rises f file i ≡ true) where
-      pub judged-stray : f .between (at f file (i - 1)) (at f file i) (at f file (i + 1)) ≡ false
+      pub judged-stray : inPlace f file i ≡ false
           → judged f file i ≡ Bad (Follower (i + 1))
       unfolding judged
       judged-stray e = simp (eq-eqb (f .fault (at f file i)) 0 well-formed, rising, e)
 
-      pub judged-fine : f .between (at f file (i - 1)) (at f file i) (at f file (i + 1)) ≡ true
+      pub judged-fine : inPlace f file i ≡ true
           → judged f file i ≡ Fine
       unfolding judged
       judged-fine e = simp (eq-eqb (f .fault (at f file i)) 0 well-formed, rising, e)
@@ -83,17 +85,17 @@ module _ (f : Format) (file : List ℕ) where
   verdict-length e = simp e
 
   module _ (is-whole : whole f file ≡ true) where
-    pub verdict-header : headerOk (f .identifier) (f .name) (at f file 0) ≡ false → verdict f file ≡ Bad Header
+    pub verdict-header : f .headed (at f file 0) ≡ false → verdict f file ≡ Bad Header
     unfolding verdict
     verdict-header e = simp (is-whole, e)
 
-    module _ (head : headerOk (f .identifier) (f .name) (at f file 0) ≡ true) where
-      pub verdict-trailer : trailerOk (f .identifier) (records f file) (at f file (records f file - 1)) ≡ false
+    module _ (head : f .headed (at f file 0) ≡ true) where
+      pub verdict-trailer : f .ended (records f file) (at f file (records f file - 1)) ≡ false
           → verdict f file ≡ Bad (Trailer (records f file))
       unfolding verdict
       verdict-trailer e = simp (is-whole, head, e)
 
-      pub verdict-scan : trailerOk (f .identifier) (records f file) (at f file (records f file - 1)) ≡ true
+      pub verdict-scan : f .ended (records f file) (at f file (records f file - 1)) ≡ true
           → verdict f file ≡ scan (judged f file) (records f file - 2) 1
       unfolding verdict
       verdict-scan e = simp (is-whole, head, e)

@@ -7,10 +7,8 @@ use mathlib.Core.Bool.{Bool, cond, _&&_, _||_}
 use mathlib.Core.List.{List}
 use lib.Dec.{leb, eqb}
 use lib.ListN.{length}
-use Rattle.field.specs.Text.{part}
 use Rattle.file_record.specs.Parts.{recordAt}
 use Rattle.file_compare.specs.Order.{above}
-use Rattle.file_ends.specs.Ends.{headerOk, trailerOk}
 use Rattle.refusal.specs.Refusal.{malformedAt}
 use Rattle.refusal.specs.Verdict.{orElse}
 use Rattle.refusal.specs.declared.Reason.{Reason}
@@ -23,19 +21,28 @@ use Rattle.refusal.specs.declared.Verdict.the-variants.{Fine, Bad}
 pub record Format : Type 0 where
   -- the file to blame
   pub file : ℕ
-  -- bytes of a record, and of the identifier in header and trailer
+  -- bytes of a record
   pub width : ℕ
-  pub identifier : ℕ
-  -- the file identifier behind it in the header
-  pub name : List ℕ
   -- the most records
   pub limit : ℕ
-  -- how many bytes are compared in the sequence
-  pub sequence : ℕ
+  -- whether a record is the header
+  pub headed : List ℕ → Bool
+  -- whether a record is the trailer of so many records
+  pub ended : ℕ → List ℕ → Bool
+  -- what the sequence compares of a record
+  pub sequence : List ℕ → List ℕ
   -- where a record's first fault stands
   pub fault : List ℕ → ℕ
   -- whether a record may stand between the one before and the next
   pub between : List ℕ → List ℕ → List ℕ → Bool
+
+module _ (f : Format) where
+  abbrev pub higher : List ℕ → List ℕ → Bool
+  higher before rec = above (f .sequence rec) (f .sequence before)
+
+  -- "each record but the first of them is above the one before, compared as bytes": record i, and the one before
+  abbrev pub inSequence : ℕ → List ℕ → List ℕ → Bool
+  inSequence i before rec = eqb i 1 || higher before rec
 
 module _ (f : Format) (file : List ℕ) where
   abbrev pub records : ℕ
@@ -48,16 +55,19 @@ module _ (f : Format) (file : List ℕ) where
   abbrev pub at : ℕ → List ℕ
   at i = recordAt (f .width) file i
 
-  -- "each record but the first of them is above the one before, compared as bytes"
   abbrev pub rises : ℕ → Bool
-  rises i = eqb i 1 || above (part (at i) 0 (f .sequence)) (part (at (i - 1)) 0 (f .sequence))
+  rises i = inSequence f i (at (i - 1)) (at i)
+
+  -- whether record i may stand where it does
+  abbrev pub inPlace : ℕ → Bool
+  inPlace i = f .between (at (i - 1)) (at i) (at (i + 1))
 
   -- record i between header and trailer: 4, 5, 6
   unfoldable pub judged : ℕ → Verdict
   judged i =
       cond (eqb (f .fault (at i)) 0)
       (cond (rises i)
-      (cond (f .between (at (i - 1)) (at i) (at (i + 1))) Fine (Bad (Follower (i + 1))))
+      (cond (inPlace i) Fine (Bad (Follower (i + 1))))
       (Bad (NotAbove (i + 1))))
       (Bad (malformedAt (i + 1) (f .fault (at i))))
 
@@ -70,8 +80,8 @@ module _ (f : Format) (file : List ℕ) where
   unfoldable pub verdict : Verdict
   verdict =
       cond (whole f file)
-      (cond (headerOk (f .identifier) (f .name) (at f file 0))
-      (cond (trailerOk (f .identifier) (records f file) (at f file (records f file - 1)))
+      (cond (f .headed (at f file 0))
+      (cond (f .ended (records f file) (at f file (records f file - 1)))
       (scan (judged f file) (records f file - 2) 1)
       (Bad (Trailer (records f file))))
       (Bad Header))

@@ -4,8 +4,8 @@ ghost use mathlib.Core.Path.{_≡_};
 ghost use mathlib.Core.Bool.{cond};
 ghost use Prim.Native.Nat.{_+_, _-_, _/_, _≤_, _<_};
 ghost use lib.ListN.{length};
-ghost use Rattle.file_record.specs.Parts.{recordAt};
-ghost use Rattle.file.specs.Formats.{needed, follows, placed};
+ghost use Rattle.file_record.specs.Names.Point.{width};
+ghost use Rattle.file.specs.Formats.{needed, follows, placedAt};
 
 // The type of record that is needed next: by what all of this is said at once, so that nothing is decided on the way.
 fn needed_by(view: bool, large: bool, alone: bool) -> u8
@@ -56,8 +56,8 @@ fn owner_of(own: bool, i: usize) -> usize
 // Whether a view has the follower that it needs, or a follower its owner. A follower stands behind its owner, so that one
 // comparison does for both.
 pub fn is_placed(file: &[u8], i: usize) -> bool
-    requires { ⌜ (1 ≤ i) × (i + 1 < length (now file) / 168) ⌝ }
-    ensures { λ r. ⌜ r ≡ placed (recordAt 168 (now (file .entry)) (i - 1)) (recordAt 168 (now (file .entry)) i) (recordAt 168 (now (file .entry)) (i + 1)) ⌝ }
+    requires { ⌜ (1 ≤ i) × (i + 1 < length (now file) / width) ⌝ }
+    ensures { λ r. ⌜ r ≡ placedAt (now (file .entry)) i ⌝ }
 {
     let rec = file_record::whole_record(file, Point::WIDTH, i);
     let own = file_record::byte_of(rec, Point::TYPE) == b'1';

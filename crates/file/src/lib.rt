@@ -1,5 +1,11 @@
-// Table files and point files: when one is accepted, and how owners and followers stand in a point file.
+// The files of fixed records: the kinds there are, when one is accepted, and how owners and followers stand in a point file.
 mod follow;
 
 pub use follow::is_placed;
 pub use follow::needed_next;
+
+// A kind of file; `Formats.formatOf` gives each its format.
+pub enum Kind {
+    Table,
+    Points,
+}

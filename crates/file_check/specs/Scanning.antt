@@ -3,13 +3,20 @@
 use Prim.Native.Nat.{ℕ, _-_, _≤_}
 use mathlib.Core.Path.{_≡_}
 use mathlib.Core.List.{List}
-use Rattle.file.specs.Check.{Format, records, at}
+use Rattle.file.specs.Check.{Format, records, at, judged, scan}
 
--- the records before i, between header and trailer, are fine, so that the one before i has no fault
-pub record Scanning (f : Format) (file : List ℕ) (n i : ℕ) : Type 0 where
-  pub all : n ≡ records f file
-  pub two : 2 ≤ n
-  pub few : n ≤ 1_000_000
-  pub low : 1 ≤ i
-  pub high : i ≤ n - 1
-  pub last-fine : (i ≡ 1 → ⊥) → f .fault (at f file (i - 1)) ≡ 0
+module _ (f : Format) (file : List ℕ) (n : ℕ) where
+  -- the records before i, between header and trailer, are fine, so that the one before i has no fault
+  pub record Scanning (i : ℕ) : Type 0 where
+    pub all : n ≡ records f file
+    pub two : 2 ≤ n
+    pub few : n ≤ 1_000_000
+    pub low : 1 ≤ i
+    pub high : i ≤ n - 1
+    pub last-fine : (i ≡ 1 → ⊥) → f .fault (at f file (i - 1)) ≡ 0
+
+  -- the records from `from` up to i are fine, so that what is found from there on is found from i on
+  pub record Onward (from i : ℕ) : Type 0 where
+    pub on : from ≤ i
+    pub reached : Scanning i
+    pub found : scan (judged f file) (n - 1 - from) from ≡ scan (judged f file) (n - 1 - i) i

@@ -1,4 +1,16 @@
-// The check of a whole file: one pass, and the first refusal.
+// The check of a whole file of fixed records: one pass, and the first refusal.
+//
+// A file is records end to end: a header, records, a trailer. An accepted file is answered with how many records it has,
+// header and trailer counted; any other with the file to blame and the first reason, in this order:
+//   1 Length     not 2 or more whole records, or more than its format allows
+//   2 Header     record 1 is no header of its format
+//   3 Trailer    the last record is no trailer of so many records
+// then, record by record,
+//   4 Malformed  the byte of the record's first fault
+//   5 NotAbove   not above the record before it
+//   6 Follower   a record that may not stand between its neighbours
+// A refusal counts records and bytes from 1; the code counts records from 0. `file_formats` has what differs by kind.
+use file::Kind;
 use file_formats::inner::fault_in;
 use file_formats::inner::is_above;
 use file_formats::inner::is_between;
@@ -6,8 +18,8 @@ use file_formats::inner::is_fine;
 use file_formats::inner::is_header;
 use file_formats::inner::is_trailer;
 use file_formats::inner::is_whole;
+use file_formats::inner::numbers_of;
 use file_formats::inner::record_in;
-use file_formats::inner::record_of;
 use file_formats::inner::records_in;
 use file_record::Cursor;
 use refusal::Answer;
@@ -18,11 +30,11 @@ ghost use mathlib.Core.Bool.{true};
 ghost use Prim.Native.Nat.{_+_, _-_, _≤_, _<_};
 ghost use Rattle.refusal.specs.declared.Verdict.the-variants.{Fine};
 ghost use Rattle.file.specs.Check.{records, judged, scan, verdict, answered, checked};
-ghost use Rattle.file_check.specs.Scanning.{Scanning};
+ghost use Rattle.file_check.specs.Scanning.{Scanning, Onward};
 ghost use Rattle.file.specs.Formats.{formatOf, tableFormat, pointFormat};
 
 // Record `i`, counted from 0, between header and trailer: 4, then 5, then 6.
-fn judge(kind: usize, file: &[u8], i: usize) -> Verdict
+fn judge(kind: Kind, file: &[u8], i: usize) -> Verdict
     requires { ⌜ (1 ≤ i) × (i + 1 < records (formatOf kind) (now file)) × (i ≤ 1000000) ⌝ }
     ensures { λ r. ⌜ r ≡ judged (formatOf kind) (now (file .entry)) i ⌝ }
 {
@@ -43,7 +55,7 @@ fn judge(kind: usize, file: &[u8], i: usize) -> Verdict
 }
 
 // Whether record `i` is known to stand as it must: this looks for no place.
-fn stands(kind: usize, file: &[u8], n: usize, i: usize) -> bool
+fn stands(kind: Kind, file: &[u8], n: usize, i: usize) -> bool
     requires { ⌜ Scanning (formatOf kind) (now file) n i × (i < n - 1) ⌝ }
     ensures { λ r. ⌜ (r ≡ true → judged (formatOf kind) (now (file .entry)) i ≡ Fine) ⌝ }
 {
@@ -56,9 +68,9 @@ fn stands(kind: usize, file: &[u8], n: usize, i: usize) -> bool
 }
 
 // The first record from `from` on that is not known to stand. Most records are, so that this loop is nearly all there is.
-fn standing(kind: usize, file: &[u8], n: usize, from: usize) -> usize
+fn standing(kind: Kind, file: &[u8], n: usize, from: usize) -> usize
     requires { ⌜ Scanning (formatOf kind) (now file) n from ⌝ }
-    ensures { λ r. ⌜ (from ≤ r) × Scanning (formatOf kind) (now (file .entry)) n r × (scan (judged (formatOf kind) (now (file .entry))) (n - 1 - from) from ≡ scan (judged (formatOf kind) (now (file .entry))) (n - 1 - r) r) ⌝ }
+    ensures { λ r. ⌜ Onward (formatOf kind) (now (file .entry)) n from r ⌝ }
 {
     let mut i = from;
     while i < n - 1 {
@@ -71,7 +83,7 @@ fn standing(kind: usize, file: &[u8], n: usize, from: usize) -> usize
 }
 
 // The first refusal of the records between header and trailer.
-fn scan_records(kind: usize, file: &[u8], n: usize) -> Verdict
+fn scan_records(kind: Kind, file: &[u8], n: usize) -> Verdict
     requires { ⌜ (2 ≤ n) × (n ≤ 1000000) × (n ≡ records (formatOf kind) (now file)) ⌝ }
     ensures { λ r. ⌜ r ≡ scan (judged (formatOf kind) (now (file .entry))) (n - 2) 1 ⌝ }
 {
@@ -90,31 +102,31 @@ fn scan_records(kind: usize, file: &[u8], n: usize) -> Verdict
 }
 
 // The first refusal of a file: 1, 2, 3, then record by record.
-fn verdict_of(kind: usize, file: &[u8]) -> Verdict
+fn verdict_of(kind: Kind, file: &[u8]) -> Verdict
     ensures { λ r. ⌜ r ≡ verdict (formatOf kind) (now (file .entry)) ⌝ }
 {
     if !is_whole(kind, file) {
         return Verdict::Bad(Reason::Length);
     }
     let n = records_in(kind, file);
-    if !is_header(kind, record_of(kind, file, 0)) {
+    if !is_header(kind, record_in(kind, file, 0)) {
         return Verdict::Bad(Reason::Header);
     }
-    if !is_trailer(kind, record_of(kind, file, n - 1), n) {
+    if !is_trailer(kind, record_in(kind, file, n - 1), n) {
         return Verdict::Bad(Reason::Trailer { record: n });
     }
     scan_records(kind, file, n)
 }
 
 // How many records an accepted file has, or its first refusal.
-fn check(kind: usize, file: &[u8], blame: usize) -> Answer
-    requires { ⌜ blame ≡ formatOf kind .file ⌝ }
+fn check(kind: Kind, file: &[u8]) -> Answer
     ensures { λ r. ⌜ r ≡ checked (formatOf kind) (now (file .entry)) ⌝ }
 {
+    let format = numbers_of(kind);
     match verdict_of(kind, file) {
         Verdict::Fine => Answer::Value(records_in(kind, file)),
         Verdict::Bad(reason) => Answer::Refused {
-            file: blame,
+            file: format.file,
             reason,
         },
     }
@@ -123,11 +135,11 @@ fn check(kind: usize, file: &[u8], blame: usize) -> Answer
 pub fn check_table(file: &[u8]) -> Answer
     ensures { λ r. ⌜ r ≡ checked tableFormat (now (file .entry)) ⌝ }
 {
-    check(1, file, 1)
+    check(Kind::Table, file)
 }
 
 pub fn check_points(file: &[u8]) -> Answer
     ensures { λ r. ⌜ r ≡ checked pointFormat (now (file .entry)) ⌝ }
 {
-    check(2, file, 2)
+    check(Kind::Points, file)
 }

@@ -9,6 +9,7 @@ use Rattle.field.specs.Digits.{digitsFault}
 use Rattle.field.specs.Text.{textFault, filledFault}
 use Rattle.field_outward.specs.Outward.{outwardFault}
 use Rattle.field_outward.specs.Inward.{inwardFault, suffixFault}
+use Rattle.file_record.specs.Names.Point
 use Rattle.file_fault.specs.Fields.{Field, field, first, faultIn, oneOf}
 
 -- "date 8, time 6, outward 4, inward 3, suffix 2, postcode type 1, address key 8, organisation key 8, letter 1, record
@@ -57,4 +58,4 @@ pointRest type =
 
 -- where a point record's first fault stands
 unfoldable pub pointFault : List ℕ → ℕ
-pointFault rec = first (faultIn 0 pointHead rec) (faultIn 42 (pointRest (getD rec 41 0)) rec)
+pointFault rec = first (faultIn 0 pointHead rec) (faultIn Point.rest (pointRest (getD rec Point.type 0)) rec)

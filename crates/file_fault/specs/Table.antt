@@ -7,6 +7,8 @@ use lib.Dec.{eqb}
 use lib.ListN.{getD}
 use Rattle.field.specs.Digits.{digitsFault}
 use Rattle.field.specs.Text.{blank, textFault, filledFault, part}
+use Rattle.file_record.specs.Names.Table
+use Rattle.file_record.specs.Names.Locality
 use Rattle.file_fault.specs.Fields.{Field, field, first, faultIn, unread, oneOf, keyFault}
 
 -- "type 1, key 8, date 8, time 6, letter 1, then by type"; the letter is B, C, D, I or a space
@@ -29,7 +31,7 @@ localityFields rec =
     field 45 unread
     ∷ field 30 filledFault
     ∷ field 35 textFault
-    ∷ field 35 (doubleFault (part rec 99 134))
+    ∷ field 35 (doubleFault (part rec Locality.dependent Locality.double))
     ∷ []
 
 -- "2 thoroughfare: name 60; 3 descriptor: text 20; 4 building name: text 50; 5 sub building name: text 30"
@@ -44,4 +46,4 @@ tableRest type rec =
 
 -- where the first fault of a table record stands
 unfoldable pub tableFault : List ℕ → ℕ
-tableFault rec = first (faultIn 0 tableHead rec) (faultIn 24 (tableRest (getD rec 0 0) rec) rec)
+tableFault rec = first (faultIn 0 tableHead rec) (faultIn Table.text (tableRest (getD rec Table.type 0) rec) rec)

@@ -1,136 +1,150 @@
-// What differs between the two formats. `kind` is 1 for a table file, and any other number for a point file.
+// What differs from kind to kind of file. A new kind is one more case here, as in `file::Kind` and `Formats.formatOf`.
+use file::Kind;
 use file::is_placed;
 use file_record::Point;
 use file_record::Table;
 ghost use mathlib.Core.Path.{_≡_};
-ghost use mathlib.Core.Bool.{true, _&&_, _||_};
-ghost use Prim.Native.Nat.{_+_, _-_, _*_, _≤_, _<_};
-ghost use lib.Dec.{eqb};
-ghost use lib.ListN.{length};
+ghost use mathlib.Core.Bool.{true};
+ghost use Prim.Native.Nat.{_+_, _≤_, _<_};
 ghost use Rattle.field.specs.Text.{part};
 ghost use Rattle.file_compare.specs.Order.{above};
-ghost use Rattle.file_ends.specs.Ends.{headerOk, trailerOk};
-ghost use Rattle.file.specs.Check.{records, whole, at};
+ghost use Rattle.file.specs.Check.{records, whole, at, higher, inSequence, inPlace};
 ghost use Rattle.file.specs.Formats.{formatOf};
 
+// The numbers of a format: the file to blame, the bytes of a record, the most records.
+pub struct Numbers {
+    pub file: usize,
+    pub width: usize,
+    pub limit: usize,
+}
+
+pub fn numbers_of(kind: Kind) -> Numbers
+    ensures file { λ r. ⌜ r .file ≡ formatOf kind .file ⌝ }
+    ensures width { λ r. ⌜ r .width ≡ formatOf kind .width ⌝ }
+    ensures limit { λ r. ⌜ r .limit ≡ formatOf kind .limit ⌝ }
+{
+    match kind {
+        Kind::Table => Numbers {
+            file: 1,
+            width: Table::WIDTH,
+            limit: 20000,
+        },
+        Kind::Points => Numbers {
+            file: 2,
+            width: Point::WIDTH,
+            limit: 20000,
+        },
+    }
+}
+
 // How many whole records a file has.
-pub fn records_in(kind: usize, file: &[u8]) -> usize
+pub fn records_in(kind: Kind, file: &[u8]) -> usize
     ensures { λ r. ⌜ r ≡ records (formatOf kind) (now (file .entry)) ⌝ }
 {
-    if kind == 1 {
-        file.len() / Table::WIDTH
-    } else {
-        file.len() / Point::WIDTH
-    }
+    let format = numbers_of(kind);
+    let width = format.width;
+    file.len() / width
 }
 
-// Whether no byte stands behind the last whole record.
-fn is_filled(kind: usize, file: &[u8]) -> bool
-    ensures { λ r. ⌜ r ≡ eqb (records (formatOf kind) (now (file .entry)) * formatOf kind .width) (length (now (file .entry))) ⌝ }
-{
-    if kind == 1 {
-        file.len() / Table::WIDTH * Table::WIDTH == file.len()
-    } else {
-        file.len() / Point::WIDTH * Point::WIDTH == file.len()
-    }
-}
-
-// Whether a file is 2 to 20,000 whole records.
-pub fn is_whole(kind: usize, file: &[u8]) -> bool
+// Whether a file is 2 records or more, as many as its format allows, and no byte stands behind them.
+pub fn is_whole(kind: Kind, file: &[u8]) -> bool
     ensures { λ r. ⌜ r ≡ whole (formatOf kind) (now (file .entry)) ⌝ }
 {
-    let n = records_in(kind, file);
-    is_filled(kind, file) & ((2 <= n) & (n <= 20000))
+    let format = numbers_of(kind);
+    let width = format.width;
+    let limit = format.limit;
+    let n = file.len() / width;
+    (n * width == file.len()) & ((2 <= n) & (n <= limit))
 }
 
-// Record `i`, counted from 0, as a part of the file.
-pub fn record_of(kind: usize, file: &[u8], i: usize) -> &[u8]
-    ensures { λ r. ⌜ now r ≡ at (formatOf kind) (now (file .entry)) i ⌝ }
-{
-    if kind == 1 {
-        file_record::table_record(file, i)
-    } else {
-        file_record::point_record(file, i)
-    }
-}
-
-// The same of a record that the file has: its length is not asked again.
-pub fn record_in(kind: usize, file: &[u8], i: usize) -> &[u8]
+// Record `i`, counted from 0, as a part of the file. The width is a constant in each case, so that a record's length is
+// known when this is compiled.
+pub fn record_in(kind: Kind, file: &[u8], i: usize) -> &[u8]
     requires { ⌜ i < records (formatOf kind) (now file) ⌝ }
     ensures { λ r. ⌜ now r ≡ at (formatOf kind) (now (file .entry)) i ⌝ }
 {
-    if kind == 1 {
-        file_record::whole_record(file, Table::WIDTH, i)
-    } else {
-        file_record::whole_record(file, Point::WIDTH, i)
+    match kind {
+        Kind::Table => file_record::whole_record(file, Table::WIDTH, i),
+        Kind::Points => file_record::whole_record(file, Point::WIDTH, i),
     }
 }
 
-pub fn is_header(kind: usize, rec: &[u8]) -> bool
-    ensures { λ r. ⌜ r ≡ headerOk (formatOf kind .identifier) (formatOf kind .name) (now (rec .entry)) ⌝ }
+pub fn is_header(kind: Kind, rec: &[u8]) -> bool
+    ensures { λ r. ⌜ r ≡ formatOf kind .headed (now (rec .entry)) ⌝ }
 {
-    if kind == 1 {
-        file_ends::header_ok(rec, Table::IDENTIFIER, b"CHANGES1")
-    } else {
-        file_ends::header_ok(rec, Point::IDENTIFIER, b"CHANGES2")
+    match kind {
+        Kind::Table => file_ends::header_ok(rec, Table::IDENTIFIER, b"CHANGES1"),
+        Kind::Points => file_ends::header_ok(rec, Point::IDENTIFIER, b"CHANGES2"),
     }
 }
 
-pub fn is_trailer(kind: usize, rec: &[u8], n: usize) -> bool
-    ensures { λ r. ⌜ r ≡ trailerOk (formatOf kind .identifier) n (now (rec .entry)) ⌝ }
+// Whether a record is the trailer of `n` records.
+pub fn is_trailer(kind: Kind, rec: &[u8], n: usize) -> bool
+    ensures { λ r. ⌜ r ≡ formatOf kind .ended n (now (rec .entry)) ⌝ }
 {
-    if kind == 1 {
-        file_ends::trailer_ok(rec, Table::IDENTIFIER, n)
-    } else {
-        file_ends::trailer_ok(rec, Point::IDENTIFIER, n)
+    match kind {
+        Kind::Table => file_ends::trailer_ok(rec, Table::IDENTIFIER, n),
+        Kind::Points => file_ends::trailer_ok(rec, Point::IDENTIFIER, n),
     }
 }
 
 // The byte at which a record's first fault stands.
-pub fn fault_in(kind: usize, rec: &[u8]) -> usize
+pub fn fault_in(kind: Kind, rec: &[u8]) -> usize
     ensures { λ r. ⌜ r ≡ formatOf kind .fault (now (rec .entry)) ⌝ }
 {
-    if kind == 1 {
-        changes_table::table_fault(rec)
-    } else {
-        changes_points::point_fault(rec)
+    match kind {
+        Kind::Table => changes_table::table_fault(rec),
+        Kind::Points => changes_points::point_fault(rec),
     }
 }
 
 // Whether a record is known to have no fault: this looks for no place. The one before it has none where that is `known`.
-pub fn is_fine(kind: usize, before: &[u8], rec: &[u8], known: bool) -> bool
+pub fn is_fine(kind: Kind, before: &[u8], rec: &[u8], known: bool) -> bool
     requires { ⌜ (known ≡ true → formatOf kind .fault (now before) ≡ 0) ⌝ }
     ensures { λ r. ⌜ (r ≡ true → formatOf kind .fault (now (rec .entry)) ≡ 0) ⌝ }
 {
-    if kind == 1 {
-        changes_table::is_fine(rec)
-    } else {
-        changes_points::is_fine(before, rec, known)
+    match kind {
+        Kind::Table => changes_table::is_fine(rec),
+        Kind::Points => changes_points::is_fine(before, rec, known),
     }
 }
 
-fn sequence_of(kind: usize) -> usize
-    ensures { λ r. ⌜ r ≡ formatOf kind .sequence ⌝ }
+// Whether the first `n` bytes of a record are above those of the one before.
+fn is_front_above(n: usize, before: &[u8], rec: &[u8]) -> bool
+    ensures { λ r. ⌜ r ≡ above (part (now (rec .entry)) 0 n) (part (now (before .entry)) 0 n) ⌝ }
 {
-    if kind == 1 { Table::TEXT } else { Point::REST }
-}
-
-// Whether record `i` is above the one before it; the first behind the header has none before it.
-pub fn is_above(kind: usize, i: usize, before: &[u8], rec: &[u8]) -> bool
-    ensures { λ r. ⌜ r ≡ (eqb i 1 || above (part (now (rec .entry)) 0 (formatOf kind .sequence)) (part (now (before .entry)) 0 (formatOf kind .sequence))) ⌝ }
-{
-    let n = sequence_of(kind);
     let order = file_compare::order_of(
         file_record::part_of(rec, 0, n),
         file_record::part_of(before, 0, n),
     );
-    (i == 1) | (order == 2)
+    order == 2
+}
+
+// Whether what the sequence compares of a record is above that of the one before.
+fn is_higher(kind: Kind, before: &[u8], rec: &[u8]) -> bool
+    ensures { λ r. ⌜ r ≡ higher (formatOf kind) (now (before .entry)) (now (rec .entry)) ⌝ }
+{
+    match kind {
+        Kind::Table => is_front_above(Table::TEXT, before, rec),
+        Kind::Points => is_front_above(Point::REST, before, rec),
+    }
+}
+
+// Whether record `i` is above the one before it; the first behind the header has none before it.
+pub fn is_above(kind: Kind, i: usize, before: &[u8], rec: &[u8]) -> bool
+    ensures { λ r. ⌜ r ≡ inSequence (formatOf kind) i (now (before .entry)) (now (rec .entry)) ⌝ }
+{
+    let higher = is_higher(kind, before, rec);
+    (i == 1) | higher
 }
 
 // Whether record `i` may stand between its neighbours.
-pub fn is_between(kind: usize, file: &[u8], i: usize) -> bool
+pub fn is_between(kind: Kind, file: &[u8], i: usize) -> bool
     requires { ⌜ (1 ≤ i) × (i + 1 < records (formatOf kind) (now file)) ⌝ }
-    ensures { λ r. ⌜ r ≡ formatOf kind .between (at (formatOf kind) (now (file .entry)) (i - 1)) (at (formatOf kind) (now (file .entry)) i) (at (formatOf kind) (now (file .entry)) (i + 1)) ⌝ }
+    ensures { λ r. ⌜ r ≡ inPlace (formatOf kind) (now (file .entry)) i ⌝ }
 {
-    if kind == 1 { true } else { is_placed(file, i) }
+    match kind {
+        Kind::Table => true,
+        Kind::Points => is_placed(file, i),
+    }
 }

@@ -8,6 +8,8 @@ ghost use Prim.Native.Nat.{_+_, _*_, _/_, _<_, _≤_};
 ghost use lib.ListN.{length, getD};
 ghost use Rattle.field.specs.Text.{part};
 ghost use Rattle.file_record.specs.Parts.{recordAt};
+ghost use Rattle.file_record.specs.Names.Table.{width as tableWidth};
+ghost use Rattle.file_record.specs.Names.Point.{width as pointWidth};
 
 // The bytes from `start` up to `end`, as a part of the record.
 pub fn part_of(rec: &[u8], start: usize, end: usize) -> &[u8]
@@ -28,7 +30,7 @@ pub fn whole_record(file: &[u8], width: usize, i: usize) -> &[u8]
 
 // Record `i` of a table file, counted from 0, as a part of the file; no bytes where there is none.
 pub fn table_record(file: &[u8], i: usize) -> &[u8]
-    ensures { λ r. ⌜ now r ≡ recordAt 169 (now (file .entry)) i ⌝ }
+    ensures { λ r. ⌜ now r ≡ recordAt tableWidth (now (file .entry)) i ⌝ }
 {
     if i < file.len() / Table::WIDTH {
         whole_record(file, Table::WIDTH, i)
@@ -39,7 +41,7 @@ pub fn table_record(file: &[u8], i: usize) -> &[u8]
 
 // Record `i` of a point file, counted from 0, as a part of the file; no bytes where there is none.
 pub fn point_record(file: &[u8], i: usize) -> &[u8]
-    ensures { λ r. ⌜ now r ≡ recordAt 168 (now (file .entry)) i ⌝ }
+    ensures { λ r. ⌜ now r ≡ recordAt pointWidth (now (file .entry)) i ⌝ }
 {
     if i < file.len() / Point::WIDTH {
         whole_record(file, Point::WIDTH, i)

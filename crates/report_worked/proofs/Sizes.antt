@@ -18,9 +18,8 @@ use Rattle.refusal.proofs.Lossless.{number-to-12}
 use Rattle.refusal.specs.Refusal.{number, detail, second}
 use Rattle.refusal.specs.declared.Verdict.{Verdict}
 use Rattle.refusal.specs.declared.Verdict.the-variants.{Fine, Bad}
-use Rattle.file_ends.specs.Ends.{headerOk, trailerOk}
 use Rattle.file_fault.proofs.Bounds.{table-bound, point-bound}
-use Rattle.file.specs.Check.{Format, records, whole as whole-records, at, rises, judged, scan, verdict, answered, checked}
+use Rattle.file.specs.Check.{Format, records, whole as whole-records, at, rises, inPlace, judged, scan, verdict, answered, checked}
 use Rattle.refusal.specs.Verdict.{orElse}
 use Rattle.file.specs.Formats.{tableFormat, pointFormat}
 use Rattle.file.proofs.Accepted.{Accepted, accepted}
@@ -84,7 +83,7 @@ module _ (f : Format) (near : (rec : List ℕ) → f .fault rec ≤ 170) (file :
   unfolding judged
   judged-below i h =
       below-three n (eqb (f .fault (at f file i)) 0) (rises f file i)
-      (f .between (at f file (i - 1)) (at f file i) (at f file (i + 1)))
+      (inPlace f file i)
       (Follower (i + 1))
       (NotAbove (i + 1))
       (Malformed (i + 1) (f .fault (at f file i)))
@@ -101,8 +100,8 @@ module _ (f : Format) (near : (rec : List ℕ) → f .fault rec ≤ 170) (file :
   verdict-below : records f file ≤ n → 1 ≤ n → Below n (verdict f file)
   unfolding verdict
   verdict-below h k =
-      below-ends n (whole-records f file) (headerOk (f .identifier) (f .name) (at f file 0))
-      (trailerOk (f .identifier) (records f file) (at f file (records f file - 1)))
+      below-ends n (whole-records f file) (f .headed (at f file 0))
+      (f .ended (records f file) (at f file (records f file - 1)))
       (scan (judged f file) (records f file - 2) 1)
       (records f file)
       (scan-below (records f file - 2) 1 (omega arith))

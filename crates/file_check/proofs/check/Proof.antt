@@ -6,6 +6,9 @@ use Rattle.file.specs.Formats.{formatOf}
 use Rattle.file_check.proofs.check.Statement.{statement}
 use Rattle.file_check.proofs.check.Tie as tie
 
+numbers-of-requires : tie.Need-numbers-of-requires
+numbers-of-requires c κs = search needs
+
 verdict-of-requires : tie.Need-verdict-of-requires
 verdict-of-requires c κs = search needs
 
@@ -22,7 +25,7 @@ returns : tie.Need-returns
 unfolding checked
 returns c =
     let v = c .before .before .before in
-    let a = v .before .before .args in
+    let a = v .before .before .before .args in
     rw (c .records-in .ensures)
     (ap (answered (formatOf (a .kind)) (a .file .now)) (sym (sym (v .verdict-of .ensures) ∙ c .before .enum-told .given .1)))
 
@@ -30,14 +33,15 @@ returns-2 : tie.Need-returns-2
 unfolding checked
 returns-2 c =
     let v = c .before .before .before in
-    let s = v .before .before in
-    let a = s .args in
-    rw (s .pre) (ap (answered (formatOf (a .kind)) (a .file .now)) (sym (sym (v .verdict-of .ensures) ∙ c .before .reason .given .1)))
+    let n = v .before in
+    let a = n .before .before .args in
+    rw (n .numbers-of .ensures .0) (ap (answered (formatOf (a .kind)) (a .file .now)) (sym (sym (v .verdict-of .ensures) ∙ c .before .reason .given .1)))
 
 pub check-spec : {M : Type 1} → statement M
 check-spec =
     tie.close
     (tie.spec
+    numbers-of-requires
     verdict-of-requires
     enum-told
     records-in-requires

@@ -1,20 +1,19 @@
--- `file_check::scan_records` meets its contract. Assumes nothing.
+-- `file_check::scan_records` meets its contract: up to i every record is fine, and the first that is not ends the walk.
+-- Assumes nothing.
 use borrow.Author.Needs.{needs}
-use Prim.Native.Nat.{_+_, _-_, _≤_}
+use Prim.Native.Nat.{_+_, _-_}
 use mathlib.Core.Path.{_≡_, refl, sym, ap, _∙_}
 use native.Mathlib.Omega.{arith}
 use Rattle.file.specs.Check.{judged, scan}
 use Rattle.file.specs.Formats.{formatOf}
-use Rattle.file.proofs.Laws.{scan-step, scan-stop, scan-end}
-use Rattle.file_check.specs.Scanning.{Scanning}
-use Rattle.file_check.proofs.Laws.{scanning-first, scanning-next}
+use Rattle.file.proofs.Laws.{scan-stop, scan-end}
+use Rattle.file_check.specs.Scanning.{Onward}
+use Rattle.file_check.proofs.Laws.{scanning-first, onward-next, onward-on}
 use Rattle.file_check.proofs.scan_records.Statement.{statement}
 use Rattle.file_check.proofs.scan_records.Tie as tie
 
 abbrev Inv-loop : tie.InvT-loop
-Inv-loop kind file n i₀ i =
-    Scanning (formatOf kind) file n i
-    × (scan (judged (formatOf kind) file) (n - 2) 1 ≡ scan (judged (formatOf kind) file) (n - 1 - i) i)
+Inv-loop kind file n i₀ i = Onward (formatOf kind) file n 1 i
 
 abbrev μ-loop : tie.MeasureT-loop
 μ-loop kind file n i₀ i = n - 1 - i
@@ -28,19 +27,14 @@ standing-requires c κs =
     rw (c .fresh .ensures) (scanning-first (formatOf (s .args .kind)) (s .args .file .now) (s .args .n) (s .pre .0) (s .pre .1) (s .pre .2))
 
 loop-holds : tie.Need-loop-holds Inv-loop μ-loop
-loop-holds c =
-    let f = c .before in
-    let a = f .before .before .args in
-    let size : a .n - 2 ≡ a .n - 1 - 1 = omega arith in
-    let on = rw (f .fresh .ensures) at (c .standing .ensures) in
-    (on .1, ap (λ k. scan (judged (formatOf (a .kind)) (a .file .now)) k 1) size ∙ on .2)
+loop-holds c = rw (c .before .fresh .ensures) at (c .standing .ensures)
 
 sub-loop : tie.Need-sub-loop Inv-loop μ-loop
-sub-loop c = omega (arith, c .loop .inv .0 .two)
+sub-loop c = omega (arith, c .loop .inv .reached .two)
 
 judge-requires : tie.Need-judge-requires Inv-loop μ-loop
 judge-requires c κs =
-    let s = c .before .loop .inv .0 in
+    let s = c .before .loop .inv .reached in
     (s .low, omega (arith, s .all), omega (arith, s .few))
 
 enum-told : tie.Need-enum-told Inv-loop μ-loop
@@ -55,10 +49,12 @@ returns c =
     let j = w .before .before in
     let l = j .before .before in
     let a = l .before .before .before .before .args in
+    let judge = judged (formatOf (a .kind)) (a .file .now) in
+    let size : a .n - 2 ≡ a .n - 1 - 1 = omega arith in
     sym
-    (l .loop .inv .1
-    ∙ scan-stop (judged (formatOf (a .kind)) (a .file .now)) (a .n - 1) (l .loop .i) (omega arith) (w .why .given .0 .0)
-    (sym (j .judge .ensures) ∙ w .why .given .1))
+    (ap (λ k. scan judge k 1) size
+    ∙ (l .loop .inv .found
+    ∙ scan-stop judge (a .n - 1) (l .loop .i) (omega arith) (w .why .given .0 .0) (sym (j .judge .ensures) ∙ w .why .given .1)))
 
 add-standing : tie.Need-add-standing Inv-loop μ-loop
 add-standing c = search needs
@@ -68,31 +64,33 @@ standing-requires-2 c κs =
     let j = c .before .before in
     let l = j .before .before in
     let a = l .before .before .before .before .args in
-    scanning-next (formatOf (a .kind)) (a .file .now) (a .n) (l .loop .i) (l .loop .inv .0) (omega arith)
+    onward-next (formatOf (a .kind)) (a .file .now) (a .n) 1 (l .loop .i) (l .loop .inv) (omega arith)
     (sym (j .judge .ensures) ∙ c .enum-told .given .1)
+    .reached
 
 loop-less : tie.Need-loop-less Inv-loop μ-loop
-loop-less c = omega (arith, c .standing2 .ensures .0)
+loop-less c = omega (arith, c .standing2 .ensures .on)
 
 loop-again : tie.Need-loop-again Inv-loop μ-loop
 loop-again c =
     let t = c .before in
     let j = t .before .before in
     let l = j .before .before in
-    let a = l .before .before .before .before .args in (
-      c .standing2 .ensures .1,
-      l .loop .inv .1
-          ∙ (scan-step (judged (formatOf (a .kind)) (a .file .now)) (a .n - 1) (l .loop .i) (omega arith)
-          (sym (j .judge .ensures) ∙ t .enum-told .given .1)
-          ∙ c .standing2 .ensures .2),
-    )
+    let a = l .before .before .before .before .args in
+    let f = formatOf (a .kind) in
+    let i = l .loop .i in
+    onward-on f (a .file .now) (a .n) 1 (i + 1) (c .standing2 .result)
+    (onward-next f (a .file .now) (a .n) 1 i (l .loop .inv) (omega arith) (sym (j .judge .ensures) ∙ t .enum-told .given .1))
+    (c .standing2 .ensures)
 
 returns-2 : tie.Need-returns-2 Inv-loop μ-loop
 returns-2 c =
     let l = c .before in
     let a = l .before .before .before .before .args in
+    let judge = judged (formatOf (a .kind)) (a .file .now) in
+    let size : a .n - 2 ≡ a .n - 1 - 1 = omega arith in
     sym
-    (l .loop .inv .1 ∙ scan-end (judged (formatOf (a .kind)) (a .file .now)) (a .n - 1) (l .loop .i) (omega arith))
+    (ap (λ k. scan judge k 1) size ∙ (l .loop .inv .found ∙ scan-end judge (a .n - 1) (l .loop .i) (omega arith)))
 
 pub scan-records-spec : {M : Type 1} → statement M
 scan-records-spec =

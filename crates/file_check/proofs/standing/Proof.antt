@@ -1,34 +1,30 @@
--- `file_check::standing` meets its contract. Assumes nothing.
+-- `file_check::standing` meets its contract: up to i every record is fine, since each was asked. Assumes nothing.
 use borrow.Author.Needs.{needs}
-use Prim.Native.Nat.{_-_, _≤_}
-use mathlib.Core.Path.{_≡_, refl, sym, ap, _∙_}
+use Prim.Native.Nat.{_-_}
 use native.Mathlib.Omega.{arith}
 use borrow.Author.Tests.{not-false}
-use Rattle.file.specs.Check.{judged, scan}
 use Rattle.file.specs.Formats.{formatOf}
-use Rattle.file.proofs.Laws.{scan-step}
-use Rattle.file_check.specs.Scanning.{Scanning}
-use Rattle.file_check.proofs.Laws.{scanning-next}
+use Rattle.file_check.specs.Scanning.{Onward}
+use Rattle.file_check.proofs.Laws.{onward-none, onward-next}
 use Rattle.file_check.proofs.standing.Statement.{statement}
 use Rattle.file_check.proofs.standing.Tie as tie
 
 abbrev Inv-loop : tie.InvT-loop
-Inv-loop kind file n from i₀ i =
-    (from ≤ i)
-    × Scanning (formatOf kind) file n i
-    × (scan (judged (formatOf kind) file) (n - 1 - from) from ≡ scan (judged (formatOf kind) file) (n - 1 - i) i)
+Inv-loop kind file n from i₀ i = Onward (formatOf kind) file n from i
 
 abbrev μ-loop : tie.MeasureT-loop
 μ-loop kind file n from i₀ i = n - 1 - i
 
 loop-holds : tie.Need-loop-holds Inv-loop μ-loop
-loop-holds c = (omega arith, c .before .pre, refl)
+loop-holds c =
+    let s = c .before in
+    onward-none (formatOf (s .args .kind)) (s .args .file .now) (s .args .n) (s .args .from) (s .pre)
 
 sub-loop : tie.Need-sub-loop Inv-loop μ-loop
-sub-loop c = omega (arith, c .loop .inv .1 .two)
+sub-loop c = omega (arith, c .loop .inv .reached .two)
 
 stands-requires : tie.Need-stands-requires Inv-loop μ-loop
-stands-requires c κs = (c .before .loop .inv .1, omega arith)
+stands-requires c κs = (c .before .loop .inv .reached, omega arith)
 
 returns : tie.Need-returns Inv-loop μ-loop
 returns c = c .before .before .before .loop .inv
@@ -44,12 +40,8 @@ loop-again c =
     let s = c .before in
     let l = s .before .before in
     let a = l .before .before .args in
-    let fine = s .stands .ensures (not-false _ (c .if1 .left)) in (
-      omega (arith, l .loop .inv .0),
-      scanning-next (formatOf (a .kind)) (a .file .now) (a .n) (l .loop .i) (l .loop .inv .1) (omega arith) fine,
-      l .loop .inv .2
-          ∙ scan-step (judged (formatOf (a .kind)) (a .file .now)) (a .n - 1) (l .loop .i) (omega arith) fine,
-    )
+    onward-next (formatOf (a .kind)) (a .file .now) (a .n) (a .from) (l .loop .i) (l .loop .inv) (omega arith)
+    (s .stands .ensures (not-false _ (c .if1 .left)))
 
 returns-2 : tie.Need-returns-2 Inv-loop μ-loop
 returns-2 c = c .before .loop .inv

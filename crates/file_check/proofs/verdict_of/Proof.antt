@@ -4,7 +4,7 @@ use mathlib.Core.Path.{_≡_, refl, sym, ap, _∙_}
 use native.Mathlib.Omega.{arith}
 use borrow.Author.Tests.{not-true, not-false}
 use Rattle.file.specs.Formats.{formatOf}
-use Rattle.file.proofs.Laws.{limit-of, at-least-two, within-limit, verdict-length, verdict-header, verdict-trailer, verdict-scan}
+use Rattle.file.proofs.Laws.{limit-few, at-least-two, within-limit, verdict-length, verdict-header, verdict-trailer, verdict-scan}
 use Rattle.file_check.proofs.verdict_of.Statement.{statement}
 use Rattle.file_check.proofs.verdict_of.Tie as tie
 
@@ -20,8 +20,13 @@ returns c =
 records-in-requires : tie.Need-records-in-requires
 records-in-requires c κs = search needs
 
-record-of-requires : tie.Need-record-of-requires
-record-of-requires c κs = search needs
+record-in-requires : tie.Need-record-in-requires
+record-in-requires c κs =
+    let w₁ = c .before in
+    let w = w₁ .before in
+    let a = w .before .before .args in
+    let whole-file = sym (w .is-whole .ensures) ∙ not-false _ (w₁ .if1 .left) in
+    omega (arith, at-least-two (formatOf (a .kind)) (a .file .now) whole-file)
 
 is-header-requires : tie.Need-is-header-requires
 is-header-requires c κs = search needs
@@ -37,10 +42,10 @@ returns-2 c =
     let whole-file = sym (w .is-whole .ensures) ∙ not-false _ (w₁ .if1 .left) in
     sym
     (verdict-header (formatOf (a .kind)) (a .file .now) whole-file
-    (rw (r .record-of .ensures) at (sym (h .is-header .ensures) ∙ not-true _ (c .if2 .taken))))
+    (rw (r .record-in .ensures) at (sym (h .is-header .ensures) ∙ not-true _ (c .if2 .taken))))
 
-sub-record-of : tie.Need-sub-record-of
-sub-record-of c =
+sub-record-in : tie.Need-sub-record-in
+sub-record-in c =
     let n = c .before .before .before in
     let w₁ = n .before in
     let w = w₁ .before in
@@ -48,8 +53,14 @@ sub-record-of c =
     let whole-file = sym (w .is-whole .ensures) ∙ not-false _ (w₁ .if1 .left) in
     omega (arith, n .records-in .ensures, at-least-two (formatOf (a .kind)) (a .file .now) whole-file)
 
-record-of-requires-2 : tie.Need-record-of-requires-2
-record-of-requires-2 c κs = search needs
+record-in-requires-2 : tie.Need-record-in-requires-2
+record-in-requires-2 c κs =
+    let n = c .before .before .before in
+    let w₁ = n .before in
+    let w = w₁ .before in
+    let a = w .before .before .args in
+    let whole-file = sym (w .is-whole .ensures) ∙ not-false _ (w₁ .if1 .left) in
+    omega (arith, n .records-in .ensures, at-least-two (formatOf (a .kind)) (a .file .now) whole-file)
 
 is-trailer-requires : tie.Need-is-trailer-requires
 is-trailer-requires c κs = search needs
@@ -66,11 +77,11 @@ returns-3 c =
     let w = w₁ .before in
     let a = w .before .before .args in
     let whole-file = sym (w .is-whole .ensures) ∙ not-false _ (w₁ .if1 .left) in
-    let headed = rw (r .record-of .ensures) at (sym (h .is-header .ensures) ∙ not-false _ (h₁ .if2 .left)) in
+    let headed = rw (r .record-in .ensures) at (sym (h .is-header .ensures) ∙ not-false _ (h₁ .if2 .left)) in
     rw (n .records-in .ensures)
     (sym
     (verdict-trailer (formatOf (a .kind)) (a .file .now) whole-file headed
-    (rw (l .record-of2 .ensures, n .records-in .ensures) at (sym (e .is-trailer .ensures) ∙ not-true _ (c .if3 .taken)))))
+    (rw (l .record-in2 .ensures, n .records-in .ensures) at (sym (e .is-trailer .ensures) ∙ not-true _ (c .if3 .taken)))))
 
 scan-records-requires : tie.Need-scan-records-requires
 scan-records-requires c κs =
@@ -80,7 +91,7 @@ scan-records-requires c κs =
     let a = w .before .before .args in
     let whole-file = sym (w .is-whole .ensures) ∙ not-false _ (w₁ .if1 .left) in
     rw (n .records-in .ensures)
-    (at-least-two (formatOf (a .kind)) (a .file .now) whole-file, omega (arith, within-limit (formatOf (a .kind)) (a .file .now) whole-file, limit-of (a .kind)), refl)
+    (at-least-two (formatOf (a .kind)) (a .file .now) whole-file, omega (arith, within-limit (formatOf (a .kind)) (a .file .now) whole-file, limit-few (a .kind)), refl)
 
 returns-4 : tie.Need-returns-4
 returns-4 c =
@@ -95,11 +106,11 @@ returns-4 c =
     let w = w₁ .before in
     let a = w .before .before .args in
     let whole-file = sym (w .is-whole .ensures) ∙ not-false _ (w₁ .if1 .left) in
-    let headed = rw (r .record-of .ensures) at (sym (h .is-header .ensures) ∙ not-false _ (h₁ .if2 .left)) in
+    let headed = rw (r .record-in .ensures) at (sym (h .is-header .ensures) ∙ not-false _ (h₁ .if2 .left)) in
     rw (c .scan-records .ensures, n .records-in .ensures)
     (sym
     (verdict-scan (formatOf (a .kind)) (a .file .now) whole-file headed
-    (rw (l .record-of2 .ensures, n .records-in .ensures) at (sym (e .is-trailer .ensures) ∙ not-false _ (e₁ .if3 .left)))))
+    (rw (l .record-in2 .ensures, n .records-in .ensures) at (sym (e .is-trailer .ensures) ∙ not-false _ (e₁ .if3 .left)))))
 
 pub verdict-of-spec : {M : Type 1} → statement M
 verdict-of-spec =
@@ -108,11 +119,11 @@ verdict-of-spec =
     is-whole-requires
     returns
     records-in-requires
-    record-of-requires
+    record-in-requires
     is-header-requires
     returns-2
-    sub-record-of
-    record-of-requires-2
+    sub-record-in
+    record-in-requires-2
     is-trailer-requires
     returns-3
     scan-records-requires

@@ -1,20 +1,25 @@
 -- `file_formats::inner::is_whole` meets its contract. Assumes nothing.
 use borrow.Author.Needs.{needs}
-use mathlib.Core.Path.{_≡_, refl, sym, ap, _∙_}
-use Rattle.file.proofs.Laws.{limit-of}
+use native.Mathlib.Omega.{arith}
+use native.Mathlib.Nat.{div-mul-le-self}
+use lib.ListN.{length}
+use Rattle.file.proofs.Laws.{width-some}
 use Rattle.file_formats.proofs.inner.is_whole.Statement.{statement}
 use Rattle.file_formats.proofs.inner.is_whole.Tie as tie
 
-records-in-requires : tie.Need-records-in-requires
-records-in-requires c κs = search needs
+numbers-of-requires : tie.Need-numbers-of-requires
+numbers-of-requires c κs = search needs
 
-is-filled-requires : tie.Need-is-filled-requires
-is-filled-requires c κs = search needs
+div-n : tie.Need-div-n
+div-n c = rw (c .numbers-of .ensures .1 .0) (width-some (c .before .before .args .kind))
+
+mul-result : tie.Need-mul-result
+mul-result c =
+    let file = c .before .before .args .file .now in
+    record { fits = omega (arith, div-mul-le-self (length file) (c .numbers-of .result .width)) }
 
 returns : tie.Need-returns
-returns c =
-    let f = c .before in
-    rw (c .is-filled .ensures, f .records-in .ensures, limit-of (f .before .before .args .kind))
+returns c = rw (c .numbers-of .ensures .1 .0, c .numbers-of .ensures .1 .1)
 
 pub is-whole-spec : {M : Type 1} → statement M
-is-whole-spec = tie.close (tie.spec records-in-requires is-filled-requires returns)
+is-whole-spec = tie.close (tie.spec numbers-of-requires div-n mul-result returns)

@@ -2,29 +2,43 @@
 use borrow.Author.Needs.{needs}
 use Prim.Native.Nat.{_<_, _/_}
 use native.Mathlib.Omega.{arith}
-use borrow.Author.Tests.{eq-eqb, ne-eqb}
 use lib.ListN.{length}
+use Rattle.file_record.specs.Names.Table
+use Rattle.file_record.specs.Names.Point
 use Rattle.file_formats.proofs.inner.record_in.Statement.{statement}
 use Rattle.file_formats.proofs.inner.record_in.Tie as tie
 
+enum-told : tie.Need-enum-told
+enum-told c = search needs
+
 whole-record-requires : tie.Need-whole-record-requires
 whole-record-requires c κs =
-    let s = c .before .before in
-    let has : s .args .i < length (s .args .file .now) / 169 = simp (eq-eqb _ 1 (c .if1 .taken)) at (s .pre) in
+    let s = c .before .before .before in
+    let has : s .args .i < length (s .args .file .now) / Table.width = rw (c .enum-told .given .1) at (s .pre) in
     (has, omega arith)
+
+enum-told-2 : tie.Need-enum-told-2
+enum-told-2 c = search needs
 
 whole-record-requires-2 : tie.Need-whole-record-requires-2
 whole-record-requires-2 c κs =
-    let s = c .before .before in
-    let has : s .args .i < length (s .args .file .now) / 168 = simp (ne-eqb _ 1 (c .if1 .left)) at (s .pre) in
+    let s = c .before .before .before in
+    let has : s .args .i < length (s .args .file .now) / Point.width = rw (c .enum-told2 .given .1) at (s .pre) in
     (has, omega arith)
 
 returns : tie.Need-returns
-returns c = rw (c .whole-record .ensures) (simp (eq-eqb _ 1 (c .before .if1 .taken)))
+returns c = rw (c .before .enum-told .given .1) (c .whole-record .ensures)
 
 returns-2 : tie.Need-returns-2
-returns-2 c = rw (c .whole-record2 .ensures) (simp (ne-eqb _ 1 (c .before .if1 .left)))
+returns-2 c = rw (c .before .enum-told2 .given .1) (c .whole-record2 .ensures)
 
 pub record-in-spec : {M : Type 1} → statement M
 record-in-spec =
-    tie.close (tie.spec whole-record-requires whole-record-requires-2 returns returns-2)
+    tie.close
+    (tie.spec
+    enum-told
+    whole-record-requires
+    enum-told-2
+    whole-record-requires-2
+    returns
+    returns-2)

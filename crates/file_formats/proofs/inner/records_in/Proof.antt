@@ -1,13 +1,17 @@
 -- `file_formats::inner::records_in` meets its contract. Assumes nothing.
-use borrow.Author.Tests.{eq-eqb, ne-eqb}
+use borrow.Author.Needs.{needs}
+use Rattle.file.proofs.Laws.{width-some}
 use Rattle.file_formats.proofs.inner.records_in.Statement.{statement}
 use Rattle.file_formats.proofs.inner.records_in.Tie as tie
 
-returns : tie.Need-returns
-returns c = simp (eq-eqb _ 1 (c .if1 .taken))
+numbers-of-requires : tie.Need-numbers-of-requires
+numbers-of-requires c κs = search needs
 
-returns-2 : tie.Need-returns-2
-returns-2 c = simp (ne-eqb _ 1 (c .if1 .left))
+div-result : tie.Need-div-result
+div-result c = rw (c .numbers-of .ensures .1 .0) (width-some (c .before .before .args .kind))
+
+returns : tie.Need-returns
+returns c = rw (c .numbers-of .ensures .1 .0)
 
 pub records-in-spec : {M : Type 1} → statement M
-records-in-spec = tie.close (tie.spec returns returns-2)
+records-in-spec = tie.close (tie.spec numbers-of-requires div-result returns)
