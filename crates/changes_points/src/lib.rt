@@ -1,5 +1,6 @@
 // The records of a point file between header and trailer.
 mod fine;
+pub mod inner;
 
 use file_fault::inner::byte_fault;
 use file_fault::inner::digits_at;
@@ -13,7 +14,6 @@ use file_record::Organisation;
 use file_record::Point;
 use file_record::View;
 use file_record::byte_of;
-pub use fine::is_fine;
 ghost use mathlib.Core.Path.{_≡_};
 ghost use mathlib.Core.List.{[], _∷_};
 ghost use lib.ListN.{getD};

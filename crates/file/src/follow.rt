@@ -59,12 +59,12 @@ pub fn is_placed(file: &[u8], i: usize) -> bool
     requires { ⌜ (1 ≤ i) × (i + 1 < length (now file) / width) ⌝ }
     ensures { λ r. ⌜ r ≡ placedAt (now (file .entry)) i ⌝ }
 {
-    let rec = file_record::whole_record(file, Point::WIDTH, i);
+    let rec = file_record::inner::whole_record(file, Point::WIDTH, i);
     let own = file_record::byte_of(rec, Point::TYPE) == b'1';
     let place = owner_of(own, i);
-    let owner = file_record::whole_record(file, Point::WIDTH, place);
+    let owner = file_record::inner::whole_record(file, Point::WIDTH, place);
     let need = needed_next(owner);
-    let next = file_record::whole_record(file, Point::WIDTH, place + 1);
+    let next = file_record::inner::whole_record(file, Point::WIDTH, place + 1);
     let followed = is_follower(need, owner, next);
     (own & (need == 0)) | followed
 }

@@ -1,6 +1,6 @@
 // What differs from kind to kind of file. A new kind is one more case here, as in `file::Kind` and `Formats.formatOf`.
 use file::Kind;
-use file::is_placed;
+use file::inner::is_placed;
 use file_record::Point;
 use file_record::Table;
 ghost use mathlib.Core.Path.{_≡_};
@@ -64,8 +64,8 @@ pub fn record_in(kind: Kind, file: &[u8], i: usize) -> &[u8]
     ensures { λ r. ⌜ now r ≡ at (formatOf kind) (now (file .entry)) i ⌝ }
 {
     match kind {
-        Kind::Table => file_record::whole_record(file, Table::WIDTH, i),
-        Kind::Points => file_record::whole_record(file, Point::WIDTH, i),
+        Kind::Table => file_record::inner::whole_record(file, Table::WIDTH, i),
+        Kind::Points => file_record::inner::whole_record(file, Point::WIDTH, i),
     }
 }
 
@@ -105,7 +105,7 @@ pub fn is_fine(kind: Kind, before: &[u8], rec: &[u8], known: bool) -> bool
 {
     match kind {
         Kind::Table => changes_table::is_fine(rec),
-        Kind::Points => changes_points::is_fine(before, rec, known),
+        Kind::Points => changes_points::inner::is_fine(before, rec, known),
     }
 }
 

@@ -1,2 +1,2 @@
-// The two formats, told by a number: the tests that the check of a file goes through.
+// The kinds of file, each with the numbers and the tests that the check of a file goes through.
 pub mod inner;

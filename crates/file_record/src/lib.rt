@@ -1,4 +1,5 @@
 // The records of a table file and of a point file: where each field stands, and how a record is read as a part of its file.
+pub mod inner;
 mod layout;
 mod parts;
 
@@ -12,4 +13,3 @@ pub use parts::byte_of;
 pub use parts::part_of;
 pub use parts::point_record;
 pub use parts::table_record;
-pub use parts::whole_record;
