@@ -8,3 +8,4 @@ pub mod Split
 pub mod Examples
 pub mod Room
 pub mod Going
+pub mod Walk

@@ -6,24 +6,6 @@ use Rattle.field_outward.proofs.Codes.{third-on}
 use Rattle.field_outward.proofs.is_allowed.Statement.{statement}
 use Rattle.field_outward.proofs.is_allowed.Tie as tie
 
-slice-aggregate-is-marked : tie.Need-slice-aggregate-is-marked
-slice-aggregate-is-marked c = search needs
-
-is-marked-requires : tie.Need-is-marked-requires
-is-marked-requires c κs = search needs
-
-slice-aggregate-is-marked-2 : tie.Need-slice-aggregate-is-marked-2
-slice-aggregate-is-marked-2 c = search needs
-
-is-marked-requires-2 : tie.Need-is-marked-requires-2
-is-marked-requires-2 c κs = search needs
-
-slice-aggregate-is-marked-3 : tie.Need-slice-aggregate-is-marked-3
-slice-aggregate-is-marked-3 c = search needs
-
-is-marked-requires-3 : tie.Need-is-marked-requires-3
-is-marked-requires-3 c κs = search needs
-
 returns : tie.Need-returns
 unfolding allowed
 returns c =
@@ -46,13 +28,5 @@ returns-3 c =
 pub is-allowed-spec : {M : Type 1} → statement M
 is-allowed-spec =
     tie.close
-    (tie.spec
-    slice-aggregate-is-marked
-    is-marked-requires
-    slice-aggregate-is-marked-2
-    is-marked-requires-2
-    slice-aggregate-is-marked-3
-    is-marked-requires-3
-    returns
-    returns-2
-    returns-3)
+    (tie.spec (search needs) (search needs) (search needs) (search needs) (search needs) (search needs) returns
+    returns-2 returns-3)

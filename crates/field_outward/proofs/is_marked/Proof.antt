@@ -6,16 +6,10 @@ use Rattle.field.proofs.Tests.{range-low, range-high}
 use Rattle.field_outward.proofs.is_marked.Statement.{statement}
 use Rattle.field_outward.proofs.is_marked.Tie as tie
 
-is-letter-requires : tie.Need-is-letter-requires
-is-letter-requires c κs = search needs
-
 sub-result : tie.Need-sub-result
 sub-result c =
     let l = c .before in
     omega (arith, range-low 65 90 (l .before .before .args .b) (sym (l .is-letter .ensures) ∙ c .if1 .taken))
-
-cast-result : tie.Need-cast-result
-cast-result c = search needs
 
 shared-slice-read-result : tie.Need-shared-slice-read-result
 shared-slice-read-result c =
@@ -33,4 +27,6 @@ returns-2 : tie.Need-returns-2
 returns-2 c = simp (sym (c .before .is-letter .ensures) ∙ c .if1 .left)
 
 pub is-marked-spec : {M : Type 1} → statement M
-is-marked-spec = tie.close (tie.spec is-letter-requires sub-result cast-result shared-slice-read-result returns returns-2)
+is-marked-spec =
+    tie.close
+    (tie.spec (search needs) sub-result (search needs) shared-slice-read-result returns returns-2)

@@ -6,14 +6,8 @@ use Rattle.field_outward.proofs.Codes.{class-to-3, one-letter, two-lett
 use Rattle.field_outward.proofs.pattern_fault.Statement.{statement}
 use Rattle.field_outward.proofs.pattern_fault.Tie as tie
 
-class-of-requires : tie.Need-class-of-requires
-class-of-requires c κs = search needs
-
 mul-sequence : tie.Need-mul-sequence
 mul-sequence c = omega (arith, c .class-of .ensures, class-to-3 (c .before .args .a))
-
-class-of-requires-2 : tie.Need-class-of-requires-2
-class-of-requires-2 c κs = search needs
 
 mul-sequence-2 : tie.Need-mul-sequence-2
 mul-sequence-2 c = omega (arith, c .class-of2 .ensures, class-to-3 (c .before .before .args .b))
@@ -23,9 +17,6 @@ add-sequence c =
     let a = c .before .before .args in
     omega
     (arith, c .class-of2 .ensures, c .before .class-of .ensures, class-to-3 (a .a), class-to-3 (a .b))
-
-class-of-requires-3 : tie.Need-class-of-requires-3
-class-of-requires-3 c κs = search needs
 
 mul-sequence-3 : tie.Need-mul-sequence-3
 mul-sequence-3 c = omega (arith, c .class-of3 .ensures, class-to-3 (c .before .before .before .args .c))
@@ -43,9 +34,6 @@ add-sequence-2 c =
       class-to-3 (a .c),
     )
 
-class-of-requires-4 : tie.Need-class-of-requires-4
-class-of-requires-4 c κs = search needs
-
 add-sequence-3 : tie.Need-add-sequence-3
 add-sequence-3 c =
     let a = c .before .before .before .before .args in
@@ -60,45 +48,6 @@ add-sequence-3 c =
       class-to-3 (a .c),
       class-to-3 (a .d),
     )
-
-is-allowed-requires : tie.Need-is-allowed-requires
-is-allowed-requires c κs = search needs
-
-unless-requires : tie.Need-unless-requires
-unless-requires c κs = search needs
-
-is-allowed-requires-2 : tie.Need-is-allowed-requires-2
-is-allowed-requires-2 c κs = search needs
-
-unless-requires-2 : tie.Need-unless-requires-2
-unless-requires-2 c κs = search needs
-
-unless-requires-3 : tie.Need-unless-requires-3
-unless-requires-3 c κs = search needs
-
-is-allowed-requires-3 : tie.Need-is-allowed-requires-3
-is-allowed-requires-3 c κs = search needs
-
-unless-requires-4 : tie.Need-unless-requires-4
-unless-requires-4 c κs = search needs
-
-unless-requires-5 : tie.Need-unless-requires-5
-unless-requires-5 c κs = search needs
-
-is-allowed-requires-4 : tie.Need-is-allowed-requires-4
-is-allowed-requires-4 c κs = search needs
-
-is-allowed-requires-5 : tie.Need-is-allowed-requires-5
-is-allowed-requires-5 c κs = search needs
-
-unless-requires-6 : tie.Need-unless-requires-6
-unless-requires-6 c κs = search needs
-
-unless-requires-7 : tie.Need-unless-requires-7
-unless-requires-7 c κs = search needs
-
-unless-requires-8 : tie.Need-unless-requires-8
-unless-requires-8 c κs = search needs
 
 returns : tie.Need-returns
 returns c =
@@ -185,32 +134,7 @@ returns-5 c =
 pub pattern-fault-spec : {M : Type 1} → statement M
 pattern-fault-spec =
     tie.close
-    (tie.spec
-    class-of-requires
-    mul-sequence
-    class-of-requires-2
-    mul-sequence-2
-    add-sequence
-    class-of-requires-3
-    mul-sequence-3
-    add-sequence-2
-    class-of-requires-4
-    add-sequence-3
-    is-allowed-requires
-    unless-requires
-    is-allowed-requires-2
-    unless-requires-2
-    unless-requires-3
-    is-allowed-requires-3
-    unless-requires-4
-    unless-requires-5
-    is-allowed-requires-4
-    is-allowed-requires-5
-    unless-requires-6
-    unless-requires-7
-    unless-requires-8
-    returns
-    returns-2
-    returns-3
-    returns-4
-    returns-5)
+    (tie.spec (search needs) mul-sequence (search needs) mul-sequence-2 add-sequence (search needs) mul-sequence-3
+    add-sequence-2 (search needs) add-sequence-3 (search needs) (search needs) (search needs) (search needs)
+    (search needs) (search needs) (search needs) (search needs) (search needs) (search needs) (search needs)
+    (search needs) (search needs) returns returns-2 returns-3 returns-4 returns-5)

@@ -7,14 +7,8 @@ use Rattle.field.proofs.Tests.{range-low}
 use Rattle.field_read.proofs.digit_value.Statement.{statement}
 use Rattle.field_read.proofs.digit_value.Tie as tie
 
-is-digit-requires : tie.Need-is-digit-requires
-is-digit-requires c κs = search needs
-
 sub-result : tie.Need-sub-result
 sub-result c = range-low 48 57 (c .before .before .args .b) (sym (c .before .is-digit .ensures) ∙ c .if1 .taken)
-
-cast-result : tie.Need-cast-result
-cast-result c = search needs
 
 returns : tie.Need-returns
 unfolding digitValue
@@ -25,4 +19,5 @@ unfolding digitValue
 returns-2 c = simp (sym (c .before .is-digit .ensures) ∙ c .if1 .left)
 
 pub digit-value-spec : {M : Type 1} → statement M
-digit-value-spec = tie.close (tie.spec is-digit-requires sub-result cast-result returns returns-2)
+digit-value-spec =
+    tie.close (tie.spec (search needs) sub-result (search needs) returns returns-2)

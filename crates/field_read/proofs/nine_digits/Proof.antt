@@ -25,12 +25,6 @@ mul-v c =
     let l = c .before in
     omega (arith, power-small (l .loop .v) (l .loop .i) (l .loop .inv .1) (omega arith))
 
-shared-slice-read-digit-value : tie.Need-shared-slice-read-digit-value Inv-loop μ-loop
-shared-slice-read-digit-value c = search needs
-
-digit-value-requires : tie.Need-digit-value-requires Inv-loop μ-loop
-digit-value-requires c κs = search needs
-
 add-v : tie.Need-add-v Inv-loop μ-loop
 add-v c =
     let l = c .before .before .before in
@@ -40,12 +34,6 @@ add-v c =
       c .digit-value .ensures,
       digit-to-9 (getD (l .before .before .args .s .now) (l .loop .i) 0),
     )
-
-add-i : tie.Need-add-i Inv-loop μ-loop
-add-i c = search needs
-
-loop-less : tie.Need-loop-less Inv-loop μ-loop
-loop-less c = search needs
 
 loop-again : tie.Need-loop-again Inv-loop μ-loop
 loop-again c =
@@ -65,15 +53,5 @@ returns c =
 pub nine-digits-spec : {M : Type 1} → statement M
 nine-digits-spec =
     tie.close
-    (tie.spec
-    Inv-loop
-    μ-loop
-    loop-holds
-    mul-v
-    shared-slice-read-digit-value
-    digit-value-requires
-    add-v
-    add-i
-    loop-less
-    loop-again
-    returns)
+    (tie.spec Inv-loop μ-loop loop-holds mul-v (search needs) (search needs) add-v (search needs) (search needs)
+    loop-again returns)

@@ -17,29 +17,11 @@ Inv-loop rec start end e₀ e = (e ≤ length rec) × (textIn rec start e ≡ te
 abbrev μ-loop : tie.MeasureT-loop
 μ-loop rec start end e₀ e = e
 
-lesser-requires : tie.Need-lesser-requires Inv-loop μ-loop
-lesser-requires c κs = search needs
-
 loop-holds : tie.Need-loop-holds Inv-loop μ-loop
 loop-holds c =
     let a = c .before .before .args in
     rw (c .lesser .ensures)
     (min-le-right (a .end) (length (a .rec .now)), text-within (a .rec .now) (a .start) (a .end))
-
-sub-if1 : tie.Need-sub-if1 Inv-loop μ-loop
-sub-if1 c = search needs
-
-shared-slice-read-if1 : tie.Need-shared-slice-read-if1 Inv-loop μ-loop
-shared-slice-read-if1 c = search needs
-
-sub-result : tie.Need-sub-result Inv-loop μ-loop
-sub-result c = search needs
-
-part-result-start : tie.Need-part-result-start Inv-loop μ-loop
-part-result-start c = search needs
-
-part-result-end : tie.Need-part-result-end Inv-loop μ-loop
-part-result-end c = search needs
 
 returns : tie.Need-returns Inv-loop μ-loop
 returns c =
@@ -47,12 +29,6 @@ returns c =
     let a = l .before .before .before .args in
     sym (text-stop (a .rec .now) (a .start) (l .loop .e) (omega arith) (l .loop .inv .0) (c .before .if1 .taken))
     ∙ l .loop .inv .1
-
-sub-e : tie.Need-sub-e Inv-loop μ-loop
-sub-e c = search needs
-
-loop-less : tie.Need-loop-less Inv-loop μ-loop
-loop-less c = search needs
 
 loop-again : tie.Need-loop-again Inv-loop μ-loop
 loop-again c =
@@ -63,9 +39,6 @@ loop-again c =
           ∙ l .loop .inv .1,
     )
 
-slice-aggregate-result : tie.Need-slice-aggregate-result Inv-loop μ-loop
-slice-aggregate-result c = search needs
-
 returns-2 : tie.Need-returns-2 Inv-loop μ-loop
 returns-2 c =
     let l = c .before .before in
@@ -75,19 +48,5 @@ returns-2 c =
 pub read-text-spec : {M : Type 1} → statement M
 read-text-spec =
     tie.close
-    (tie.spec
-    Inv-loop
-    μ-loop
-    lesser-requires
-    loop-holds
-    sub-if1
-    shared-slice-read-if1
-    sub-result
-    part-result-start
-    part-result-end
-    returns
-    sub-e
-    loop-less
-    loop-again
-    slice-aggregate-result
-    returns-2)
+    (tie.spec Inv-loop μ-loop (search needs) loop-holds (search needs) (search needs) (search needs) (search needs)
+    (search needs) returns (search needs) (search needs) loop-again (search needs) returns-2)

@@ -10,12 +10,6 @@ use Rattle.field_read.proofs.says_zero.Tie as tie
 slice-aggregate-all-zero : tie.Need-slice-aggregate-all-zero
 slice-aggregate-all-zero c = sym (length-take-le 9 (c .before .before .before .args .s .now) (omega arith))
 
-all-zero-requires : tie.Need-all-zero-requires
-all-zero-requires c κs = search needs
-
-all-zero-requires-2 : tie.Need-all-zero-requires-2
-all-zero-requires-2 c κs = search needs
-
 returns : tie.Need-returns
 returns c = c .all-zero .ensures ∙ nine-zero (c .before .before .before .before .args .s .now)
 
@@ -24,4 +18,4 @@ returns-2 c = c .all-zero2 .ensures ∙ whole-zero (c .before .before .before .a
 
 pub says-zero-spec : {M : Type 1} → statement M
 says-zero-spec =
-    tie.close (tie.spec slice-aggregate-all-zero all-zero-requires all-zero-requires-2 returns returns-2)
+    tie.close (tie.spec slice-aggregate-all-zero (search needs) (search needs) returns returns-2)

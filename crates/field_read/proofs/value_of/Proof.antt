@@ -14,9 +14,6 @@ slice-aggregate-nine-digits c = sym (length-take-le 9 (c .before .before .before
 nine-digits-requires : tie.Need-nine-digits-requires
 nine-digits-requires c κs = omega (arith, length-take-le 9 (c .before .before .before .args .s .now) (omega arith))
 
-nine-digits-requires-2 : tie.Need-nine-digits-requires-2
-nine-digits-requires-2 c κs = search needs
-
 returns : tie.Need-returns
 unfolding value
 returns c = c .nine-digits .ensures
@@ -27,9 +24,4 @@ returns-2 c = c .nine-digits2 .ensures ∙ sym (value-whole (c .before .before .
 pub value-of-spec : {M : Type 1} → statement M
 value-of-spec =
     tie.close
-    (tie.spec
-    slice-aggregate-nine-digits
-    nine-digits-requires
-    nine-digits-requires-2
-    returns
-    returns-2)
+    (tie.spec slice-aggregate-nine-digits nine-digits-requires (search needs) returns returns-2)

@@ -3,11 +3,9 @@ use borrow.Author.Needs.{needs}
 use Rattle.field_test.proofs.are_text.Statement.{statement}
 use Rattle.field_test.proofs.are_text.Tie as tie
 
-all-in-requires : tie.Need-all-in-requires
-all-in-requires c κs = search needs
-
 returns : tie.Need-returns
 returns c = c .all-in .ensures
 
 pub are-text-spec : {M : Type 1} → statement M
-are-text-spec = tie.close (tie.spec all-in-requires returns)
+are-text-spec =
+    tie.close (tie.spec (search needs) returns)

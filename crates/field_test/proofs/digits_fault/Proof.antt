@@ -8,9 +8,6 @@ use Rattle.field.proofs.Faults.{fault-same}
 use Rattle.field_test.proofs.digits_fault.Statement.{statement}
 use Rattle.field_test.proofs.digits_fault.Tie as tie
 
-fault-of-requires : tie.Need-fault-of-requires
-fault-of-requires c κs = search needs
-
 returns : tie.Need-returns
 unfolding digitsFault
 returns c =
@@ -18,4 +15,5 @@ returns c =
     ∙ fault-same (member 48 57 1 0) digit (one-range 48 57) (c .before .before .args .s .now) 1
 
 pub digits-fault-spec : {M : Type 1} → statement M
-digits-fault-spec = tie.close (tie.spec fault-of-requires returns)
+digits-fault-spec =
+    tie.close (tie.spec (search needs) returns)

@@ -19,9 +19,6 @@ Inv-loop s pattern n bad₀ i₀ bad i = (n ≡ min (length s) (length pattern))
 abbrev μ-loop : tie.MeasureT-loop
 μ-loop s pattern n bad₀ i₀ bad i = n - i
 
-lesser-requires : tie.Need-lesser-requires Inv-loop μ-loop
-lesser-requires c κs = search needs
-
 loop-holds : tie.Need-loop-holds Inv-loop μ-loop
 loop-holds c = (c .lesser .ensures, refl)
 
@@ -37,17 +34,11 @@ shared-slice-read-outside c =
     let a = l .before .before .before .before .args in
     omega (arith, min-le-left (length (a .s .now)) (length (a .pattern .now)), l .loop .inv .0)
 
-outside-requires : tie.Need-outside-requires Inv-loop μ-loop
-outside-requires c κs = search needs
-
 add-i : tie.Need-add-i Inv-loop μ-loop
 add-i c =
     let l = c .before .before .before .before in
     let a = l .before .before .before .before .args in
     omega (arith, min-le-left (length (a .s .now)) (length (a .pattern .now)), l .loop .inv .0)
-
-loop-less : tie.Need-loop-less Inv-loop μ-loop
-loop-less c = search needs
 
 loop-again : tie.Need-loop-again Inv-loop μ-loop
 loop-again c =
@@ -73,15 +64,5 @@ returns c =
 pub digits-where-spec : {M : Type 1} → statement M
 digits-where-spec =
     tie.close
-    (tie.spec
-    Inv-loop
-    μ-loop
-    lesser-requires
-    loop-holds
-    shared-slice-read-bad
-    shared-slice-read-outside
-    outside-requires
-    add-i
-    loop-less
-    loop-again
-    returns)
+    (tie.spec Inv-loop μ-loop (search needs) loop-holds shared-slice-read-bad shared-slice-read-outside
+    (search needs) add-i (search needs) loop-again returns)

@@ -5,12 +5,6 @@ use Rattle.field.proofs.Texts.{filled-blank, filled-other}
 use Rattle.field_test.proofs.filled_fault.Statement.{statement}
 use Rattle.field_test.proofs.filled_fault.Tie as tie
 
-starts-blank-requires : tie.Need-starts-blank-requires
-starts-blank-requires c κs = search needs
-
-text-bytes-fault-requires : tie.Need-text-bytes-fault-requires
-text-bytes-fault-requires c κs = search needs
-
 returns : tie.Need-returns
 returns c =
     let a = c .before .before .before .args in
@@ -25,4 +19,4 @@ returns-2 c =
 
 pub filled-fault-spec : {M : Type 1} → statement M
 filled-fault-spec =
-    tie.close (tie.spec starts-blank-requires text-bytes-fault-requires returns returns-2)
+    tie.close (tie.spec (search needs) (search needs) returns returns-2)

@@ -5,9 +5,6 @@ use Rattle.field.proofs.Texts.{starts-empty, starts-byte}
 use Rattle.field_test.proofs.starts_blank.Statement.{statement}
 use Rattle.field_test.proofs.starts_blank.Tie as tie
 
-shared-slice-read-result : tie.Need-shared-slice-read-result
-shared-slice-read-result c = search needs
-
 returns : tie.Need-returns
 returns c = sym (starts-empty (c .before .args .s .now) (c .if1 .taken))
 
@@ -17,4 +14,5 @@ returns-2 c =
     sym (starts-byte (e .before .args .s .now) (e .if1 .left))
 
 pub starts-blank-spec : {M : Type 1} → statement M
-starts-blank-spec = tie.close (tie.spec shared-slice-read-result returns returns-2)
+starts-blank-spec =
+    tie.close (tie.spec (search needs) returns returns-2)

@@ -5,15 +5,6 @@ use Rattle.field.proofs.Texts.{text-blank, text-other}
 use Rattle.field_test.proofs.text_fault.Statement.{statement}
 use Rattle.field_test.proofs.text_fault.Tie as tie
 
-starts-blank-requires : tie.Need-starts-blank-requires
-starts-blank-requires c κs = search needs
-
-all-are-requires : tie.Need-all-are-requires
-all-are-requires c κs = search needs
-
-text-bytes-fault-requires : tie.Need-text-bytes-fault-requires
-text-bytes-fault-requires c κs = search needs
-
 returns : tie.Need-returns
 returns c =
     let t = c .before .before in
@@ -37,11 +28,4 @@ returns-3 c =
 
 pub text-fault-spec : {M : Type 1} → statement M
 text-fault-spec =
-    tie.close
-    (tie.spec
-    starts-blank-requires
-    all-are-requires
-    text-bytes-fault-requires
-    returns
-    returns-2
-    returns-3)
+    tie.close (tie.spec (search needs) (search needs) (search needs) returns returns-2 returns-3)

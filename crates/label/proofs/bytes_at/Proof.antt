@@ -8,27 +8,6 @@ use Rattle.label.proofs.Texts.{cut-part, past-part}
 use Rattle.label.proofs.bytes_at.Statement.{statement}
 use Rattle.label.proofs.bytes_at.Tie as tie
 
-sub-lesser : tie.Need-sub-lesser
-sub-lesser c = search needs
-
-lesser-requires : tie.Need-lesser-requires
-lesser-requires c κs = search needs
-
-add-end : tie.Need-add-end
-add-end c = search needs
-
-sub-result : tie.Need-sub-result
-sub-result c = search needs
-
-part-result-start : tie.Need-part-result-start
-part-result-start c = search needs
-
-part-result-end : tie.Need-part-result-end
-part-result-end c = search needs
-
-slice-aggregate-result : tie.Need-slice-aggregate-result
-slice-aggregate-result c = search needs
-
 returns : tie.Need-returns
 returns c =
     let c₁ = c .before in
@@ -46,13 +25,5 @@ returns-2 c =
 pub bytes-at-spec : {M : Type 1} → statement M
 bytes-at-spec =
     tie.close
-    (tie.spec
-    sub-lesser
-    lesser-requires
-    add-end
-    sub-result
-    part-result-start
-    part-result-end
-    slice-aggregate-result
-    returns
-    returns-2)
+    (tie.spec (search needs) (search needs) (search needs) (search needs) (search needs) (search needs)
+    (search needs) returns returns-2)

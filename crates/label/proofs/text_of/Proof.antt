@@ -4,12 +4,6 @@ use mathlib.Core.Path.{_≡_, refl, sym, ap, _∙_}
 use Rattle.label.proofs.text_of.Statement.{statement}
 use Rattle.label.proofs.text_of.Tie as tie
 
-bytes-at-requires : tie.Need-bytes-at-requires
-bytes-at-requires c κs = search needs
-
-bytes-at-requires-2 : tie.Need-bytes-at-requires-2
-bytes-at-requires-2 c κs = search needs
-
 returns : tie.Need-returns
 returns c =
     let c₁ = c .before in
@@ -21,4 +15,5 @@ returns-2 c =
     rw (c .bytes-at2 .ensures, c₁ .if1 .left)
 
 pub text-of-spec : {M : Type 1} → statement M
-text-of-spec = tie.close (tie.spec bytes-at-requires bytes-at-requires-2 returns returns-2)
+text-of-spec =
+    tie.close (tie.spec (search needs) (search needs) returns returns-2)

@@ -6,36 +6,6 @@ use Rattle.label.proofs.Whole.{label-size}
 use Rattle.label_length.proofs.label_len.Statement.{statement}
 use Rattle.label_length.proofs.label_len.Tie as tie
 
-shape-of-requires : tie.Need-shape-of-requires
-shape-of-requires c κs = search needs
-
-lines-of-requires : tie.Need-lines-of-requires
-lines-of-requires c κs = search needs
-
-front-of-requires : tie.Need-front-of-requires
-front-of-requires c κs = search needs
-
-head-len-requires : tie.Need-head-len-requires
-head-len-requires c κs = search needs
-
-premises-len-requires : tie.Need-premises-len-requires
-premises-len-requires c κs = search needs
-
-places-len-requires : tie.Need-places-len-requires
-places-len-requires c κs = search needs
-
-add-result : tie.Need-add-result
-add-result c = search needs
-
-add-result-2 : tie.Need-add-result-2
-add-result-2 c = search needs
-
-pair-len-requires : tie.Need-pair-len-requires
-pair-len-requires c κs = search needs
-
-add-result-3 : tie.Need-add-result-3
-add-result-3 c = search needs
-
 returns : tie.Need-returns
 returns c =
     let c₁ = c .before in
@@ -56,15 +26,5 @@ returns c =
 pub label-len-spec : {M : Type 1} → statement M
 label-len-spec =
     tie.close
-    (tie.spec
-    shape-of-requires
-    lines-of-requires
-    front-of-requires
-    head-len-requires
-    premises-len-requires
-    places-len-requires
-    add-result
-    add-result-2
-    pair-len-requires
-    add-result-3
-    returns)
+    (tie.spec (search needs) (search needs) (search needs) (search needs) (search needs) (search needs)
+    (search needs) (search needs) (search needs) (search needs) returns)

@@ -9,9 +9,6 @@ use Rattle.label.proofs.Whole.{room-refused, room-written}
 use Rattle.label_print.proofs.print_label.Statement.{statement}
 use Rattle.label_print.proofs.print_label.Tie as tie
 
-label-len-requires : tie.Need-label-len-requires
-label-len-requires c κs = search needs
-
 returns : tie.Need-returns
 returns c =
     let c₁ = c .before in
@@ -21,12 +18,6 @@ returns c =
     room-refused (labelOf (elementsIn a b (c₂ .args .e))) (c₂ .args .out .now) (c₁ .label-len .result)
     (c₁ .label-len .ensures)
     (c .if1 .taken)
-
-write-label-requires : tie.Need-write-label-requires
-write-label-requires c κs = search needs
-
-same-length : tie.Need-same-length
-same-length c = search needs
 
 returns-2 : tie.Need-returns-2
 returns-2 c =
@@ -42,4 +33,4 @@ returns-2 c =
 
 pub print-label-spec : {M : Type 1} → statement M
 print-label-spec =
-    tie.close (tie.spec label-len-requires returns write-label-requires same-length returns-2)
+    tie.close (tie.spec (search needs) returns (search needs) (search needs) returns-2)

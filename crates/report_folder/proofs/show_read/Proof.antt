@@ -16,9 +16,6 @@ slice-aggregate-write-report-2 c =
     let i = c .before .before in
     sym (length-take-le _ _ (i .if2 .taken))
 
-write-report-requires : tie.Need-write-report-requires
-write-report-requires c κs = search needs
-
 slice-reshare-prefix-write-all : tie.Need-slice-reshare-prefix-write-all
 slice-reshare-prefix-write-all c = wrote-count (c .before .before .write-report .ensures)
 
@@ -26,32 +23,9 @@ slice-aggregate-write-all : tie.Need-slice-aggregate-write-all
 slice-aggregate-write-all c =
     sym (length-take-le _ _ (wrote-count (c .before .before .before .write-report .ensures)))
 
-write-all-requires : tie.Need-write-all-requires
-write-all-requires c κs = search needs
-
-same-length : tie.Need-same-length
-same-length c = search needs
-
-returns : tie.Need-returns
-returns c = search needs
-
-returns-2 : tie.Need-returns-2
-returns-2 c = search needs
-
-returns-3 : tie.Need-returns-3
-returns-3 c = search needs
-
 pub show-read-spec : {M : Type 1} → statement M
 show-read-spec =
     tie.close
-    (tie.spec
-    slice-aggregate-write-report
-    slice-aggregate-write-report-2
-    write-report-requires
-    slice-reshare-prefix-write-all
-    slice-aggregate-write-all
-    write-all-requires
-    same-length
-    returns
-    returns-2
-    returns-3)
+    (tie.spec slice-aggregate-write-report slice-aggregate-write-report-2 (search needs)
+    slice-reshare-prefix-write-all slice-aggregate-write-all (search needs) (search needs) (search needs)
+    (search needs) (search needs))

@@ -10,21 +10,6 @@ use Rattle.label.proofs.Places.{three-size}
 use Rattle.label_length.proofs.inner.front_len.Statement.{statement}
 use Rattle.label_length.proofs.inner.front_len.Tie as tie
 
-number-len-requires : tie.Need-number-len-requires
-number-len-requires c κs = search needs
-
-text-len-requires : tie.Need-text-len-requires
-text-len-requires c κs = search needs
-
-add-result : tie.Need-add-result
-add-result c = search needs
-
-tail-len-requires : tie.Need-tail-len-requires
-tail-len-requires c κs = search needs
-
-add-result-2 : tie.Need-add-result-2
-add-result-2 c = search needs
-
 returns : tie.Need-returns
 returns c =
     let c₁ = c .before in
@@ -41,10 +26,4 @@ returns c =
 pub front-len-spec : {M : Type 1} → statement M
 front-len-spec =
     tie.close
-    (tie.spec
-    number-len-requires
-    text-len-requires
-    add-result
-    tail-len-requires
-    add-result-2
-    returns)
+    (tie.spec (search needs) (search needs) (search needs) (search needs) (search needs) returns)

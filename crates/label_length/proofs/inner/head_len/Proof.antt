@@ -9,21 +9,6 @@ use Rattle.label.proofs.Places.{three-size, three-bytes}
 use Rattle.label_length.proofs.inner.head_len.Statement.{statement}
 use Rattle.label_length.proofs.inner.head_len.Tie as tie
 
-line-len-requires : tie.Need-line-len-requires
-line-len-requires c κs = search needs
-
-line-len-requires-2 : tie.Need-line-len-requires-2
-line-len-requires-2 c κs = search needs
-
-add-result : tie.Need-add-result
-add-result c = search needs
-
-box-len-requires : tie.Need-box-len-requires
-box-len-requires c κs = search needs
-
-add-result-2 : tie.Need-add-result-2
-add-result-2 c = search needs
-
 returns : tie.Need-returns
 unfolding elementsIn
 returns c =
@@ -44,10 +29,4 @@ returns c =
 pub head-len-spec : {M : Type 1} → statement M
 head-len-spec =
     tie.close
-    (tie.spec
-    line-len-requires
-    line-len-requires-2
-    add-result
-    box-len-requires
-    add-result-2
-    returns)
+    (tie.spec (search needs) (search needs) (search needs) (search needs) (search needs) returns)

@@ -8,9 +8,6 @@ use Rattle.label.proofs.Places.{lead-none, lead-size}
 use Rattle.label_length.proofs.inner.lead_len.Statement.{statement}
 use Rattle.label_length.proofs.inner.lead_len.Tie as tie
 
-front-len-requires : tie.Need-front-len-requires
-front-len-requires c κs = search needs
-
 returns : tie.Need-returns
 returns c =
     let c₁ = c .before in
@@ -23,9 +20,6 @@ returns c =
       omega
           arith,
     )
-
-add-result : tie.Need-add-result
-add-result c = search needs
 
 returns-2 : tie.Need-returns-2
 returns-2 c =
@@ -44,4 +38,5 @@ returns-3 : tie.Need-returns-3
 returns-3 c = rw (c .if1 .left) (refl, omega arith)
 
 pub lead-len-spec : {M : Type 1} → statement M
-lead-len-spec = tie.close (tie.spec front-len-requires returns add-result returns-2 returns-3)
+lead-len-spec =
+    tie.close (tie.spec (search needs) returns (search needs) returns-2 returns-3)

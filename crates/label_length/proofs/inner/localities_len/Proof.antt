@@ -12,30 +12,6 @@ use Rattle.label.proofs.Places.{three-size, locality-bytes}
 use Rattle.label_length.proofs.inner.localities_len.Statement.{statement}
 use Rattle.label_length.proofs.inner.localities_len.Tie as tie
 
-no-text-requires : tie.Need-no-text-requires
-no-text-requires c κs = search needs
-
-front-after-requires : tie.Need-front-after-requires
-front-after-requires c κs = search needs
-
-front-after-requires-2 : tie.Need-front-after-requires-2
-front-after-requires-2 c κs = search needs
-
-place-len-requires : tie.Need-place-len-requires
-place-len-requires c κs = search needs
-
-place-len-requires-2 : tie.Need-place-len-requires-2
-place-len-requires-2 c κs = search needs
-
-add-result : tie.Need-add-result
-add-result c = search needs
-
-place-len-requires-3 : tie.Need-place-len-requires-3
-place-len-requires-3 c κs = search needs
-
-add-result-2 : tie.Need-add-result-2
-add-result-2 c = search needs
-
 returns : tie.Need-returns
 unfolding elementsIn
 returns c =
@@ -64,13 +40,5 @@ returns c =
 pub localities-len-spec : {M : Type 1} → statement M
 localities-len-spec =
     tie.close
-    (tie.spec
-    no-text-requires
-    front-after-requires
-    front-after-requires-2
-    place-len-requires
-    place-len-requires-2
-    add-result
-    place-len-requires-3
-    add-result-2
-    returns)
+    (tie.spec (search needs) (search needs) (search needs) (search needs) (search needs) (search needs)
+    (search needs) (search needs) returns)

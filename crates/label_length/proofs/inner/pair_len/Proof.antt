@@ -7,18 +7,6 @@ use Rattle.label.proofs.Places.{pair-size}
 use Rattle.label_length.proofs.inner.pair_len.Statement.{statement}
 use Rattle.label_length.proofs.inner.pair_len.Tie as tie
 
-text-len-requires : tie.Need-text-len-requires
-text-len-requires c κs = search needs
-
-text-len-requires-2 : tie.Need-text-len-requires-2
-text-len-requires-2 c κs = search needs
-
-add-result : tie.Need-add-result
-add-result c = search needs
-
-add-result-2 : tie.Need-add-result-2
-add-result-2 c = search needs
-
 returns : tie.Need-returns
 returns c =
     let c₁ = c .before in
@@ -32,4 +20,4 @@ returns c =
 
 pub pair-len-spec : {M : Type 1} → statement M
 pair-len-spec =
-    tie.close (tie.spec text-len-requires text-len-requires-2 add-result add-result-2 returns)
+    tie.close (tie.spec (search needs) (search needs) (search needs) (search needs) returns)

@@ -9,9 +9,6 @@ use Rattle.label.proofs.Places.{place-none, place-some}
 use Rattle.label_length.proofs.inner.place_len.Statement.{statement}
 use Rattle.label_length.proofs.inner.place_len.Tie as tie
 
-text-len-requires : tie.Need-text-len-requires
-text-len-requires c κs = search needs
-
 returns : tie.Need-returns
 returns c =
     let c₁ = c .before in
@@ -23,21 +20,6 @@ returns c =
           (textIn2 a b (c₂ .args .tail)) (sym (c₁ .text-len .ensures .0) ∙ c .if1 .taken)),
       omega arith,
     )
-
-lead-len-requires : tie.Need-lead-len-requires
-lead-len-requires c κs = search needs
-
-add-result : tie.Need-add-result
-add-result c = search needs
-
-tail-len-requires : tie.Need-tail-len-requires
-tail-len-requires c κs = search needs
-
-add-result-2 : tie.Need-add-result-2
-add-result-2 c = search needs
-
-add-result-3 : tie.Need-add-result-3
-add-result-3 c = search needs
 
 returns-2 : tie.Need-returns-2
 returns-2 c =
@@ -63,12 +45,5 @@ returns-2 c =
 pub place-len-spec : {M : Type 1} → statement M
 place-len-spec =
     tie.close
-    (tie.spec
-    text-len-requires
-    returns
-    lead-len-requires
-    add-result
-    tail-len-requires
-    add-result-2
-    add-result-3
+    (tie.spec (search needs) returns (search needs) (search needs) (search needs) (search needs) (search needs)
     returns-2)

@@ -12,27 +12,6 @@ use Rattle.label.proofs.Places.{three-size, place-bytes}
 use Rattle.label_length.proofs.inner.places_len.Statement.{statement}
 use Rattle.label_length.proofs.inner.places_len.Tie as tie
 
-front-after-requires : tie.Need-front-after-requires
-front-after-requires c κs = search needs
-
-front-after-requires-2 : tie.Need-front-after-requires-2
-front-after-requires-2 c κs = search needs
-
-place-len-requires : tie.Need-place-len-requires
-place-len-requires c κs = search needs
-
-place-len-requires-2 : tie.Need-place-len-requires-2
-place-len-requires-2 c κs = search needs
-
-add-result : tie.Need-add-result
-add-result c = search needs
-
-localities-len-requires : tie.Need-localities-len-requires
-localities-len-requires c κs = search needs
-
-add-result-2 : tie.Need-add-result-2
-add-result-2 c = search needs
-
 returns : tie.Need-returns
 unfolding elementsIn
 returns c =
@@ -61,12 +40,5 @@ returns c =
 pub places-len-spec : {M : Type 1} → statement M
 places-len-spec =
     tie.close
-    (tie.spec
-    front-after-requires
-    front-after-requires-2
-    place-len-requires
-    place-len-requires-2
-    add-result
-    localities-len-requires
-    add-result-2
-    returns)
+    (tie.spec (search needs) (search needs) (search needs) (search needs) (search needs) (search needs)
+    (search needs) returns)

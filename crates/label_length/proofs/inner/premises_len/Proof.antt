@@ -12,18 +12,6 @@ use Rattle.label.proofs.Places.{two-size, open-bytes}
 use Rattle.label_length.proofs.inner.premises_len.Statement.{statement}
 use Rattle.label_length.proofs.inner.premises_len.Tie as tie
 
-no-front-requires : tie.Need-no-front-requires
-no-front-requires c κs = search needs
-
-place-len-requires : tie.Need-place-len-requires
-place-len-requires c κs = search needs
-
-line-len-requires : tie.Need-line-len-requires
-line-len-requires c κs = search needs
-
-add-result : tie.Need-add-result
-add-result c = search needs
-
 returns : tie.Need-returns
 returns c =
     let c₁ = c .before in
@@ -43,4 +31,4 @@ returns c =
 
 pub premises-len-spec : {M : Type 1} → statement M
 premises-len-spec =
-    tie.close (tie.spec no-front-requires place-len-requires line-len-requires add-result returns)
+    tie.close (tie.spec (search needs) (search needs) (search needs) (search needs) returns)

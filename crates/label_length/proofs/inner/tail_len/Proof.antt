@@ -8,12 +8,6 @@ use Rattle.label.proofs.Places.{tail-none, tail-some}
 use Rattle.label_length.proofs.inner.tail_len.Statement.{statement}
 use Rattle.label_length.proofs.inner.tail_len.Tie as tie
 
-text-len-requires : tie.Need-text-len-requires
-text-len-requires c κs = search needs
-
-add-result : tie.Need-add-result
-add-result c = search needs
-
 returns : tie.Need-returns
 returns c =
     let c₁ = c .before in
@@ -40,4 +34,5 @@ returns-2 c =
     )
 
 pub tail-len-spec : {M : Type 1} → statement M
-tail-len-spec = tie.close (tie.spec text-len-requires add-result returns returns-2)
+tail-len-spec =
+    tie.close (tie.spec (search needs) (search needs) returns returns-2)

@@ -7,9 +7,6 @@ use Rattle.label.proofs.Texts.{text-short}
 use Rattle.label_length.proofs.inner.text_len.Statement.{statement}
 use Rattle.label_length.proofs.inner.text_len.Tie as tie
 
-text-of-requires : tie.Need-text-of-requires
-text-of-requires c κs = search needs
-
 returns : tie.Need-returns
 returns c =
     let c₁ = c .before .before .before in
@@ -20,4 +17,5 @@ returns c =
     )
 
 pub text-len-spec : {M : Type 1} → statement M
-text-len-spec = tie.close (tie.spec text-of-requires returns)
+text-len-spec =
+    tie.close (tie.spec (search needs) returns)

@@ -4,17 +4,9 @@ use Rattle.label.proofs.Puts.{put-byte}
 use Rattle.label_pieces.proofs.inner.byte_at.Statement.{statement}
 use Rattle.label_pieces.proofs.inner.byte_at.Tie as tie
 
-slice-write-out : tie.Need-slice-write-out
-slice-write-out c = search needs
-
-add-result : tie.Need-add-result
-add-result c = search needs
-
-same-length : tie.Need-same-length
-same-length c = search needs
-
 returns : tie.Need-returns
 returns c = put-byte (c .args .out .now) (c .args .at) (c .args .b) (c .pre)
 
 pub byte-at-spec : {M : Type 1} → statement M
-byte-at-spec = tie.close (tie.spec slice-write-out add-result same-length returns)
+byte-at-spec =
+    tie.close (tie.spec (search needs) (search needs) (search needs) returns)

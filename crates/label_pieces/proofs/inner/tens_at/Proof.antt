@@ -18,9 +18,6 @@ digit-at-requires-2 c κs =
     let c₂ = c₁ .before .before .before in
     (omega arith, room-after ((48 + c₂ .args .n % 10) ∷ []) (c₁ .digit-at .ensures) (c₂ .pre))
 
-same-length : tie.Need-same-length
-same-length c = search needs
-
 returns : tie.Need-returns
 returns c =
     let c₁ = c .before .before in
@@ -29,4 +26,5 @@ returns c =
     put-then (c₂ .digit-at .ensures) (c₁ .digit-at2 .ensures) (c₃ .pre)
 
 pub tens-at-spec : {M : Type 1} → statement M
-tens-at-spec = tie.close (tie.spec digit-at-requires digit-at-requires-2 same-length returns)
+tens-at-spec =
+    tie.close (tie.spec digit-at-requires digit-at-requires-2 (search needs) returns)

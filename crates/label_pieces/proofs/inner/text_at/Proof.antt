@@ -4,17 +4,11 @@ use mathlib.Core.Path.{sym}
 use Rattle.label_pieces.proofs.inner.text_at.Statement.{statement}
 use Rattle.label_pieces.proofs.inner.text_at.Tie as tie
 
-text-of-requires : tie.Need-text-of-requires
-text-of-requires c κs = search needs
-
 bytes-at-requires : tie.Need-bytes-at-requires
 bytes-at-requires c κs =
     let c₁ = c .before in
     let c₂ = c₁ .before .before .before .before in
     rw (c₁ .text-of .ensures) (c₂ .pre)
-
-same-length : tie.Need-same-length
-same-length c = search needs
 
 returns : tie.Need-returns
 returns c =
@@ -23,4 +17,5 @@ returns c =
     rw (sym (c₂ .text-of .ensures)) (c₁ .bytes-at .ensures)
 
 pub text-at-spec : {M : Type 1} → statement M
-text-at-spec = tie.close (tie.spec text-of-requires bytes-at-requires same-length returns)
+text-at-spec =
+    tie.close (tie.spec (search needs) bytes-at-requires (search needs) returns)

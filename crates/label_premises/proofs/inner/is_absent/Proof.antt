@@ -5,11 +5,9 @@ use Rattle.label.proofs.Texts.{empty-length}
 use Rattle.label_premises.proofs.inner.is_absent.Statement.{statement}
 use Rattle.label_premises.proofs.inner.is_absent.Tie as tie
 
-text-of-requires : tie.Need-text-of-requires
-text-of-requires c κs = search needs
-
 returns : tie.Need-returns
 returns c = rw (sym (c .text-of .ensures)) (empty-length (c .text-of .result .now))
 
 pub is-absent-spec : {M : Type 1} → statement M
-is-absent-spec = tie.close (tie.spec text-of-requires returns)
+is-absent-spec =
+    tie.close (tie.spec (search needs) returns)

@@ -4,11 +4,9 @@ use mathlib.Core.Path.{_≡_, refl, sym, ap, _∙_}
 use Rattle.label_premises.proofs.inner.no_front.Statement.{statement}
 use Rattle.label_premises.proofs.inner.no_front.Tie as tie
 
-no-text-requires : tie.Need-no-text-requires
-no-text-requires c κs = search needs
-
 returns : tie.Need-returns
 returns c = rw (c .no-text .ensures)
 
 pub no-front-spec : {M : Type 1} → statement M
-no-front-spec = tie.close (tie.spec no-text-requires returns)
+no-front-spec =
+    tie.close (tie.spec (search needs) returns)

@@ -1,153 +1,85 @@
--- `label_premises::inner::shape_by` meets its contract. Assumes nothing.
+-- `label_premises::inner::shape_by` meets its contract: the tests on the way to a row are those of the definition.
+-- Assumes nothing.
 use borrow.Author.Needs.{needs}
-use mathlib.Core.Path.{_≡_, refl, sym, ap, _∙_}
+use mathlib.Core.Path.{_≡_, sym, _∙_}
+use mathlib.Core.Bool.{Bool, true, false, cond, _&&_}
+use Rattle.label.specs.declared.shape.Shape.the-variants.{NameLine, NameFront, SubLine, SubFront, BothLine, BothFront, SubLineNameFront, TwoLines}
 use Rattle.label.specs.Rows.{shapeOf}
 use Rattle.label.proofs.Texts.{empty-true, empty-false}
 use Rattle.label_premises.proofs.inner.shape_by.Statement.{statement}
 use Rattle.label_premises.proofs.inner.shape_by.Tie as tie
 
-is-numeric-like-requires : tie.Need-is-numeric-like-requires
-is-numeric-like-requires c κs = search needs
-
+-- neither text
 returns : tie.Need-returns
 unfolding shapeOf
 returns c =
-    let c₁ = c .before in
-    let c₂ = c₁ .before .before .before .before in
+    let g = c .before .before .before .before .before .args in
+    simp (empty-true (g .s .now) (c .before .if1 .taken), empty-true (g .b .now) (c .if2 .taken))
+
+-- a building name alone
+name-only : (c : tie.Else2) (t : Bool) → let g = c .before .before .before .before .before .args in
+    (c .before .before .is-numeric-like .result && g .z) ≡ t
+    → cond t NameFront NameLine ≡ shapeOf (g .s .now) (g .b .now) (g .z) (g .y)
+unfolding shapeOf
+name-only c t e =
+    let g = c .before .before .before .before .before .args in
     simp (
-      empty-true (c₂ .args .s .now) (c₁ .if1 .taken),
-      empty-true (c₂ .args .b .now) (c .if2 .taken),
+      empty-true (g .s .now) (c .before .if1 .taken),
+      empty-false (g .b .now) (c .if2 .left),
+      rw (c .before .before .is-numeric-like .ensures) at e,
     )
 
 returns-2 : tie.Need-returns-2
-unfolding shapeOf
-returns-2 c =
-    let c₁ = c .before in
-    let c₂ = c₁ .before in
-    let c₃ = c₂ .before in
-    let c₄ = c₃ .before .before .before in
-    simp (
-      empty-true (c₄ .args .s .now) (c₂ .if1 .taken),
-      empty-false (c₄ .args .b .now) (c₁ .if2 .left),
-      rw (c₃ .is-numeric-like .ensures) at (c .if3 .taken),
-    )
+returns-2 c = name-only (c .before) true (c .if3 .taken)
 
 returns-3 : tie.Need-returns-3
+returns-3 c = name-only (c .before) false (c .if3 .left)
+
+-- a sub building alone
+sub-only : (c : tie.Then4) (t : Bool) → let g = c .before .before .before .before .before .args in
+    g .y ≡ t → cond t SubFront SubLine ≡ shapeOf (g .s .now) (g .b .now) (g .z) (g .y)
 unfolding shapeOf
-returns-3 c =
-    let c₁ = c .before in
-    let c₂ = c₁ .before in
-    let c₃ = c₂ .before in
-    let c₄ = c₃ .before .before .before in
-    simp (
-      empty-true (c₄ .args .s .now) (c₂ .if1 .taken),
-      empty-false (c₄ .args .b .now) (c₁ .if2 .left),
-      rw (c₃ .is-numeric-like .ensures) at (c .if3 .left),
-    )
+sub-only c t e =
+    let g = c .before .before .before .before .before .args in
+    simp (empty-false (g .s .now) (c .before .if1 .left), empty-true (g .b .now) (c .if4 .taken), e)
 
 returns-4 : tie.Need-returns-4
-unfolding shapeOf
-returns-4 c =
-    let c₁ = c .before in
-    let c₂ = c₁ .before in
-    let c₃ = c₂ .before .before .before .before in
-    simp (
-      empty-false (c₃ .args .s .now) (c₂ .if1 .left),
-      empty-true (c₃ .args .b .now) (c₁ .if4 .taken),
-      c .if5 .taken,
-    )
+returns-4 c = sub-only (c .before) true (c .if5 .taken)
 
 returns-5 : tie.Need-returns-5
-unfolding shapeOf
-returns-5 c =
-    let c₁ = c .before in
-    let c₂ = c₁ .before in
-    let c₃ = c₂ .before .before .before .before in
-    simp (
-      empty-false (c₃ .args .s .now) (c₂ .if1 .left),
-      empty-true (c₃ .args .b .now) (c₁ .if4 .taken),
-      c .if5 .left,
-    )
+returns-5 c = sub-only (c .before) false (c .if5 .left)
 
-is-numeric-like-requires-2 : tie.Need-is-numeric-like-requires-2
-is-numeric-like-requires-2 c κs = search needs
+-- both
+both : (c : tie.After-is-numeric-like2) (t u : Bool) → let name = c .before .before .before in
+    let g = name .before .before .before .args in
+    c .is-numeric-like2 .result ≡ t → (name .is-numeric-like .result && g .z) ≡ u
+    → cond t (cond u BothFront BothLine) (cond u SubLineNameFront TwoLines)
+    ≡ shapeOf (g .s .now) (g .b .now) (g .z) (g .y)
+unfolding shapeOf
+both c t u p q =
+    let name = c .before .before .before in
+    let g = name .before .before .before .args in
+    simp (
+      empty-false (g .s .now) (c .before .before .if1 .left),
+      empty-false (g .b .now) (c .before .if4 .left),
+      sym (c .is-numeric-like2 .ensures) ∙ p,
+      rw (name .is-numeric-like .ensures) at q,
+    )
 
 returns-6 : tie.Need-returns-6
-unfolding shapeOf
-returns-6 c =
-    let c₁ = c .before in
-    let c₂ = c₁ .before in
-    let c₃ = c₂ .before in
-    let c₄ = c₃ .before in
-    let c₅ = c₄ .before in
-    let c₆ = c₅ .before .before .before in
-    simp (
-      empty-false (c₆ .args .s .now) (c₄ .if1 .left),
-      empty-false (c₆ .args .b .now) (c₃ .if4 .left),
-      sym (c₂ .is-numeric-like2 .ensures) ∙ c₁ .if6 .taken,
-      rw (c₅ .is-numeric-like .ensures) at (c .if7 .taken),
-    )
+returns-6 c = both (c .before .before) true true (c .before .if6 .taken) (c .if7 .taken)
 
 returns-7 : tie.Need-returns-7
-unfolding shapeOf
-returns-7 c =
-    let c₁ = c .before in
-    let c₂ = c₁ .before in
-    let c₃ = c₂ .before in
-    let c₄ = c₃ .before in
-    let c₅ = c₄ .before in
-    let c₆ = c₅ .before .before .before in
-    simp (
-      empty-false (c₆ .args .s .now) (c₄ .if1 .left),
-      empty-false (c₆ .args .b .now) (c₃ .if4 .left),
-      sym (c₂ .is-numeric-like2 .ensures) ∙ c₁ .if6 .taken,
-      rw (c₅ .is-numeric-like .ensures) at (c .if7 .left),
-    )
+returns-7 c = both (c .before .before) true false (c .before .if6 .taken) (c .if7 .left)
 
 returns-8 : tie.Need-returns-8
-unfolding shapeOf
-returns-8 c =
-    let c₁ = c .before in
-    let c₂ = c₁ .before in
-    let c₃ = c₂ .before in
-    let c₄ = c₃ .before in
-    let c₅ = c₄ .before in
-    let c₆ = c₅ .before .before .before in
-    simp (
-      empty-false (c₆ .args .s .now) (c₄ .if1 .left),
-      empty-false (c₆ .args .b .now) (c₃ .if4 .left),
-      sym (c₂ .is-numeric-like2 .ensures) ∙ c₁ .if6 .left,
-      rw (c₅ .is-numeric-like .ensures) at (c .if8 .taken),
-    )
+returns-8 c = both (c .before .before) false true (c .before .if6 .left) (c .if8 .taken)
 
 returns-9 : tie.Need-returns-9
-unfolding shapeOf
-returns-9 c =
-    let c₁ = c .before in
-    let c₂ = c₁ .before in
-    let c₃ = c₂ .before in
-    let c₄ = c₃ .before in
-    let c₅ = c₄ .before in
-    let c₆ = c₅ .before .before .before in
-    simp (
-      empty-false (c₆ .args .s .now) (c₄ .if1 .left),
-      empty-false (c₆ .args .b .now) (c₃ .if4 .left),
-      sym (c₂ .is-numeric-like2 .ensures) ∙ c₁ .if6 .left,
-      rw (c₅ .is-numeric-like .ensures) at (c .if8 .left),
-    )
+returns-9 c = both (c .before .before) false false (c .before .if6 .left) (c .if8 .left)
 
 pub shape-by-spec : {M : Type 1} → statement M
 shape-by-spec =
     tie.close
-    (tie.spec
-    is-numeric-like-requires
-    returns
-    returns-2
-    returns-3
-    returns-4
-    returns-5
-    is-numeric-like-requires-2
-    returns-6
-    returns-7
-    returns-8
-    returns-9)
+    (tie.spec (search needs) returns returns-2 returns-3 returns-4 returns-5 (search needs) returns-6 returns-7
+    returns-8 returns-9)

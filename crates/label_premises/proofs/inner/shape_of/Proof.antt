@@ -4,15 +4,6 @@ use mathlib.Core.Path.{_≡_, refl, sym, ap, _∙_}
 use Rattle.label_premises.proofs.inner.shape_of.Statement.{statement}
 use Rattle.label_premises.proofs.inner.shape_of.Tie as tie
 
-text-of-requires : tie.Need-text-of-requires
-text-of-requires c κs = search needs
-
-text-of-requires-2 : tie.Need-text-of-requires-2
-text-of-requires-2 c κs = search needs
-
-shape-by-requires : tie.Need-shape-by-requires
-shape-by-requires c κs = search needs
-
 returns : tie.Need-returns
 returns c =
     let c₁ = c .before .before in
@@ -20,4 +11,5 @@ returns c =
     rw (c .shape-by .ensures, c₁ .text-of2 .ensures, c₂ .text-of .ensures)
 
 pub shape-of-spec : {M : Type 1} → statement M
-shape-of-spec = tie.close (tie.spec text-of-requires text-of-requires-2 shape-by-requires returns)
+shape-of-spec =
+    tie.close (tie.spec (search needs) (search needs) (search needs) returns)

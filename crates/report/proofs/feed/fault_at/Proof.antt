@@ -6,18 +6,6 @@ use Rattle.report.proofs.Feeds.{fed-none, fed-as, byte-none, byte-some}
 use Rattle.report.proofs.feed.fault_at.Statement.{statement}
 use Rattle.report.proofs.feed.fault_at.Tie as tie
 
-number-of-requires : tie.Need-number-of-requires
-number-of-requires c κs = search needs
-
-second-of-requires : tie.Need-second-of-requires
-second-of-requires c κs = search needs
-
-number-at-requires : tie.Need-number-at-requires
-number-at-requires c κs = search needs
-
-same-length : tie.Need-same-length
-same-length c = search needs
-
 returns : tie.Need-returns
 returns c =
     let n = c .before in
@@ -37,4 +25,5 @@ returns-2 c =
 
 pub fault-at-spec : {M : Type 1} → statement M
 fault-at-spec =
-    tie.close (tie.spec number-of-requires returns second-of-requires number-at-requires same-length returns-2)
+    tie.close
+    (tie.spec (search needs) returns (search needs) (search needs) (search needs) returns-2)

@@ -6,27 +6,6 @@ use Rattle.report.proofs.Decimals.{decimal-is}
 use Rattle.report.proofs.feed.number_at.Statement.{statement}
 use Rattle.report.proofs.feed.number_at.Tie as tie
 
-decimal-requires : tie.Need-decimal-requires
-decimal-requires c κs = search needs
-
-slice-aggregate-text-at : tie.Need-slice-aggregate-text-at
-slice-aggregate-text-at c = search needs
-
-text-at-requires : tie.Need-text-at-requires
-text-at-requires c κs = search needs
-
-array-share-prefix-digits : tie.Need-array-share-prefix-digits
-array-share-prefix-digits c = search needs
-
-slice-aggregate-text-at-2 : tie.Need-slice-aggregate-text-at-2
-slice-aggregate-text-at-2 c = search needs
-
-text-at-requires-2 : tie.Need-text-at-requires-2
-text-at-requires-2 c κs = search needs
-
-same-length : tie.Need-same-length
-same-length c = search needs
-
 returns : tie.Need-returns
 returns c =
     let t = c .before .before in
@@ -38,12 +17,5 @@ returns c =
 pub number-at-spec : {M : Type 1} → statement M
 number-at-spec =
     tie.close
-    (tie.spec
-    decimal-requires
-    slice-aggregate-text-at
-    text-at-requires
-    array-share-prefix-digits
-    slice-aggregate-text-at-2
-    text-at-requires-2
-    same-length
-    returns)
+    (tie.spec (search needs) (search needs) (search needs) (search needs) (search needs) (search needs)
+    (search needs) returns)

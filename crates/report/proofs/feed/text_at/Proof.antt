@@ -8,15 +8,6 @@ use Rattle.report.proofs.Feeds.{fed-put}
 use Rattle.report.proofs.feed.text_at.Statement.{statement}
 use Rattle.report.proofs.feed.text_at.Tie as tie
 
-sub-room : tie.Need-sub-room
-sub-room c = search needs
-
-bytes-at-requires : tie.Need-bytes-at-requires
-bytes-at-requires c κs = search needs
-
-same-length : tie.Need-same-length
-same-length c = search needs
-
 returns : tie.Need-returns
 returns c =
     let b = c .before .before in
@@ -32,9 +23,6 @@ bytes-at-requires-2 c κs =
     let s = i .before .before .before in
     omega (arith, s .pre, length-take-le _ (s .args .t .now) (le-of-lt (i .if1 .left)))
 
-same-length-2 : tie.Need-same-length-2
-same-length-2 c = search needs
-
 returns-2 : tie.Need-returns-2
 returns-2 c =
     let b = c .before .before in
@@ -43,12 +31,5 @@ returns-2 c =
 pub text-at-spec : {M : Type 1} → statement M
 text-at-spec =
     tie.close
-    (tie.spec
-    sub-room
-    bytes-at-requires
-    same-length
-    returns
-    slice-aggregate-bytes-at
-    bytes-at-requires-2
-    same-length-2
-    returns-2)
+    (tie.spec (search needs) (search needs) (search needs) returns slice-aggregate-bytes-at bytes-at-requires-2
+    (search needs) returns-2)

@@ -12,33 +12,6 @@ use Rattle.report.proofs.Feeds.{fed-then, fed-as}
 use Rattle.report_write.proofs.blocks.block_at.Statement.{statement}
 use Rattle.report_write.proofs.blocks.block_at.Tie as tie
 
-slice-aggregate-wanted-at : tie.Need-slice-aggregate-wanted-at
-slice-aggregate-wanted-at c = search needs
-
-wanted-at-requires : tie.Need-wanted-at-requires
-wanted-at-requires c κs = search needs
-
-point-record-requires : tie.Need-point-record-requires
-point-record-requires c κs = search needs
-
-byte-of-requires : tie.Need-byte-of-requires
-byte-of-requires c κs = search needs
-
-slice-aggregate-text-at : tie.Need-slice-aggregate-text-at
-slice-aggregate-text-at c = search needs
-
-text-at-requires : tie.Need-text-at-requires
-text-at-requires c κs = search needs
-
-number-at-requires : tie.Need-number-at-requires
-number-at-requires c κs = search needs
-
-slice-aggregate-text-at-2 : tie.Need-slice-aggregate-text-at-2
-slice-aggregate-text-at-2 c = search needs
-
-text-at-requires-2 : tie.Need-text-at-requires-2
-text-at-requires-2 c κs = search needs
-
 view-at-requires : tie.Need-view-at-requires
 view-at-requires c κs =
     let t = c .before .before .before in
@@ -46,9 +19,6 @@ view-at-requires c κs =
     let s = w .before .before .before .before .before in
     let place = wanted-place (s .args .table .now) (s .args .points .now) [] (s .args .view) (s .pre .1) (s .pre .2) in
     (omega (arith, t .text-at2 .ensures .room), rw (w .wanted-at .ensures) place)
-
-same-length : tie.Need-same-length
-same-length c = search needs
 
 returns : tie.Need-returns
 unfolding block
@@ -74,16 +44,5 @@ returns c =
 pub block-at-spec : {M : Type 1} → statement M
 block-at-spec =
     tie.close
-    (tie.spec
-    slice-aggregate-wanted-at
-    wanted-at-requires
-    point-record-requires
-    byte-of-requires
-    slice-aggregate-text-at
-    text-at-requires
-    number-at-requires
-    slice-aggregate-text-at-2
-    text-at-requires-2
-    view-at-requires
-    same-length
-    returns)
+    (tie.spec (search needs) (search needs) (search needs) (search needs) (search needs) (search needs)
+    (search needs) (search needs) (search needs) view-at-requires (search needs) returns)

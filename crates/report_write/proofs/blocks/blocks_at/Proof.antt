@@ -28,17 +28,11 @@ loop-holds c =
     let s = c .before .before .before in
     (omega arith, refl, fed-none _ _ (s .pre .0))
 
-add-view : tie.Need-add-view Inv-loop μ-loop
-add-view c = search needs
-
 block-at-requires : tie.Need-block-at-requires Inv-loop μ-loop
 block-at-requires c κs =
     let l = c .before .before in
     let s = l .before .before .before .before in
     (l .loop .inv .2 .room, s .pre .1, s .pre .2)
-
-loop-less : tie.Need-loop-less Inv-loop μ-loop
-loop-less c = search needs
 
 loop-again : tie.Need-loop-again Inv-loop μ-loop
 loop-again c =
@@ -50,9 +44,6 @@ loop-again c =
       fed-as (blocks-next (a .table .now) (a .points .now) (l .loop .view)) (fed-then (l .loop .inv .2) (b .block-at .ensures)),
     )
 
-same-length : tie.Need-same-length Inv-loop μ-loop
-same-length c = search needs
-
 returns : tie.Need-returns Inv-loop μ-loop
 returns c =
     let l = c .before in
@@ -62,13 +53,5 @@ returns c =
 pub blocks-at-spec : {M : Type 1} → statement M
 blocks-at-spec =
     tie.close
-    (tie.spec
-    Inv-loop
-    μ-loop
-    loop-holds
-    add-view
-    block-at-requires
-    loop-less
-    loop-again
-    same-length
+    (tie.spec Inv-loop μ-loop loop-holds (search needs) block-at-requires (search needs) loop-again (search needs)
     returns)

@@ -15,15 +15,6 @@ use Rattle.report_write.proofs.blocks.view_at.Tie as tie
 size : (n : ℕ) → n ≤ length (zeros n)
 size n = omega (arith, length-replicate {A = ℕ} n 0)
 
-slice-aggregate-label-at : tie.Need-slice-aggregate-label-at
-slice-aggregate-label-at c = search needs
-
-label-at-requires : tie.Need-label-at-requires
-label-at-requires c κs = search needs
-
-enum-known-n : tie.Need-enum-known-n
-enum-known-n c = search needs
-
 array-share-prefix-label : tie.Need-array-share-prefix-label
 array-share-prefix-label c =
     let l = c .before .before .before .before in
@@ -46,18 +37,6 @@ slice-aggregate-text-at c =
     let says = told-value text _ told same (l .label-at .ensures .1) in
     sym (length-take-le _ _ (says .0))
 
-text-at-requires : tie.Need-text-at-requires
-text-at-requires c κs = search needs
-
-enum-known-reason : tie.Need-enum-known-reason
-enum-known-reason c = search needs
-
-refused-at-requires : tie.Need-refused-at-requires
-refused-at-requires c κs = search needs
-
-same-length : tie.Need-same-length
-same-length c = search needs
-
 returns : tie.Need-returns
 returns c =
     let l = c .before .before .before .before .before .before .before .before .before in
@@ -68,9 +47,6 @@ returns c =
     let same = sym (l .label-at .ensures .0) ∙ c .before .before .before .before .before .before .n .given .1 in
     let says = told-value text _ told same (l .label-at .ensures .1) in
     fed-as (says .1) (c .before .before .text-at .ensures)
-
-same-length-2 : tie.Need-same-length-2
-same-length-2 c = search needs
 
 returns-2 : tie.Need-returns-2
 returns-2 c =
@@ -85,16 +61,5 @@ returns-2 c =
 pub view-at-spec : {M : Type 1} → statement M
 view-at-spec =
     tie.close
-    (tie.spec
-    slice-aggregate-label-at
-    label-at-requires
-    enum-known-n
-    array-share-prefix-label
-    slice-aggregate-text-at
-    text-at-requires
-    enum-known-reason
-    refused-at-requires
-    same-length
-    returns
-    same-length-2
-    returns-2)
+    (tie.spec (search needs) (search needs) (search needs) array-share-prefix-label slice-aggregate-text-at
+    (search needs) (search needs) (search needs) (search needs) returns (search needs) returns-2)
