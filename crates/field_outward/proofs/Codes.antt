@@ -1,7 +1,7 @@
 -- Laws of codes: classes, the letters of each pattern, and codes of a known length.
 -- Assumes nothing.
-use Prim.Native.Nat.{ℕ, zero, suc, _+_, _*_, _≤_, _<_}
-use mathlib.Core.Path.{_≡_, refl, sym, ap, _∙_}
+use Prim.Native.Nat.{ℕ, zero, suc, _+_, _*_, _≤_}
+use mathlib.Core.Path.{_≡_, refl, ap, _∙_}
 use mathlib.Core.Bool.{Bool, true, false, cond, _&&_}
 use mathlib.Core.List.{List, [], _∷_}
 use mathlib.Core.Logic.{_⊎_, inl, inr}
@@ -38,7 +38,7 @@ third-on zero b n m = absurd (n refl)
 third-on (suc zero) b n m = absurd (m refl)
 third-on (suc (suc more)) b n m = refl
 
-pub class-to-3 : (b : ℕ) → class b ≤ 3
+class-to-3 : (b : ℕ) → class b ≤ 3
 unfolding class
 class-to-3 b = by-tests (letter b) (digit b) (eqb b 32)
   where
@@ -47,6 +47,9 @@ class-to-3 b = by-tests (letter b) (digit b) (eqb b 32)
     by-tests false true v = omega arith
     by-tests false false true = omega arith
     by-tests false false false = omega arith
+
+pub to-3 : {r : ℕ} (b : ℕ) → r ≡ class b → r ≤ 3
+to-3 b e = omega (arith, class-to-3 b)
 
 -- a byte is a letter where its class is 1, and only there
 letter-class : (b : ℕ) → letter b ≡ eqb (class b) 1

@@ -1,6 +1,6 @@
 -- Every answer is the one that document 01's sentence gives, with the letters named: the rows of marks say the same.
 -- Assumes nothing.
-use Prim.Native.Nat.{ℕ, zero, suc, _+_, _-_, _≤_, _<_}
+use Prim.Native.Nat.{ℕ, zero, suc, _+_, _-_, _<_}
 use mathlib.Core.Path.{_≡_, refl, sym, ap, _∙_}
 use mathlib.Core.Bool.{Bool, true, false, cond, not, _&&_}
 use mathlib.Core.List.{List, [], _∷_}
@@ -11,7 +11,7 @@ use Rattle.field.specs.Test.{elem}
 use Rattle.field.specs.Text.{letter}
 use Rattle.field.proofs.Tests.{and-left, and-right, range-low, range-high}
 use Rattle.field_outward.specs.Letters.{●, firstRow, secondRow, thirdRow, marked}
-use Rattle.field_outward.specs.Outward.{sequenceFrom, patterns, allowed, lettersFault, outwardFault}
+use Rattle.field_outward.specs.Outward.{sequenceFrom, patterns, allowed, lettersBy, lettersFault, outwardFault}
 
 -- "the first is not Q, V, X; the second not I, Z; a third is one of A B C D E F G H J K M N P R S T U V W X Y", by how
 -- many letters stand before it
@@ -62,26 +62,20 @@ letters-named (suc zero) b e = row-named (named 1) secondRow b refl refl e
 letters-named (suc (suc more)) b e = row-named (named 2) thirdRow b refl refl e
 
 -- the letters of a code, and a whole code, as they were judged with the letters named
-abbrev lettersBefore : ℕ → ℕ → List ℕ → ℕ
-lettersBefore before at [] = 0
-lettersBefore before at (x ∷ xs) =
-    cond (letter x) (cond (named before x) (lettersBefore (suc before) (suc at) xs) at)
-    (lettersBefore before (suc at) xs)
-
-letters-stay : (before at : ℕ) (s : List ℕ) → lettersFault before at s ≡ lettersBefore before at s
+letters-stay : (before at : ℕ) (s : List ℕ) → lettersFault before at s ≡ lettersBy named before at s
 letters-stay before at [] = refl
 letters-stay before at (x ∷ xs) =
     by-letter (letter x) refl (letters-stay (suc before) (suc at) xs) (letters-stay before (suc at) xs)
   where
-    by-letter : (t : Bool) → letter x ≡ t → lettersFault (suc before) (suc at) xs ≡ lettersBefore (suc before) (suc at) xs
-        → lettersFault before (suc at) xs ≡ lettersBefore before (suc at) xs
+    by-letter : (t : Bool) → letter x ≡ t → lettersFault (suc before) (suc at) xs ≡ lettersBy named (suc before) (suc at) xs
+        → lettersFault before (suc at) xs ≡ lettersBy named before (suc at) xs
         → cond t (cond (allowed before x) (lettersFault (suc before) (suc at) xs) at) (lettersFault before (suc at) xs)
-        ≡ cond t (cond (named before x) (lettersBefore (suc before) (suc at) xs) at) (lettersBefore before (suc at) xs)
+        ≡ cond t (cond (named before x) (lettersBy named (suc before) (suc at) xs) at) (lettersBy named before (suc at) xs)
     by-letter true e later other = rw (letters-named before x e, later)
     by-letter false e later other = other
 
 abbrev outwardBefore : List ℕ → ℕ
-outwardBefore s = cond (eqb (length s) 4 && elem (sequenceFrom 0 s) patterns) (lettersBefore 0 1 s) 1
+outwardBefore s = cond (eqb (length s) 4 && elem (sequenceFrom 0 s) patterns) (lettersBy named 0 1 s) 1
 
 pub every-answer-stays : (s : List ℕ) → outwardFault s ≡ outwardBefore s
 unfolding outwardFault

@@ -29,12 +29,16 @@ allowed zero b = marked firstRow b
 allowed (suc zero) b = marked secondRow b
 allowed (suc (suc more)) b = marked thirdRow b
 
--- "Counting only the letters": the place of the first letter that may not stand where it stands
+-- "Counting only the letters": the place of the first letter that may not stand where it stands, by a rule for each
+-- number of letters before
+abbrev pub lettersBy : (ℕ → ℕ → Bool) → ℕ → ℕ → List ℕ → ℕ
+lettersBy rule before at [] = 0
+lettersBy rule before at (x ∷ xs) =
+    cond (letter x) (cond (rule before x) (lettersBy rule (suc before) (suc at) xs) at)
+    (lettersBy rule before (suc at) xs)
+
 abbrev pub lettersFault : ℕ → ℕ → List ℕ → ℕ
-lettersFault before at [] = 0
-lettersFault before at (x ∷ xs) =
-    cond (letter x) (cond (allowed before x) (lettersFault (suc before) (suc at) xs) at)
-    (lettersFault before (suc at) xs)
+lettersFault before at s = lettersBy allowed before at s
 
 -- a code of another length, or in none of the patterns, is at fault at byte 1; a forbidden letter is its own byte
 unfoldable pub outwardFault : List ℕ → ℕ

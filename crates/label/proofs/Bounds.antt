@@ -17,7 +17,7 @@ use Rattle.source.specs.Address.{Elements}
 use Rattle.label.specs.Lines.{line, boxLine, spaced, street, streetLine, numberText, Premises, premises, table, fronted, places, premisesOf, linesOf}
 use Rattle.label.specs.Label.{ended, labelOf}
 use Rattle.label.specs.Widths.{Fits, NoneAbove}
-use Rattle.label.proofs.Split.{ended-append}
+use Rattle.label.proofs.Places.{ended-append}
 
 -- bytes of lines after lines
 size-append : (a b : List (List ℕ)) → length (ended (a ++ b)) ≡ length (ended a) + length (ended b)

@@ -9,3 +9,4 @@ pub mod Examples
 pub mod Room
 pub mod Going
 pub mod Walk
+pub mod Pieces

@@ -1,14 +1,14 @@
 -- Laws of lines: their bytes one after another, and the front before the first of the places.
 -- Assumes nothing.
-use Prim.Native.Nat.{ℕ, _+_, _≤_}
+use Prim.Native.Nat.{ℕ, _+_}
 use mathlib.Core.Path.{_≡_, refl, sym, ap, _∙_}
 use mathlib.Core.Bool.{Bool, true, false, _&&_}
 use mathlib.Core.List.{List, [], _∷_, _++_, append-assoc, append-nil}
 use native.Mathlib.Omega.{arith}
-use lib.ListN.{length, length-append}
-use Rattle.label.specs.Lines.{isEmpty, line, boxLine, street, streetLine, spaced, fronted}
+use lib.ListN.{length}
+use Rattle.label.specs.Lines.{isEmpty, line, boxLine, street, streetLine, spaced}
 use Rattle.label.specs.Label.{ended}
-use Rattle.label.specs.Put.{tailText, lead, placeLine, opened}
+use Rattle.label.specs.Put.{tailText, lead, placeLine, behindFront}
 
 -- lines after lines
 pub ended-append : (a b : List (List ℕ)) → ended (a ++ b) ≡ ended a ++ ended b
@@ -29,7 +29,7 @@ line-street (x ∷ xs) = refl
 -- the first of the places, and the others
 module _ (d : List ℕ) (rest : List (List ℕ)) where
   pub open-step : (p : Bool) (f n : List ℕ)
-      → placeLine p f n d ++ opened (p && isEmpty n) f rest ≡ opened p f (streetLine n d ++ rest)
+      → placeLine p f n d ++ behindFront (p && isEmpty n) f rest ≡ behindFront p f (streetLine n d ++ rest)
   open-step true f [] = refl
   open-step false f [] = refl
   open-step true [] (x ∷ xs) = ap (λ (z : List ℕ). z ∷ rest) (street-tail (x ∷ xs) d)
@@ -40,23 +40,23 @@ module _ (d : List ℕ) (rest : List (List ℕ)) where
   open-step false f (x ∷ xs) = ap (λ (z : List ℕ). z ∷ rest) (street-tail (x ∷ xs) d)
 
   pub open-bytes : (p : Bool) (f n : List ℕ)
-      → ended (placeLine p f n d) ++ ended (opened (p && isEmpty n) f rest) ≡ ended (opened p f (streetLine n d ++ rest))
-  open-bytes p f n = sym (ended-append (placeLine p f n d) (opened (p && isEmpty n) f rest)) ∙ ap ended (open-step p f n)
+      → ended (placeLine p f n d) ++ ended (behindFront (p && isEmpty n) f rest) ≡ ended (behindFront p f (streetLine n d ++ rest))
+  open-bytes p f n = sym (ended-append (placeLine p f n d) (behindFront (p && isEmpty n) f rest)) ∙ ap ended (open-step p f n)
 
 -- the same of a place of one text
 pub open-line : (rest : List (List ℕ)) (p : Bool) (f n : List ℕ)
-    → ended (placeLine p f n []) ++ ended (opened (p && isEmpty n) f rest) ≡ ended (opened p f (line n ++ rest))
+    → ended (placeLine p f n []) ++ ended (behindFront (p && isEmpty n) f rest) ≡ ended (behindFront p f (line n ++ rest))
 open-line rest p f n =
-    open-bytes [] rest p f n ∙ ap (λ (z : List (List ℕ)). ended (opened p f (z ++ rest))) (sym (line-street n))
+    open-bytes [] rest p f n ∙ ap (λ (z : List (List ℕ)). ended (behindFront p f (z ++ rest))) (sym (line-street n))
 
 -- and of the last
-pub open-last : (p : Bool) (f n : List ℕ) → ended (placeLine p f n []) ≡ ended (opened p f (line n))
+pub open-last : (p : Bool) (f n : List ℕ) → ended (placeLine p f n []) ≡ ended (behindFront p f (line n))
 open-last p f n =
     sym (append-nil (ended (placeLine p f n [])))
     ∙ (ap (λ (z : List ℕ). ended (placeLine p f n []) ++ z) (none (p && isEmpty n) f)
-    ∙ (open-line [] p f n ∙ ap (λ (z : List (List ℕ)). ended (opened p f z)) (append-nil (line n))))
+    ∙ (open-line [] p f n ∙ ap (λ (z : List (List ℕ)). ended (behindFront p f z)) (append-nil (line n))))
   where
-    none : (q : Bool) (g : List ℕ) → [] ≡ ended (opened q g [])
+    none : (q : Bool) (g : List ℕ) → [] ≡ ended (behindFront q g [])
     none false g = refl
     none true [] = refl
     none true (x ∷ xs) = refl
@@ -65,7 +65,7 @@ open-last p f n =
 module _ (p : Bool) (f n m t : List ℕ) where
   pub locality-bytes : ended (placeLine p f n [])
       ++ (ended (placeLine (p && isEmpty n) f m []) ++ ended (placeLine ((p && isEmpty n) && isEmpty m) f t []))
-      ≡ ended (opened p f (line n ++ (line m ++ line t)))
+      ≡ ended (behindFront p f (line n ++ (line m ++ line t)))
   locality-bytes =
       ap (λ (z : List ℕ). ended (placeLine p f n []) ++ z)
       (ap (λ (z : List ℕ). ended (placeLine (p && isEmpty n) f m []) ++ z)
@@ -75,8 +75,8 @@ module _ (p : Bool) (f n m t : List ℕ) where
 
 module _ (p : Bool) (f n d m e : List ℕ) (rest : List (List ℕ)) where
   pub place-bytes : ended (placeLine p f n d)
-      ++ (ended (placeLine (p && isEmpty n) f m e) ++ ended (opened ((p && isEmpty n) && isEmpty m) f rest))
-      ≡ ended (opened p f (streetLine n d ++ (streetLine m e ++ rest)))
+      ++ (ended (placeLine (p && isEmpty n) f m e) ++ ended (behindFront ((p && isEmpty n) && isEmpty m) f rest))
+      ≡ ended (behindFront p f (streetLine n d ++ (streetLine m e ++ rest)))
   place-bytes =
       ap (λ (z : List ℕ). ended (placeLine p f n d) ++ z) (open-bytes e rest (p && isEmpty n) f m)
       ∙ open-bytes d (streetLine m e ++ rest) p f n
@@ -138,18 +138,3 @@ module _ (p : Bool) (f : List ℕ) where
       sym
       (append-assoc (lead p f) ((x ∷ xs) ++ tailText d) (10 ∷ [])
       ∙ ap (λ (z : List ℕ). lead p f ++ z) (append-assoc (x ∷ xs) (tailText d) (10 ∷ [])))
-
--- the sizes of texts one after another
-module _ {i j : ℕ} (p q : List ℕ) {t : List ℕ} (is-i : i ≡ length p) (is-j : j ≡ length q) where
-  pub two-size : p ++ q ≡ t → i + j ≡ length t
-  two-size e = omega (arith, ap length e, length-append p q)
-
-  pub three-size : {k : ℕ} (s : List ℕ) → k ≡ length s → p ++ (q ++ s) ≡ t → i + j + k ≡ length t
-  three-size s is-k e = omega (arith, ap length e, length-append p (q ++ s), length-append q s)
-
-pub lead-size : (f : List ℕ) (r : ℕ) → r ≡ length f → (r ≡ 0 → ⊥) → r + 1 ≡ length (lead true f)
-lead-size [] r e h = absurd (h e)
-lead-size (x ∷ xs) r e h = omega (arith, length-append (x ∷ xs) (32 ∷ []))
-
-pub pair-size : (s t : List ℕ) (i j : ℕ) → i ≡ length s → j ≡ length t → i + j + 2 ≡ length (ended (spaced s t ∷ []))
-pair-size s t i j p q = omega (arith, length-append (s ++ (32 ∷ t)) (10 ∷ []), length-append s (32 ∷ t))

@@ -1,17 +1,12 @@
 -- A label is its organisation and department lines, followed by the label with both absent.
 -- Assumes nothing.
-use Prim.Native.Nat.{ℕ}
-use mathlib.Core.Path.{_≡_, refl, sym, ap, _∙_}
-use mathlib.Core.List.{List, [], _∷_, _++_, append-assoc}
+use mathlib.Core.Path.{_≡_, sym, ap, _∙_}
+use mathlib.Core.List.{_++_, append-assoc}
 use Rattle.source.specs.Address.{Elements}
 use Rattle.label.specs.Lines.{line, linesOf}
 use Rattle.label.specs.Label.{ended, labelOf}
 use Rattle.label.specs.Widths.{without}
-
--- lines after lines
-pub ended-append : (a b : List (List ℕ)) → ended (a ++ b) ≡ ended a ++ ended b
-ended-append [] b = refl
-ended-append (l ∷ ls) b = rw (ended-append ls b) (sym (append-assoc l (10 ∷ ended ls) (ended b)))
+use Rattle.label.proofs.Places.{ended-append}
 
 lines-split : (e : Elements) → linesOf e ≡ line (e .organisation) ++ line (e .department) ++ linesOf (without e)
 unfolding linesOf

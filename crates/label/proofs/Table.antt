@@ -1,13 +1,12 @@
 -- The row of the table of premises that the code decides is the table's.
 -- Assumes nothing.
 use Prim.Native.Nat.{ℕ, _+_, _/_, _%_, _≤_, _<_}
-use mathlib.Core.Path.{_≡_, refl, sym, ap, _∙_}
-use mathlib.Core.Bool.{Bool, true, false, cond, _&&_}
+use mathlib.Core.Path.{_≡_, refl, ap, _∙_}
+use mathlib.Core.Bool.{Bool, true, false, cond}
 use mathlib.Core.List.{List, [], _∷_, _++_, append-nil}
 use native.Mathlib.Omega.{arith}
 use borrow.Author.Tests.{ne-eqb, lt-ltb, le-ltb}
-use lib.Dec.{eqb, ltb, lit≤}
-use lib.ListN.{length}
+use lib.Dec.{eqb, ltb}
 use Rattle.field.specs.Text.{numericLike}
 use Rattle.field.proofs.Tests.{and-true, and-false}
 use Rattle.label.specs.declared.Spans.{Spans}

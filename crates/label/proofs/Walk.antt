@@ -1,10 +1,11 @@
--- A walk over the pieces of a text: they are put one behind the other, there is room for each, and then the text stands.
+-- A text made of pieces: its size, and a walk that puts them one behind the other. There is room for each, and at the
+-- end the text stands.
 -- Assumes nothing.
 use Prim.Native.Nat.{ℕ, _+_, _≤_}
-use mathlib.Core.Path.{_≡_, sym}
+use mathlib.Core.Path.{_≡_, sym, ap}
 use mathlib.Core.List.{List, [], _∷_, _++_}
 use native.Mathlib.Omega.{arith}
-use lib.ListN.{length}
+use lib.ListN.{length, length-append}
 use Rattle.label.specs.Put.{Put}
 use Rattle.label.proofs.Going.{Going, going-start, going-as, going-left, going-room, going-step, going-last}
 
@@ -13,6 +14,32 @@ abbrev pub joined : List (List ℕ) → List ℕ
 joined [] = []
 joined (p ∷ []) = p
 joined (p ∷ q ∷ ps) = p ++ joined (q ∷ ps)
+
+pub record Made (pieces : List (List ℕ)) (whole : List ℕ) : Type 0 where
+  pub is : joined pieces ≡ whole
+
+-- the size of a text of two, three and four pieces, and a bound of it
+module _ {p q whole : List ℕ} {i j u v : ℕ} where
+  pub two-sized : {n : ℕ} → Made (p ∷ q ∷ []) whole → (i ≡ length p) × (i ≤ u) → (j ≡ length q) × (j ≤ v)
+      → u + v ≤ n → (i + j ≡ length whole) × (i + j ≤ n)
+  two-sized m a b h = (omega (arith, ap length (m .is), length-append p q), omega arith)
+
+  pub three-sized : {s : List ℕ} {k w n : ℕ} → Made (p ∷ q ∷ s ∷ []) whole → (i ≡ length p) × (i ≤ u)
+      → (j ≡ length q) × (j ≤ v) → (k ≡ length s) × (k ≤ w) → u + v + w ≤ n
+      → (i + j + k ≡ length whole) × (i + j + k ≤ n)
+  three-sized {s} m a b d h =
+      (omega (arith, ap length (m .is), length-append p (q ++ s), length-append q s), omega arith)
+
+pub four-sized : {p q s t whole : List ℕ} {i j k l : ℕ} → Made (p ∷ q ∷ s ∷ t ∷ []) whole → i ≡ length p
+    → j ≡ length q → k ≡ length s → l ≡ length t → i + j + k + l ≡ length whole
+four-sized {p} {q} {s} {t} m a b d e =
+    omega (
+      arith,
+      ap length (m .is),
+      length-append p (q ++ (s ++ t)),
+      length-append q (s ++ t),
+      length-append s t,
+    )
 
 -- of `whole`, whose size there is room for, `pieces` are to put yet, from `at` on
 pub record Walk (whole : List ℕ) (pieces : List (List ℕ)) (entry : List ℕ) (start at : ℕ) (out : List ℕ) : Type 0 where
@@ -23,14 +50,13 @@ pub record Walk (whole : List ℕ) (pieces : List (List ℕ)) (entry : List ℕ)
 abbrev pub Begun : (whole : List ℕ) (pieces : List (List ℕ)) (entry : List ℕ) (start : ℕ) → Type 0
 Begun whole pieces entry start = Walk whole pieces entry start start entry
 
-pub begun : {whole : List ℕ} (pieces : List (List ℕ)) {o : List ℕ} {at : ℕ} → joined pieces ≡ whole
-    → at + length whole ≤ length o → Begun whole pieces o at
-begun {whole} pieces {o} {at} e h = record { going = going-as (sym e) (going-start whole o at); fits = h }
+module _ {whole o : List ℕ} {pieces : List (List ℕ)} where
+  pub begun : {at : ℕ} → Made pieces whole → at + length whole ≤ length o → Begun whole pieces o at
+  begun {at} m h = record { going = going-as (sym (m .is)) (going-start whole o at); fits = h }
 
--- the same at the front of the buffer
-pub begun-front : {whole : List ℕ} (pieces : List (List ℕ)) {o : List ℕ} → joined pieces ≡ whole
-    → length whole ≤ length o → Begun whole pieces o 0
-begun-front pieces e h = begun pieces e (omega arith)
+  -- the same at the front of the buffer
+  pub begun-front : Made pieces whole → length whole ≤ length o → Begun whole pieces o 0
+  begun-front m h = begun m (omega arith)
 
 module _ {whole p o x : List ℕ} {s i : ℕ} where
   -- there is room for the next piece

@@ -2,12 +2,12 @@
 -- Assumes nothing.
 use Prim.Native.Nat.{ℕ, _+_, _≤_, _<_}
 use mathlib.Core.Path.{_≡_, refl, sym, ap, _∙_}
-use mathlib.Core.Bool.{Bool, true, false}
+use mathlib.Core.Bool.{true, false}
 use mathlib.Core.List.{List, [], _∷_, _++_, append-assoc}
 use native.Mathlib.Omega.{arith}
 use borrow.Author.Tests.{le-leb, lt-leb}
 use lib.Dec.{leb}
-use lib.ListN.{length, drop, length-append}
+use lib.ListN.{length, drop}
 use Rattle.refusal.specs.declared.Reason.the-variants.{Room}
 use Rattle.refusal.specs.declared.Answer.the-variants.{Value, Refused}
 use Rattle.source.specs.Address.{Elements}
@@ -19,7 +19,7 @@ use Rattle.label.specs.declared.shape.Front.{Front}
 use Rattle.label.specs.Lines.{line, boxLine, spaced, fronted, places, premisesOf, linesOf}
 use Rattle.label.specs.Label.{ended, labelOf, roomAnswer, roomMemory}
 use Rattle.label.specs.Spans.{textIn2, elementsIn}
-use Rattle.label.specs.Put.{frontText, opened, headLines, rowLines}
+use Rattle.label.specs.Put.{frontText, behindFront, headLines, rowLines}
 use Rattle.label.specs.Rows.{shapeIn, linesFor, frontFor}
 use Rattle.label.proofs.Places.{ended-append}
 use Rattle.label.proofs.Table.{row-lines, row-front}
@@ -65,7 +65,7 @@ module _ (a b : List ℕ) (e : Spans) (sh : Shape) (l : Lines) (f : Front)
     (is-shape : sh ≡ shapeIn a b e) (is-lines : l ≡ linesFor sh e) (is-front : f ≡ frontFor sh e) where
   pub label-bytes : ended (headLines (elementsIn a b e))
       ++ (ended (rowLines a b l)
-      ++ (ended (opened (f .pending) (frontText a b f) (places (elementsIn a b e)))
+      ++ (ended (behindFront (f .pending) (frontText a b f) (places (elementsIn a b e)))
       ++ ended (spaced (textIn2 a b (e .outward)) (textIn2 a b (e .inward)) ∷ [])))
       ≡ labelOf (elementsIn a b e)
   unfolding elementsIn
@@ -78,23 +78,6 @@ module _ (a b : List ℕ) (e : Spans) (sh : Shape) (l : Lines) (f : Front)
         row-front a b e sh is-shape,
       )
       (groups (elementsIn a b e))
-
-  -- and its size
-  pub label-size : {h i j k : ℕ} → h ≡ length (ended (headLines (elementsIn a b e)))
-      → i ≡ length (ended (rowLines a b l))
-      → j ≡ length (ended (opened (f .pending) (frontText a b f) (places (elementsIn a b e))))
-      → k ≡ length (ended (spaced (textIn2 a b (e .outward)) (textIn2 a b (e .inward)) ∷ []))
-      → h + i + j + k ≡ length (labelOf (elementsIn a b e))
-  label-size p q r s =
-      four (ended (headLines (elementsIn a b e))) (ended (rowLines a b l))
-      (ended (opened (f .pending) (frontText a b f) (places (elementsIn a b e))))
-      (ended (spaced (textIn2 a b (e .outward)) (textIn2 a b (e .inward)) ∷ [])) p q r s
-      ∙ ap length label-bytes
-    where
-      four : (w x y z : List ℕ) {h i j k : ℕ} → h ≡ length w → i ≡ length x → j ≡ length y → k ≡ length z
-          → h + i + j + k ≡ length (w ++ (x ++ (y ++ z)))
-      four w x y z p q r s =
-          omega (arith, length-append w (x ++ (y ++ z)), length-append x (y ++ z), length-append y z)
 
 -- the answer and the memory where there is no room, and where there is
 pub room-refused : (t o : List ℕ) (n : ℕ) → n ≡ length t → length o < n

@@ -50,9 +50,9 @@ frontAfter f name =
     record { pending = f .pending && isEmpty name; number = f .number; text = f .text; beside = f .beside }
 
 -- the lines behind a front that may be pending
-abbrev pub opened : Bool → List ℕ → List (List ℕ) → List (List ℕ)
-opened false f ls = ls
-opened true f ls = fronted f ls
+abbrev pub behindFront : Bool → List ℕ → List (List ℕ) → List (List ℕ)
+behindFront false f ls = ls
+behindFront true f ls = fronted f ls
 
 -- the last of the places: "double dependent locality; dependent locality; post town"
 abbrev pub localities : Elements → List (List ℕ)
@@ -93,7 +93,7 @@ abbrev pub premisesIn : (a b : List ℕ) → Lines → List ℕ
 premisesIn a b l = ended (rowLines a b l)
 
 abbrev pub localitiesIn : (a b : List ℕ) → Front → Spans → List ℕ
-localitiesIn a b f e = ended (opened (f .pending) (frontText a b f) (localities (elementsIn a b e)))
+localitiesIn a b f e = ended (behindFront (f .pending) (frontText a b f) (localities (elementsIn a b e)))
 
 abbrev pub placesIn : (a b : List ℕ) → Front → Spans → List ℕ
-placesIn a b f e = ended (opened (f .pending) (frontText a b f) (places (elementsIn a b e)))
+placesIn a b f e = ended (behindFront (f .pending) (frontText a b f) (places (elementsIn a b e)))

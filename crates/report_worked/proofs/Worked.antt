@@ -118,9 +118,14 @@ view-2 = 118 ∷ 105 ∷ 101 ∷ 119 ∷ 32 ∷ 50 ∷ 32 ∷ 68 ∷ 10 ∷ []
 abbrev refused-line : List ℕ
 refused-line = 114 ∷ 101 ∷ 102 ∷ 117 ∷ 115 ∷ 101 ∷ 100 ∷ 32 ∷ 57 ∷ 32 ∷ 54 ∷ 10 ∷ []
 
+-- what a run is computed from: to unfold this is to unfold all that its line names
+unfoldable pub run-computes : Unit {0}
+unfolding digitsFault digitValue value textFault filledFault textIn numericLike identifier headerOk trailerOk recordAt inwardLetter inwardFault suffixFault class allowed outwardFault oneOf keyFault pointFault doubleFault tableFault judged verdict checked needed follows placed wanted wantedIn wantedCount wantedAt lastRow inForce rowOf lastFound found forbidden missing elementsOf resolve addressOf tableLookup labelOf numberText linesOf decimal byteText refusedLine viewText block pairText pointsText reportOf
+run-computes = tt
+
 pub one-run : reportOf table points
     ≡ pair-line 7 ++ (view-1 ++ (line-1 ++ (line-2 ++ (line-3 ++ (line-4 ++ (view-2 ++ refused-line))))))
-unfolding digitsFault digitValue value textFault filledFault textIn numericLike identifier headerOk trailerOk recordAt inwardLetter inwardFault suffixFault class allowed outwardFault oneOf keyFault pointFault doubleFault tableFault judged verdict checked needed follows placed wanted wantedIn wantedCount wantedAt lastRow inForce rowOf lastFound found forbidden missing elementsOf resolve addressOf tableLookup labelOf numberText linesOf decimal byteText refusedLine viewText block pairText pointsText reportOf
+unfolding run-computes
 one-run = refl
 
 -- a respelt building prints its last spelling; a deleted one is missing
@@ -128,7 +133,7 @@ pub one-twice :
     (reportOf respelt points
     ≡ pair-line 8 ++ (view-1 ++ (line-1 ++ (line-2 ++ (line-3 ++ (line-4 ++ (view-2 ++ refused-line)))))))
     × (reportOf ended points ≡ pair-line 9 ++ (view-1 ++ (refused-line ++ (view-2 ++ refused-line))))
-unfolding digitsFault digitValue value textFault filledFault textIn numericLike identifier headerOk trailerOk recordAt inwardLetter inwardFault suffixFault class allowed outwardFault oneOf keyFault pointFault doubleFault tableFault judged verdict checked needed follows placed wanted wantedIn wantedCount wantedAt lastRow inForce rowOf lastFound found forbidden missing elementsOf resolve addressOf tableLookup labelOf numberText linesOf decimal byteText refusedLine viewText block pairText pointsText reportOf
+unfolding run-computes
 one-twice = (refl, refl)
 
 -- document 01's run with a small q for the Q of QUARRY, byte 25 of record 3: table refused 4 3 25
@@ -137,5 +142,5 @@ misspelt-line =
     116 ∷ 97 ∷ 98 ∷ 108 ∷ 101 ∷ 32 ∷ 114 ∷ 101 ∷ 102 ∷ 117 ∷ 115 ∷ 101 ∷ 100 ∷ 32 ∷ 52 ∷ 32 ∷ 51 ∷ 32 ∷ 50 ∷ 53 ∷ 10 ∷ []
 
 pub one-refused : reportOf (set table 362 113) points ≡ misspelt-line
-unfolding digitsFault digitValue value textFault filledFault textIn numericLike identifier headerOk trailerOk recordAt inwardLetter inwardFault suffixFault class allowed outwardFault oneOf keyFault pointFault doubleFault tableFault judged verdict checked needed follows placed wanted wantedIn wantedCount wantedAt lastRow inForce rowOf lastFound found forbidden missing elementsOf resolve addressOf tableLookup labelOf numberText linesOf decimal byteText refusedLine viewText block pairText pointsText reportOf
+unfolding run-computes
 one-refused = refl

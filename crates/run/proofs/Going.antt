@@ -2,7 +2,7 @@
 -- Assumes nothing.
 use Prim.Native.Nat.{ℕ, zero, suc, _+_, _-_, _≤_, _<_}
 use mathlib.Core.Path.{_≡_, refl, sym, ap, _∙_}
-use mathlib.Core.List.{List, [], _∷_, _++_, append-assoc}
+use mathlib.Core.List.{List, _++_, append-assoc}
 use native.Mathlib.Omega.{arith}
 use native.Mathlib.Nat.{zero-add}
 use lib.ListN.{length, take, drop, length-append, take-append-drop}
@@ -12,7 +12,7 @@ use Rattle.refusal.specs.declared.Answer.{Answer}
 use Rattle.refusal.specs.declared.Answer.the-variants.{Value, Refused}
 use Rattle.run.specs.declared.Series.{Series}
 use Rattle.run.specs.declared.Series.the-variants.{Unasked, Stopped, Done}
-use Rattle.run.specs.Series.{Asking, behind, goOn, goOnMemory, seriesFrom, memoryFrom}
+use Rattle.run.specs.Series.{Asking, behind, goOn, seriesFrom, memoryFrom}
 
 done-asked : (l b file : ℕ) (why : Reason) → Done l b ≡ Unasked file why → ⊥
 done-asked l b file why e = let z : _≡_ {A = ℕ} 0 1 = cc in omega arith

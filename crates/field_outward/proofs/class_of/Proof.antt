@@ -1,5 +1,5 @@
 -- `field_outward::class_of` meets its contract. Assumes nothing.
-use mathlib.Core.Path.{_≡_, refl, sym, ap, _∙_}
+use mathlib.Core.Path.{refl, sym, ap}
 use native.Mathlib.Omega.{arith}
 use Rattle.field_outward.specs.Outward.{class}
 use Rattle.field.proofs.Runs.{run-at, run-but}

@@ -1,6 +1,6 @@
 -- `field_outward::is_allowed` meets its contract. Assumes nothing.
 use borrow.Author.Needs.{needs}
-use mathlib.Core.Path.{_≡_, refl, sym, ap, _∙_}
+use mathlib.Core.Path.{sym, ap, _∙_}
 use Rattle.field_outward.specs.Outward.{allowed}
 use Rattle.field_outward.proofs.Codes.{third-on}
 use Rattle.field_outward.proofs.is_allowed.Statement.{statement}

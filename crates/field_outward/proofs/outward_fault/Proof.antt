@@ -1,6 +1,6 @@
 -- `field_outward::outward_fault` meets its contract. Assumes nothing.
 use borrow.Author.Needs.{needs}
-use mathlib.Core.Path.{_≡_, refl, sym, ap, _∙_}
+use mathlib.Core.Path.{sym, ap, _∙_}
 use Rattle.field_outward.specs.Outward.{outwardFault}
 use Rattle.field_outward.proofs.Codes.{four, not-four}
 use Rattle.field_outward.proofs.outward_fault.Statement.{statement}

@@ -1,7 +1,6 @@
 -- `field_read::digit_value` meets its contract. Assumes nothing.
 use borrow.Author.Needs.{needs}
-use mathlib.Core.Path.{_≡_, refl, sym, ap, _∙_}
-use native.Mathlib.Omega.{arith}
+use mathlib.Core.Path.{sym, _∙_}
 use Rattle.field.specs.Digits.{digitValue}
 use Rattle.field.proofs.Tests.{range-low}
 use Rattle.field_read.proofs.digit_value.Statement.{statement}

@@ -1,6 +1,6 @@
 -- `field_read::is_numeric_like` meets its contract. Assumes nothing.
 use borrow.Author.Needs.{needs}
-use mathlib.Core.Path.{_≡_, refl, sym, ap, _∙_}
+use mathlib.Core.Path.{sym, _∙_}
 use native.Mathlib.Omega.{arith}
 use Rattle.field.proofs.Likes.{like-short, like-first, like-long}
 use Rattle.field_read.proofs.is_numeric_like.Statement.{statement}

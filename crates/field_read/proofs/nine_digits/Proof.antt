@@ -2,11 +2,11 @@
 -- over the digits left. Assumes nothing.
 use borrow.Author.Needs.{needs}
 use Prim.Native.Nat.{_-_, _^_, _≤_, _<_}
-use mathlib.Core.Path.{_≡_, refl, sym, ap, _∙_}
+use mathlib.Core.Path.{_≡_, refl, sym, _∙_}
 use native.Mathlib.Omega.{arith}
 use lib.Dec.{lit<}
 use lib.ListN.{length, drop, getD}
-use Rattle.field.specs.Digits.{valueFrom, digitValue}
+use Rattle.field.specs.Digits.{valueFrom}
 use Rattle.field.proofs.Values.{digit-to-9, value-step, value-end, power-step, power-small}
 use Rattle.field_read.proofs.nine_digits.Statement.{statement}
 use Rattle.field_read.proofs.nine_digits.Tie as tie

@@ -1,6 +1,6 @@
 -- `field_test::digits_fault` meets its contract. Assumes nothing.
 use borrow.Author.Needs.{needs}
-use mathlib.Core.Path.{_≡_, refl, sym, ap, _∙_}
+use mathlib.Core.Path.{_∙_}
 use Rattle.field.specs.Test.{member}
 use Rattle.field.specs.Digits.{digit, digitsFault}
 use Rattle.field.proofs.Tests.{one-range}

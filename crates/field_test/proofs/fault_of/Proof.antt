@@ -1,6 +1,6 @@
 -- `field_test::fault_of` meets its contract. Assumes nothing.
 use borrow.Author.Needs.{needs}
-use mathlib.Core.Path.{_≡_, refl, sym, ap, _∙_}
+use mathlib.Core.Path.{sym}
 use Rattle.field.specs.Test.{member}
 use Rattle.field.proofs.Faults.{no-fault}
 use Rattle.field_test.proofs.fault_of.Statement.{statement}

@@ -1,6 +1,6 @@
 -- `field_test::filled_fault` meets its contract. Assumes nothing.
 use borrow.Author.Needs.{needs}
-use mathlib.Core.Path.{_≡_, refl, sym, ap, _∙_}
+use mathlib.Core.Path.{sym, _∙_}
 use Rattle.field.proofs.Texts.{filled-blank, filled-other}
 use Rattle.field_test.proofs.filled_fault.Statement.{statement}
 use Rattle.field_test.proofs.filled_fault.Tie as tie

@@ -1,6 +1,6 @@
 -- `field_test::starts_blank` meets its contract. Assumes nothing.
 use borrow.Author.Needs.{needs}
-use mathlib.Core.Path.{_≡_, refl, sym, ap, _∙_}
+use mathlib.Core.Path.{sym}
 use Rattle.field.proofs.Texts.{starts-empty, starts-byte}
 use Rattle.field_test.proofs.starts_blank.Statement.{statement}
 use Rattle.field_test.proofs.starts_blank.Tie as tie

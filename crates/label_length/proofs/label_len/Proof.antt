@@ -1,26 +1,24 @@
--- `label_length::label_len` meets its contract. Assumes nothing.
+-- `label_length::label_len` meets its contract: head, premises, places and postcode.
+-- Assumes nothing.
 use borrow.Author.Needs.{needs}
-use mathlib.Core.Path.{_≡_, refl, sym, ap, _∙_}
-use native.Mathlib.Omega.{arith}
-use Rattle.label.proofs.Whole.{label-size}
+use Rattle.label.proofs.Pieces.{label-made}
+use Rattle.label.proofs.Walk.{four-sized}
 use Rattle.label_length.proofs.label_len.Statement.{statement}
 use Rattle.label_length.proofs.label_len.Tie as tie
 
 returns : tie.Need-returns
 returns c =
-    let c₁ = c .before in
-    let c₂ = c₁ .before in
-    let c₃ = c₂ .before in
-    let c₄ = c₃ .before .before .before in
-    let c₅ = c₄ .before in
-    let c₆ = c₅ .before in
-    let c₇ = c₆ .before .before .before in
-    let a = c₇ .args .a .now in
-    let b = c₇ .args .b .now in
-    label-size a b (c₇ .args .e) (c₆ .shape-of .result) (c₅ .lines-of .result) (c₄ .front-of .result)
-    (c₆ .shape-of .ensures)
-    (c₅ .lines-of .ensures) (c₄ .front-of .ensures) (c₃ .head-len .ensures .0) (c₂ .premises-len .ensures .0)
-    (c₁ .places-len .ensures .0)
+    let places = c .before in
+    let premises = places .before in
+    let head = premises .before in
+    let front = head .before .before .before in
+    let lines = front .before in
+    let shape = lines .before in
+    let g = shape .before .before .before .args in
+    four-sized
+    (label-made (g .a .now) (g .b .now) (g .e) (shape .shape-of .ensures) (lines .lines-of .ensures)
+    (front .front-of .ensures))
+    (head .head-len .ensures .0) (premises .premises-len .ensures .0) (places .places-len .ensures .0)
     (c .pair-len .ensures .0)
 
 pub label-len-spec : {M : Type 1} → statement M

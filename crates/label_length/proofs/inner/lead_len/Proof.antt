@@ -1,38 +1,31 @@
--- `label_length::inner::lead_len` meets its contract. Assumes nothing.
+-- `label_length::inner::lead_len` meets its contract: nothing of a front that is empty or no longer pending, and else the front and a space.
+-- Assumes nothing.
 use borrow.Author.Needs.{needs}
-use mathlib.Core.Path.{_≡_, refl, sym, ap, _∙_}
+use mathlib.Core.Path.{refl, sym, ap, _∙_}
 use native.Mathlib.Omega.{arith}
 use lib.ListN.{length}
 use Rattle.label.specs.Put.{frontText}
-use Rattle.label.proofs.Places.{lead-none, lead-size}
+use Rattle.label.proofs.Places.{lead-none}
+use Rattle.label.proofs.Pieces.{lead-made}
+use Rattle.label.proofs.Walk.{two-sized}
 use Rattle.label_length.proofs.inner.lead_len.Statement.{statement}
 use Rattle.label_length.proofs.inner.lead_len.Tie as tie
 
 returns : tie.Need-returns
 returns c =
-    let c₁ = c .before in
-    let c₂ = c₁ .before in
-    let c₃ = c₂ .before .before .before in
-    let a = c₃ .args .a .now in
-    let b = c₃ .args .b .now in
-    rw (c₂ .if1 .taken) (
-      ap length (lead-none (frontText a b (c₃ .args .f)) (sym (c₁ .front-len .ensures .0) ∙ c .if2 .taken)),
-      omega
-          arith,
-    )
+    let pending = c .before .before in
+    let g = pending .before .before .before .args in
+    let f = frontText (g .a .now) (g .b .now) (g .f) in
+    rw (pending .if1 .taken)
+    (ap length (lead-none f (sym (c .before .front-len .ensures .0) ∙ c .if2 .taken)), omega arith)
 
 returns-2 : tie.Need-returns-2
 returns-2 c =
-    let c₁ = c .before in
-    let c₂ = c₁ .before in
-    let c₃ = c₂ .before .before .before in
-    let a = c₃ .args .a .now in
-    let b = c₃ .args .b .now in
-    rw (c₂ .if1 .taken) (
-      lead-size (frontText a b (c₃ .args .f)) _ (c₁ .front-len .ensures .0) (c .if2 .left),
-      omega
-          (arith, c₁ .front-len .ensures .1),
-    )
+    let pending = c .before .before in
+    let g = pending .before .before .before .args in
+    let front = c .before .front-len .ensures in
+    two-sized {v = 1} (lead-made (g .a .now) (g .b .now) (g .f) (pending .if1 .taken) (λ z. c .if2 .left (front .0 ∙ z))) front
+    (refl, omega arith) (omega arith)
 
 returns-3 : tie.Need-returns-3
 returns-3 c = rw (c .if1 .left) (refl, omega arith)

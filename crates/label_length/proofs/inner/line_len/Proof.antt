@@ -1,6 +1,7 @@
--- `label_length::inner::line_len` meets its contract. Assumes nothing.
+-- `label_length::inner::line_len` meets its contract: nothing of no text, and else the text and its end.
+-- Assumes nothing.
 use borrow.Author.Needs.{needs}
-use mathlib.Core.Path.{_≡_, refl, sym, ap, _∙_}
+use mathlib.Core.Path.{sym, ap, _∙_}
 use native.Mathlib.Omega.{arith}
 use lib.ListN.{length, length-append}
 use Rattle.label.specs.Spans.{textIn2}
@@ -10,30 +11,17 @@ use Rattle.label_length.proofs.inner.line_len.Tie as tie
 
 returns : tie.Need-returns
 returns c =
-    let c₁ = c .before in
-    let c₂ = c₁ .before .before .before in
-    let a = c₂ .args .a .now in
-    let b = c₂ .args .b .now in (
-      ap length (line-none (textIn2 a b (c₂ .args .s)) (sym (c₁ .text-len .ensures .0) ∙ c .if1 .taken)),
-      omega
-          arith,
-    )
+    let g = c .before .before .before .before .args in
+    let t = textIn2 (g .a .now) (g .b .now) (g .s) in
+    (ap length (line-none t (sym (c .before .text-len .ensures .0) ∙ c .if1 .taken)), omega arith)
 
 returns-2 : tie.Need-returns-2
 returns-2 c =
-    let c₁ = c .before in
-    let c₂ = c₁ .before .before .before in
-    let a = c₂ .args .a .now in
-    let b = c₂ .args .b .now in (
-      omega (
-        arith,
-        simp length-append at
-            (ap length (line-some (textIn2 a b (c₂ .args .s)) (λ z. c .if1 .left (c₁ .text-len .ensures .0 ∙ z)))),
-        c₁
-            .text-len .ensures .0,
-      ),
-      omega (arith, c₁ .text-len .ensures .1),
-    )
+    let text = c .before .text-len .ensures in
+    let g = c .before .before .before .before .args in
+    let t = textIn2 (g .a .now) (g .b .now) (g .s) in
+    let made = line-some t (λ z. c .if1 .left (text .0 ∙ z)) in
+    (omega (arith, simp length-append at (ap length made), text .0), omega (arith, text .1))
 
 pub line-len-spec : {M : Type 1} → statement M
 line-len-spec =

@@ -1,22 +1,21 @@
--- `label_length::inner::pair_len` meets its contract. Assumes nothing.
+-- `label_length::inner::pair_len` meets its contract: two texts, the space between them and the end.
+-- Assumes nothing.
 use borrow.Author.Needs.{needs}
-use mathlib.Core.Path.{_≡_, refl, sym, ap, _∙_}
+use mathlib.Core.Path.{refl}
 use native.Mathlib.Omega.{arith}
-use Rattle.label.specs.Spans.{textIn2}
-use Rattle.label.proofs.Places.{pair-size}
+use Rattle.label.proofs.Pieces.{pair-made}
+use Rattle.label.proofs.Walk.{four-sized}
 use Rattle.label_length.proofs.inner.pair_len.Statement.{statement}
 use Rattle.label_length.proofs.inner.pair_len.Tie as tie
 
 returns : tie.Need-returns
 returns c =
-    let c₁ = c .before in
-    let c₂ = c₁ .before .before .before in
-    let a = c₂ .args .a .now in
-    let b = c₂ .args .b .now in (
-      pair-size (textIn2 a b (c₂ .args .s)) (textIn2 a b (c₂ .args .t)) _ _ (c₁ .text-len .ensures .0)
-          (c .text-len2 .ensures .0),
-      omega (arith, c₁ .text-len .ensures .1, c .text-len2 .ensures .1),
-    )
+    let first = c .before .text-len .ensures in
+    let second = c .text-len2 .ensures in
+    let g = c .before .before .before .before .args in
+    let made = pair-made (g .a .now) (g .b .now) (g .s) (g .t) in
+    let size = four-sized {j = 1} {l = 1} made (first .0) refl (second .0) refl in
+    (omega (arith, size), omega (arith, first .1, second .1))
 
 pub pair-len-spec : {M : Type 1} → statement M
 pair-len-spec =

@@ -1,23 +1,15 @@
 -- `label_lines::inner::head_at` meets its contract: organisation, department and PO box, one behind the other.
 -- Assumes nothing.
 use borrow.Author.Needs.{needs}
-use mathlib.Core.List.{[], _∷_}
-use Rattle.label.specs.Lines.{line, boxLine}
-use Rattle.label.specs.Put.{headIn, lineIn, boxIn}
-use Rattle.label.specs.Spans.{textIn2, elementsIn}
-use Rattle.label.proofs.Places.{three-bytes}
+use Rattle.label.specs.Put.{headIn}
+use Rattle.label.proofs.Pieces.{headPieces, head-made}
 use Rattle.label.proofs.Walk.{Begun, begun, room, step, last}
 use Rattle.label_lines.proofs.inner.head_at.Statement.{statement}
 use Rattle.label_lines.proofs.inner.head_at.Tie as tie
 
-at-start : (s : tie.Start) → let a = s .args .a .now in let b = s .args .b .now in let e = s .args .e in
-    Begun (headIn a b e) (lineIn a b (e .organisation) ∷ lineIn a b (e .department) ∷ boxIn a b (e .«po_box») ∷ [])
-    (s .args .out .now) (s .args .at)
-unfolding elementsIn
-at-start s =
-    let text = textIn2 (s .args .a .now) (s .args .b .now) in
-    let e = s .args .e in
-    begun _ (three-bytes (line (text (e .organisation))) (line (text (e .department))) (boxLine (text (e .«po_box»)))) (s .pre)
+at-start : (c : tie.Start) → let g = c .args in let a = g .a .now in let b = g .b .now in
+    Begun (headIn a b (g .e)) (headPieces a b (g .e)) (g .out .now) (g .at)
+at-start c = begun (head-made _ _ (c .args .e)) (c .pre)
 
 line-at-requires : tie.Need-line-at-requires
 line-at-requires c κs = room (at-start (c .before .before .before .before .before .before .before))

@@ -1,35 +1,24 @@
 -- `label_lines::inner::localities_at` meets its contract: three places, with the front before the first that there is.
 -- Assumes nothing.
 use borrow.Author.Needs.{needs}
-use mathlib.Core.List.{[], _∷_}
-use Rattle.label.specs.Put.{frontText, placeIn, localitiesIn}
-use Rattle.label.specs.Spans.{textIn2, elementsIn}
-use Rattle.label.proofs.Places.{locality-bytes}
+use Rattle.label.specs.Put.{localitiesIn}
+use Rattle.label.proofs.Pieces.{localitiesPieces, localities-made}
 use Rattle.label.proofs.Walk.{Begun, begun, room, step, last}
 use Rattle.label_lines.proofs.inner.localities_at.Statement.{statement}
 use Rattle.label_lines.proofs.inner.localities_at.Tie as tie
 
 at-double : (c : tie.After-front-after2) → let none = c .before .before in
     let g = none .before .before .before .before .before .before .before .args in
-    let a = g .a .now in let b = g .b .now in let e = g .e in let no = none .no-text .result in
-    Begun (localitiesIn a b (g .f) e)
-    (placeIn a b (g .f) (e .«double_locality») no
-    ∷ placeIn a b (c .before .front-after .result) (e .«dependent_locality») no
-    ∷ placeIn a b (c .front-after2 .result) (e .town) no ∷ [])
+    let a = g .a .now in let b = g .b .now in
+    Begun (localitiesIn a b (g .f) (g .e))
+    (localitiesPieces a b (none .no-text .result) (g .f) (c .before .front-after .result) (c .front-after2 .result) (g .e))
     (g .out .now) (g .at)
-unfolding elementsIn
 at-double c =
     let none = c .before .before in
     let start = none .before .before .before .before .before .before .before in
-    let a = start .args .a .now in
-    let b = start .args .b .now in
-    let e = start .args .e in
-    let f = start .args .f in
-    let text = textIn2 a b in
-    begun _
-    (rw (none .no-text .ensures, c .front-after2 .ensures, c .before .front-after .ensures)
-    (locality-bytes (f .pending) (frontText a b f) (text (e .«double_locality»)) (text (e .«dependent_locality»))
-    (text (e .town))))
+    begun
+    (localities-made _ _ (start .args .f) (start .args .e) (none .no-text .ensures) (c .before .front-after .ensures)
+    (c .front-after2 .ensures))
     (start .pre)
 
 place-at-requires : tie.Need-place-at-requires

@@ -1,34 +1,20 @@
 -- `label_lines::inner::places_at` meets its contract: two thoroughfares and the localities, with the front before the first that there is.
 -- Assumes nothing.
 use borrow.Author.Needs.{needs}
-use mathlib.Core.List.{[], _∷_}
-use Rattle.label.specs.Put.{frontText, localities, placeIn, localitiesIn, placesIn}
-use Rattle.label.specs.Spans.{textIn2, elementsIn}
-use Rattle.label.proofs.Places.{place-bytes}
+use Rattle.label.specs.Put.{placesIn}
+use Rattle.label.proofs.Pieces.{placesPieces, places-made}
 use Rattle.label.proofs.Walk.{Begun, begun, room, step, last}
 use Rattle.label_lines.proofs.inner.places_at.Statement.{statement}
 use Rattle.label_lines.proofs.inner.places_at.Tie as tie
 
 at-dependent : (c : tie.After-front-after2)
     → let g = c .before .before .before .before .before .before .before .before .before .args in
-    let a = g .a .now in let b = g .b .now in let e = g .e in
-    Begun (placesIn a b (g .f) e)
-    (placeIn a b (g .f) (e .dependent) (e .«dependent_descriptor»)
-    ∷ placeIn a b (c .before .front-after .result) (e .thoroughfare) (e .descriptor)
-    ∷ localitiesIn a b (c .front-after2 .result) e ∷ [])
-    (g .out .now) (g .at)
-unfolding elementsIn
+    let a = g .a .now in let b = g .b .now in
+    Begun (placesIn a b (g .f) (g .e))
+    (placesPieces a b (g .f) (c .before .front-after .result) (c .front-after2 .result) (g .e)) (g .out .now) (g .at)
 at-dependent c =
     let start = c .before .before .before .before .before .before .before .before .before in
-    let a = start .args .a .now in
-    let b = start .args .b .now in
-    let e = start .args .e in
-    let f = start .args .f in
-    let text = textIn2 a b in
-    begun _
-    (rw (c .front-after2 .ensures, c .before .front-after .ensures)
-    (place-bytes (f .pending) (frontText a b f) (text (e .dependent)) (text (e .«dependent_descriptor»))
-    (text (e .thoroughfare)) (text (e .descriptor)) (localities (elementsIn a b e))))
+    begun (places-made _ _ (start .args .f) (start .args .e) (c .before .front-after .ensures) (c .front-after2 .ensures))
     (start .pre)
 
 place-at-requires : tie.Need-place-at-requires

@@ -2,11 +2,11 @@
 -- Assumes nothing.
 use borrow.Author.Needs.{needs}
 use mathlib.Core.Path.{sym, _∙_}
-use mathlib.Core.List.{[], _∷_}
 use Rattle.label.specs.Put.{boxIn}
 use Rattle.label.specs.Spans.{textIn2}
 use Rattle.label.proofs.Puts.{wrote, wrote-as, wrote-none}
-use Rattle.label.proofs.Places.{poBox, box-none, box-some}
+use Rattle.label.proofs.Places.{box-none}
+use Rattle.label.proofs.Pieces.{boxPieces, box-made}
 use Rattle.label.proofs.Walk.{Begun, begun-front, room, step, last}
 use Rattle.label_lines.proofs.inner.put_box.Statement.{statement}
 use Rattle.label_lines.proofs.inner.put_box.Tie as tie
@@ -17,12 +17,11 @@ returns c =
     wrote-as (box-none (textIn2 (g .a .now) (g .b .now) (g .s)) (sym (c .before .text-len .ensures .0) ∙ c .if1 .taken))
     (wrote-none (g .out .now))
 
-at-box : (c : tie.Else1) → let g = c .before .before .before .before .before .args in let a = g .a .now in let b = g .b .now in
-    Begun (boxIn a b (g .s)) (poBox ∷ textIn2 a b (g .s) ∷ (10 ∷ []) ∷ []) (g .out .now) 0
+at-box : (c : tie.Else1) → let g = c .before .before .before .before .before .args in
+    let a = g .a .now in let b = g .b .now in Begun (boxIn a b (g .s)) (boxPieces a b (g .s)) (g .out .now) 0
 at-box c =
     let start = c .before .before .before .before .before in
-    let t = textIn2 (start .args .a .now) (start .args .b .now) (start .args .s) in
-    begun-front _ (box-some t (λ z. c .if1 .left (c .before .text-len .ensures .0 ∙ z))) (start .pre)
+    begun-front (box-made _ _ (start .args .s) (λ z. c .if1 .left (c .before .text-len .ensures .0 ∙ z))) (start .pre)
 
 bytes-at-requires : tie.Need-bytes-at-requires
 bytes-at-requires c κs = room (at-box (c .before .before))

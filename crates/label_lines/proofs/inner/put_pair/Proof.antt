@@ -1,20 +1,16 @@
 -- `label_lines::inner::put_pair` meets its contract: the text, a space, the other text and its end.
 -- Assumes nothing.
 use borrow.Author.Needs.{needs}
-use mathlib.Core.List.{[], _∷_}
 use Rattle.label.specs.Put.{pairIn}
-use Rattle.label.specs.Spans.{textIn2}
 use Rattle.label.proofs.Puts.{wrote}
-use Rattle.label.proofs.Places.{pair-bytes}
+use Rattle.label.proofs.Pieces.{pairPieces, pair-made}
 use Rattle.label.proofs.Walk.{Begun, begun-front, room, step, last}
 use Rattle.label_lines.proofs.inner.put_pair.Statement.{statement}
 use Rattle.label_lines.proofs.inner.put_pair.Tie as tie
 
-at-start : (c : tie.Start) → let a = c .args .a .now in let b = c .args .b .now in let s = c .args .s in let t = c .args .t in
-    Begun (pairIn a b s t) (textIn2 a b s ∷ (32 ∷ []) ∷ textIn2 a b t ∷ (10 ∷ []) ∷ []) (c .args .out .now) 0
-at-start c =
-    let text = textIn2 (c .args .a .now) (c .args .b .now) in
-    begun-front _ (pair-bytes (text (c .args .s)) (text (c .args .t))) (c .pre)
+at-start : (c : tie.Start) → let g = c .args in let a = g .a .now in let b = g .b .now in
+    Begun (pairIn a b (g .s) (g .t)) (pairPieces a b (g .s) (g .t)) (g .out .now) 0
+at-start c = begun-front (pair-made _ _ (c .args .s) (c .args .t)) (c .pre)
 
 text-at-requires : tie.Need-text-at-requires
 text-at-requires c κs = room (at-start (c .before .before .before .before))

@@ -2,11 +2,11 @@
 -- Assumes nothing.
 use borrow.Author.Needs.{needs}
 use mathlib.Core.Path.{sym, _∙_}
-use mathlib.Core.List.{[], _∷_}
-use Rattle.label.specs.Put.{frontText, leadIn, tailIn, placeIn}
 use Rattle.label.specs.Spans.{textIn2}
 use Rattle.label.proofs.Puts.{wrote, wrote-as, wrote-none}
-use Rattle.label.proofs.Places.{place-none, place-some}
+use Rattle.label.specs.Put.{frontText, placeIn}
+use Rattle.label.proofs.Places.{place-none}
+use Rattle.label.proofs.Pieces.{placePieces, place-made}
 use Rattle.label.proofs.Walk.{Begun, begun-front, room, step, last}
 use Rattle.label_lines.proofs.inner.put_place.Statement.{statement}
 use Rattle.label_lines.proofs.inner.put_place.Tie as tie
@@ -20,17 +20,14 @@ returns c =
     (sym (c .before .text-len .ensures .0) ∙ c .if1 .taken))
     (wrote-none (g .out .now))
 
-at-lead : (c : tie.Else1) → let g = c .before .before .before .before .before .args in let a = g .a .now in let b = g .b .now in
-    Begun (placeIn a b (g .f) (g .name) (g .tail))
-    (leadIn a b (g .f) ∷ textIn2 a b (g .name) ∷ tailIn a b (g .tail) ∷ (10 ∷ []) ∷ []) (g .out .now) 0
+at-lead : (c : tie.Else1) → let g = c .before .before .before .before .before .args in
+    let a = g .a .now in let b = g .b .now in
+    Begun (placeIn a b (g .f) (g .name) (g .tail)) (placePieces a b (g .f) (g .name) (g .tail)) (g .out .now) 0
 at-lead c =
     let start = c .before .before .before .before .before in
     let g = start .args in
-    let text = textIn2 (g .a .now) (g .b .now) in
-    begun-front _
-    (place-some (g .f .pending) (frontText (g .a .now) (g .b .now) (g .f)) (text (g .name)) (text (g .tail))
-    (λ z. c .if1 .left (c .before .text-len .ensures .0 ∙ z)))
-    (start .pre)
+    begun-front
+    (place-made _ _ (g .f) (g .name) (g .tail) (λ z. c .if1 .left (c .before .text-len .ensures .0 ∙ z))) (start .pre)
 
 lead-at-requires : tie.Need-lead-at-requires
 lead-at-requires c κs = room (at-lead (c .before))

@@ -1,29 +1,23 @@
 -- `label_lines::inner::write_label` meets its contract: head, premises, places and postcode, one behind the other.
 -- Assumes nothing.
 use borrow.Author.Needs.{needs}
-use mathlib.Core.List.{[], _∷_}
 use Rattle.label.specs.Label.{labelOf}
-use Rattle.label.specs.Put.{headIn, premisesIn, placesIn, pairIn}
 use Rattle.label.specs.Spans.{elementsIn}
 use Rattle.label.proofs.Puts.{wrote}
-use Rattle.label.proofs.Whole.{label-bytes}
+use Rattle.label.proofs.Pieces.{labelPieces, label-made}
 use Rattle.label.proofs.Walk.{Begun, begun-front, room, step, last}
 use Rattle.label_lines.proofs.inner.write_label.Statement.{statement}
 use Rattle.label_lines.proofs.inner.write_label.Tie as tie
 
 at-head : (c : tie.After-front-of) → let g = c .before .before .before .before .before .before .args in
-    let a = g .a .now in let b = g .b .now in let e = g .e in
-    Begun (labelOf (elementsIn a b e))
-    (headIn a b e ∷ premisesIn a b (c .before .lines-of .result) ∷ placesIn a b (c .front-of .result) e
-    ∷ pairIn a b (e .outward) (e .inward) ∷ []) (g .out .now) 0
+    let a = g .a .now in let b = g .b .now in
+    Begun (labelOf (elementsIn a b (g .e))) (labelPieces a b (c .before .lines-of .result) (c .front-of .result) (g .e))
+    (g .out .now) 0
 at-head c =
-    let lines = c .before in
-    let shape = lines .before in
+    let shape = c .before .before in
     let start = shape .before .before .before .before in
-    let g = start .args in
-    begun-front _
-    (label-bytes (g .a .now) (g .b .now) (g .e) (shape .shape-of .result) (lines .lines-of .result) (c .front-of .result)
-    (shape .shape-of .ensures) (lines .lines-of .ensures) (c .front-of .ensures))
+    begun-front
+    (label-made _ _ (start .args .e) (shape .shape-of .ensures) (c .before .lines-of .ensures) (c .front-of .ensures))
     (start .pre)
 
 head-at-requires : tie.Need-head-at-requires

@@ -1,20 +1,18 @@
 -- `label_pieces::inner::front_text_at` meets its contract: the number, the text and what stands beside it, one behind the other.
 -- Assumes nothing.
 use borrow.Author.Needs.{needs}
-use mathlib.Core.Path.{refl}
-use mathlib.Core.List.{[], _∷_}
-use Rattle.label.specs.Lines.{numberText}
-use Rattle.label.specs.Put.{frontText, tailIn}
-use Rattle.label.specs.Spans.{textIn2}
+use Rattle.label.specs.Put.{frontText}
+use Rattle.label.proofs.Pieces.{frontPieces, front-made}
 use Rattle.label.proofs.Walk.{Begun, begun, room, step, last}
 use Rattle.label_pieces.proofs.inner.front_text_at.Statement.{statement}
 use Rattle.label_pieces.proofs.inner.front_text_at.Tie as tie
 
 at-number : (c : tie.After-beside) → let g = c .before .before .before .before .before .args in
-    let a = g .a .now in let b = g .b .now in let f = g .f in
-    Begun (frontText a b f) (numberText (f .number) ∷ textIn2 a b (f .text) ∷ tailIn a b (f .beside) ∷ [])
-    (g .out .now) (g .at)
-at-number c = begun _ refl (c .before .before .before .before .before .pre)
+    let a = g .a .now in let b = g .b .now in
+    Begun (frontText a b (g .f)) (frontPieces a b (g .f)) (g .out .now) (g .at)
+at-number c =
+    let start = c .before .before .before .before .before in
+    begun (front-made _ _ (start .args .f)) (start .pre)
 
 number-at-requires : tie.Need-number-at-requires
 number-at-requires c κs = room (at-number (c .before))

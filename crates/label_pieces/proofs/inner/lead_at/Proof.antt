@@ -2,10 +2,10 @@
 -- Assumes nothing.
 use borrow.Author.Needs.{needs}
 use mathlib.Core.Path.{sym, _∙_}
-use mathlib.Core.List.{[], _∷_}
 use Rattle.label.specs.Put.{frontText, leadIn}
 use Rattle.label.proofs.Puts.{put-none, put-as}
-use Rattle.label.proofs.Places.{lead-none, lead-some}
+use Rattle.label.proofs.Places.{lead-none}
+use Rattle.label.proofs.Pieces.{leadPieces, lead-made}
 use Rattle.label.proofs.Walk.{Begun, begun, room, step, last}
 use Rattle.label_pieces.proofs.inner.lead_at.Statement.{statement}
 use Rattle.label_pieces.proofs.inner.lead_at.Tie as tie
@@ -21,14 +21,12 @@ returns c =
 
 at-front : (c : tie.Else2) → let g = c .before .before .before .before .before .before .args in
     let a = g .a .now in let b = g .b .now in
-    Begun (leadIn a b (g .f)) (frontText a b (g .f) ∷ (32 ∷ []) ∷ []) (g .out .now) (g .at)
+    Begun (leadIn a b (g .f)) (leadPieces a b (g .f)) (g .out .now) (g .at)
 at-front c =
     let pending = c .before .before in
     let start = pending .before .before .before .before in
-    let g = start .args in
-    begun _
-    (rw (pending .if1 .taken)
-    (lead-some (frontText (g .a .now) (g .b .now) (g .f)) (λ z. c .if2 .left (c .before .front-len .ensures .0 ∙ z))))
+    begun
+    (lead-made _ _ (start .args .f) (pending .if1 .taken) (λ z. c .if2 .left (c .before .front-len .ensures .0 ∙ z)))
     (start .pre)
 
 front-text-at-requires : tie.Need-front-text-at-requires

@@ -24,21 +24,22 @@ at-one : (c : tie.Then2) → let g = c .before .before .before .args in
     Begun (numberText (g .n)) (((48 + g .n) ∷ []) ∷ []) (g .out .now) (g .at)
 at-one c =
     let start = c .before .before .before in
-    begun _ (number-1 (start .args .n) (c .before .if1 .left) (c .if2 .taken)) (start .pre)
+    begun (record { is = number-1 (start .args .n) (c .before .if1 .left) (c .if2 .taken) }) (start .pre)
 
 at-two : (c : tie.Then3) → let g = c .before .before .before .before .args in
     Begun (numberText (g .n)) (tens (g .n) ∷ []) (g .out .now) (g .at)
 at-two c =
     let start = c .before .before .before .before in
-    begun _ (number-2 (start .args .n) (c .before .before .if1 .left) (c .before .if2 .left) (c .if3 .taken)) (start .pre)
+    begun
+    (record { is = number-2 (start .args .n) (c .before .before .if1 .left) (c .before .if2 .left) (c .if3 .taken) })
+    (start .pre)
 
 at-three : (c : tie.Then4) → let g = c .before .before .before .before .before .args in
     Begun (numberText (g .n)) (((48 + g .n / 100) ∷ []) ∷ tens (g .n) ∷ []) (g .out .now) (g .at)
 at-three c =
     let start = c .before .before .before .before .before in
-    begun _
-    (number-3 (start .args .n) (c .before .before .before .if1 .left) (c .before .before .if2 .left)
-    (c .before .if3 .left) (c .if4 .taken))
+    let two = c .before .before in
+    begun (record { is = number-3 (start .args .n) (two .before .if1 .left) (two .if2 .left) (c .before .if3 .left) (c .if4 .taken) })
     (start .pre)
 
 at-four : (c : tie.Else4) → let g = c .before .before .before .before .before .args in
@@ -46,9 +47,8 @@ at-four : (c : tie.Else4) → let g = c .before .before .before .before .before 
     (g .out .now) (g .at)
 at-four c =
     let start = c .before .before .before .before .before in
-    begun _
-    (number-4 (start .args .n) (c .before .before .before .if1 .left) (c .before .before .if2 .left)
-    (c .before .if3 .left) (c .if4 .left))
+    let two = c .before .before in
+    begun (record { is = number-4 (start .args .n) (two .before .if1 .left) (two .if2 .left) (c .before .if3 .left) (c .if4 .left) })
     (start .pre)
 
 digit-at-requires : tie.Need-digit-at-requires

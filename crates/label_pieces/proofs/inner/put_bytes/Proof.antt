@@ -20,23 +20,23 @@ loop-holds c = (omega arith, refl, refl)
 
 loop-again : tie.Need-loop-again Inv-loop μ-loop
 loop-again c =
-    let c₁ = c .before in
-    let c₂ = c₁ .before in
-    let c₃ = c₂ .before in (
+    let at-loop = c .before .before in
+    let i = at-loop .loop .i in
+    let inv = at-loop .loop .inv in
+    let g = at-loop .before .args in (
       omega arith,
-      simp length-set (c₂ .loop .inv .1),
-      ap (λ (x : List ℕ). set x (c₂ .loop .i) (getD (c₃ .args .t .now) (c₂ .loop .i) 0)) (c₂ .loop .inv .2)
-          ∙ copy-step (c₃ .args .t .now) (c₃ .args .out .now) (c₂ .loop .i) (c₁ .loop-test .taken) (omega arith),
+      simp length-set (inv .1),
+      ap (λ (x : List ℕ). set x i (getD (g .t .now) i 0)) (inv .2)
+          ∙ copy-step (g .t .now) (g .out .now) i (c .before .loop-test .taken) (omega arith),
     )
 
 returns : tie.Need-returns Inv-loop μ-loop
 returns c =
-    let c₁ = c .before in
-    let c₂ = c₁ .before in
+    let loop = c .before .loop in
+    let g = c .before .before .args in
     record {
       size = omega arith;
-      is = c₁ .loop .inv .2 ∙ copy-all (c₂ .args .t .now) (c₂ .args .out .now) (c₁ .loop .i) (c .loop-test .left)
-          (c₁ .loop .inv .0);
+      is = loop .inv .2 ∙ copy-all (g .t .now) (g .out .now) (loop .i) (c .loop-test .left) (loop .inv .0);
     }
 
 pub put-bytes-spec : {M : Type 1} → statement M

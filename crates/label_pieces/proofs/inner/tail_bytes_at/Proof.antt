@@ -18,7 +18,7 @@ at-space : (c : tie.Else1) → let g = c .before .before .before .args in
     Begun (tailText (g .t .now)) ((32 ∷ []) ∷ g .t .now ∷ []) (g .out .now) (g .at)
 at-space c =
     let start = c .before .before .before in
-    begun _ (tail-some (start .args .t .now) (c .if1 .left)) (start .pre)
+    begun (record { is = tail-some (start .args .t .now) (c .if1 .left) }) (start .pre)
 
 byte-at-requires : tie.Need-byte-at-requires
 byte-at-requires c κs = room (at-space (c .before))

@@ -1,4 +1,4 @@
--- `label_pieces::inner::tens_at` meets its contract. Assumes nothing.
+-- `label_pieces::inner::tens_at` meets its contract: one digit behind the other. Assumes nothing.
 use borrow.Author.Needs.{needs}
 use Prim.Native.Nat.{_+_, _%_}
 use mathlib.Core.List.{[], _∷_}
@@ -8,22 +8,19 @@ use Rattle.label_pieces.proofs.inner.tens_at.Statement.{statement}
 use Rattle.label_pieces.proofs.inner.tens_at.Tie as tie
 
 digit-at-requires : tie.Need-digit-at-requires
-digit-at-requires c κs =
-    let c₁ = c .before .before in
-    (omega arith, omega (arith, c₁ .pre))
+digit-at-requires c κs = (omega arith, omega (arith, c .before .before .pre))
 
 digit-at-requires-2 : tie.Need-digit-at-requires-2
 digit-at-requires-2 c κs =
-    let c₁ = c .before .before .before in
-    let c₂ = c₁ .before .before .before in
-    (omega arith, room-after ((48 + c₂ .args .n % 10) ∷ []) (c₁ .digit-at .ensures) (c₂ .pre))
+    let ten = c .before .before .before in
+    let start = ten .before .before .before in
+    (omega arith, room-after ((48 + start .args .n % 10) ∷ []) (ten .digit-at .ensures) (start .pre))
 
 returns : tie.Need-returns
 returns c =
-    let c₁ = c .before .before in
-    let c₂ = c₁ .before .before .before .before in
-    let c₃ = c₂ .before .before .before in
-    put-then (c₂ .digit-at .ensures) (c₁ .digit-at2 .ensures) (c₃ .pre)
+    let one = c .before .before in
+    let ten = one .before .before .before .before in
+    put-then (ten .digit-at .ensures) (one .digit-at2 .ensures) (ten .before .before .before .pre)
 
 pub tens-at-spec : {M : Type 1} → statement M
 tens-at-spec =

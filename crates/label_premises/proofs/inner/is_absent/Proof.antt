@@ -1,6 +1,6 @@
 -- `label_premises::inner::is_absent` meets its contract. Assumes nothing.
 use borrow.Author.Needs.{needs}
-use mathlib.Core.Path.{_≡_, refl, sym, ap, _∙_}
+use mathlib.Core.Path.{sym}
 use Rattle.label.proofs.Texts.{empty-length}
 use Rattle.label_premises.proofs.inner.is_absent.Statement.{statement}
 use Rattle.label_premises.proofs.inner.is_absent.Tie as tie

@@ -1,6 +1,5 @@
 -- `label_premises::inner::no_front` meets its contract. Assumes nothing.
 use borrow.Author.Needs.{needs}
-use mathlib.Core.Path.{_≡_, refl, sym, ap, _∙_}
 use Rattle.label_premises.proofs.inner.no_front.Statement.{statement}
 use Rattle.label_premises.proofs.inner.no_front.Tie as tie
 
