@@ -29,4 +29,4 @@ pub write-pair-spec : {M : Type 1} → statement M
 write-pair-spec =
     tie.close
     (tie.spec (search needs) (search needs) (search needs) (search needs) (search needs) (search needs)
-    (search needs) (search needs) (search needs) (search needs) (search needs) returns)
+    (search needs) (search needs) (search needs) (λ c κs. search needs) (search needs) returns)

@@ -61,5 +61,5 @@ returns-2 c =
 pub view-at-spec : {M : Type 1} → statement M
 view-at-spec =
     tie.close
-    (tie.spec (search needs) (search needs) (search needs) array-share-prefix-label slice-aggregate-text-at
-    (search needs) (search needs) (search needs) (search needs) returns (search needs) returns-2)
+    (tie.spec (search needs) (λ c κs. search needs) (search needs) array-share-prefix-label slice-aggregate-text-at
+    (λ c κs. search needs) (search needs) (λ c κs. search needs) (search needs) returns (search needs) returns-2)
