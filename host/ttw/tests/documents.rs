@@ -5,59 +5,11 @@ mod support;
 
 use std::fs;
 use std::os::unix::fs::{symlink, PermissionsExt};
-use std::path::PathBuf;
 use std::process::Command;
+use support::pages::{blocks, documents, rows, text_of, Block};
 use support::{root, run, Folder, TTW};
 use ttw::ask::Refusal;
 use ttw::words::words;
-
-/// A block between fences: the word behind the first fence, and its lines.
-struct Block {
-    kind: String,
-    lines: Vec<String>,
-}
-
-/// The documents in a folder.
-fn documents_in(folder: &str) -> Vec<PathBuf> {
-    let mut documents: Vec<PathBuf> = fs::read_dir(root().join(folder))
-        .expect("a folder")
-        .map(|entry| entry.expect("an entry").path())
-        .filter(|path| path.is_file())
-        .collect();
-    documents.sort();
-    documents
-}
-
-/// The documents, README first.
-fn documents() -> Vec<PathBuf> {
-    let mut documents = vec![root().join("README.md")];
-    documents.extend(documents_in("docs"));
-    documents.extend(documents_in("docs/landings"));
-    documents.push(root().join("CHANGELOG.md"));
-    documents
-}
-
-fn text_of(name: &str) -> String {
-    fs::read_to_string(root().join(name)).expect("a document")
-}
-
-fn blocks(text: &str) -> Vec<Block> {
-    let mut blocks = Vec::new();
-    let mut lines = text.lines();
-    while let Some(line) = lines.next() {
-        if let Some(kind) = line.strip_prefix("```") {
-            blocks.push(Block {
-                kind: kind.to_string(),
-                lines: lines
-                    .by_ref()
-                    .take_while(|line| *line != "```")
-                    .map(str::to_string)
-                    .collect(),
-            });
-        }
-    }
-    blocks
-}
 
 /// A folder in which a reader might stand: the repository's own places, `ttw`
 /// and the library installed. `rt` has proved everything before these tests
@@ -251,19 +203,6 @@ fn the_page_of_refusals_has_the_words_that_a_user_sees() {
     assert_eq!(headings, numbers);
 }
 
-/// The cells of a table's rows, without its head.
-fn rows(text: &str, head: &str) -> Vec<Vec<String>> {
-    let table = text
-        .lines()
-        .skip_while(|line| !line.starts_with(head))
-        .skip(2);
-    table
-        .take_while(|line| line.starts_with('|'))
-        .map(|line| line.trim_matches('|').split('|'))
-        .map(|cells| cells.map(|cell| cell.trim().to_string()).collect())
-        .collect()
-}
-
 #[test]
 fn the_page_for_trainers_has_every_sample() {
     let labels = text_of("samples/labels.txt");
@@ -284,28 +223,4 @@ fn the_page_for_trainers_has_every_sample() {
         .map(|cells| cells[..3].join(" | "))
         .collect();
     assert_eq!(shown, expected);
-}
-
-#[test]
-fn the_crates_stand_in_an_order_that_their_arrows_keep() {
-    let shown: Vec<String> = rows(&text_of("docs/ARCHITECTURE.md"), "| crate |")
-        .into_iter()
-        .map(|cells| cells[0].trim_matches('`').to_string())
-        .collect();
-    let place = |name: &str| shown.iter().position(|shown| shown == name);
-    let arrows = text_of("crates.txt");
-    let crates = arrows.lines().filter(|line| !line.starts_with('#'));
-    let mut count = 0;
-    for (name, below) in crates.filter_map(|line| line.split_once(':')) {
-        count += 1;
-        let here = place(name);
-        assert!(here.is_some(), "docs/ARCHITECTURE.md has no row for {name}");
-        for lower in below.split_whitespace() {
-            assert!(
-                place(lower) < here,
-                "{name} uses {lower}, which stands below"
-            );
-        }
-    }
-    assert_eq!(shown.len(), count, "a row for a crate that there is not");
 }

@@ -2,6 +2,9 @@
 
 #![allow(dead_code)] // Each test program uses a part of it.
 
+pub mod pages;
+pub mod tree;
+
 use paper::make::Pair;
 use std::ffi::OsStr;
 use std::fs;
@@ -47,15 +50,7 @@ impl Folder {
 
     /// The names of the files in a folder below this one, sorted.
     pub fn names(&self, below: &str) -> Vec<String> {
-        let Ok(entries) = fs::read_dir(self.0.join(below)) else {
-            return Vec::new();
-        };
-        let mut names: Vec<String> = entries
-            .map(|entry| entry.expect("an entry").file_name())
-            .map(|name| name.to_string_lossy().into_owned())
-            .collect();
-        names.sort();
-        names
+        names_in(&self.0.join(below))
     }
 
     pub fn read(&self, name: &str) -> Vec<u8> {
@@ -80,6 +75,19 @@ impl Drop for Folder {
         // A folder that stays behind is no reason to fail.
         let _ = fs::remove_dir_all(&self.0);
     }
+}
+
+/// The names of what stands in a folder, sorted; none where there is no such folder.
+pub fn names_in(folder: &Path) -> Vec<String> {
+    let Ok(entries) = fs::read_dir(folder) else {
+        return Vec::new();
+    };
+    let mut names: Vec<String> = entries
+        .map(|entry| entry.expect("an entry").file_name())
+        .map(|name| name.to_string_lossy().into_owned())
+        .collect();
+    names.sort();
+    names
 }
 
 /// What a run gave: exit status, output and messages.

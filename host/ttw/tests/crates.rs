@@ -1,0 +1,295 @@
+//! The pages that speak of the crates say what stands in the tree. Each test tells all that it finds, so that a page
+//! can be mended at once.
+
+mod support;
+
+use std::collections::{BTreeMap, BTreeSet};
+use std::fs;
+use std::path::Path;
+use support::pages::{blocks, documents, quoted, rows, sections, text_of, Section};
+use support::tree::{all_paths, crates, edits, family, files_below, public_functions, words_of};
+use support::{names_in, root};
+
+const ARCHITECTURE: &str = "docs/ARCHITECTURE.md";
+
+/// Fails where there is something to tell.
+#[track_caller]
+fn nothing_of(told: Vec<String>) {
+    assert!(told.is_empty(), "\n{}\n", told.join("\n"));
+}
+
+/// What a page shows that is not there, what is there and not shown, and what is shown twice.
+fn differences(place: &str, shown: &[String], there: &[String]) -> Vec<String> {
+    let mut told = Vec::new();
+    let names: BTreeSet<&String> = shown.iter().chain(there).collect();
+    for name in names {
+        match (
+            shown.iter().filter(|shown| *shown == name).count(),
+            there.contains(name),
+        ) {
+            (0, _) => told.push(format!("{place}: `{name}` is missing")),
+            (_, false) => told.push(format!("{place}: `{name}` is not in the tree")),
+            (1, true) => {}
+            (times, true) => told.push(format!("{place}: `{name}` stands {times} times")),
+        }
+    }
+    told
+}
+
+/// The families, each with the families that it uses.
+fn families() -> BTreeMap<String, BTreeSet<String>> {
+    let crates = crates();
+    let ours: BTreeSet<&str> = crates.iter().map(|each| each.name.as_str()).collect();
+    let mut families: BTreeMap<String, BTreeSet<String>> = BTreeMap::new();
+    for each in &crates {
+        let here = family(&each.name);
+        let below = each.uses.iter().map(String::as_str);
+        let below = below.filter(|used| ours.contains(used)).map(family);
+        let uses = families.entry(here.to_string()).or_default();
+        uses.extend(below.filter(|used| *used != here).map(str::to_string));
+    }
+    families
+}
+
+#[test]
+fn an_arrow_goes_up_only_in_the_list_of_crates() {
+    let crates = crates();
+    let place = |name: &str| crates.iter().position(|each| each.name == name);
+    let mut told = Vec::new();
+    for (here, each) in crates.iter().enumerate() {
+        let below = |used: &&String| place(used).is_some_and(|place| place >= here);
+        let below = each.uses.iter().filter(below);
+        told.extend(below.map(|used| {
+            format!(
+                "crates.txt: {} uses {used}, which stands below it",
+                each.name
+            )
+        }));
+    }
+    nothing_of(told);
+}
+
+#[test]
+fn each_crate_stands_under_its_family() {
+    let all: Vec<String> = crates().into_iter().map(|each| each.name).collect();
+    let text = text_of(ARCHITECTURE);
+    let mut told = Vec::new();
+    let mut shown = Vec::new();
+    for section in sections(&text, "### ") {
+        let entries = section
+            .text
+            .lines()
+            .filter_map(|line| line.strip_prefix("- `"));
+        for name in entries.filter_map(|entry| entry.split('`').next()) {
+            if family(name) != section.name {
+                told.push(format!(
+                    "{ARCHITECTURE}: `{name}` stands under `{}`",
+                    section.name
+                ));
+            }
+            shown.push(name.to_string());
+        }
+    }
+    told.extend(differences(ARCHITECTURE, &shown, &all));
+    nothing_of(told);
+}
+
+#[test]
+fn the_arrows_between_families_are_those_of_the_crates() {
+    let families = families();
+    let table = rows(&text_of(ARCHITECTURE), "| family |");
+    let shown: Vec<String> = table.iter().flat_map(|cells| quoted(&cells[0])).collect();
+    let all: Vec<String> = families.keys().cloned().collect();
+    let mut told = differences(&format!("{ARCHITECTURE}, the families"), &shown, &all);
+    for cells in &table {
+        let name = cells[0].trim_matches('`');
+        let there: Vec<String> = families.get(name).into_iter().flatten().cloned().collect();
+        let place = format!("{ARCHITECTURE}, what `{name}` uses");
+        told.extend(differences(&place, &quoted(&cells[2]), &there));
+    }
+    nothing_of(told);
+}
+
+/// The first line of a picture that has a name as a word.
+fn line_with(picture: &[String], name: &str) -> Option<usize> {
+    let is_name = |word: &str| word == name;
+    let has = |line: &String| line.split(|c: char| !c.is_alphanumeric()).any(is_name);
+    picture.iter().position(has)
+}
+
+#[test]
+fn the_picture_has_each_family_above_what_it_uses() {
+    let families = families();
+    let block = blocks(&text_of(ARCHITECTURE)).into_iter().find(|block| {
+        let first = block.lines.iter().find(|line| !line.trim().is_empty());
+        first.is_some_and(|line| line.trim() == "demands")
+    });
+    let picture = block.expect("a picture with `demands` on top").lines;
+    let mut told = Vec::new();
+    for (name, uses) in &families {
+        let here = line_with(&picture, name);
+        if here.is_none() {
+            told.push(format!("{ARCHITECTURE}: the picture has no `{name}`"));
+        }
+        // Two that use each other stand as they like.
+        let one_way = |used: &&String| !families[*used].contains(name);
+        for used in uses.iter().filter(one_way) {
+            if line_with(&picture, used) < here {
+                told.push(format!(
+                    "{ARCHITECTURE}: `{name}` uses `{used}`, which the picture has above it"
+                ));
+            }
+        }
+    }
+    nothing_of(told);
+}
+
+/// The page that has the calls of a family.
+fn page_of(family: &str) -> String {
+    match family {
+        "demands" | "ttwibonal" => "docs/PROMISES.md".to_string(),
+        _ => format!("docs/calls/{family}.md"),
+    }
+}
+
+/// The head that every table of calls has at its end.
+const EDITS: &str = "| edits that are refused |";
+
+/// The calls and the edits that a section names.
+fn named(section: &Section) -> (Vec<String>, Vec<String>) {
+    let (mut calls, mut named) = (Vec::new(), Vec::new());
+    let heads = section.text.lines().filter(|line| line.ends_with(EDITS));
+    let heads: BTreeSet<&str> = heads.collect();
+    for head in heads {
+        for cells in rows(&section.text, head) {
+            calls.extend(quoted(&cells[0]));
+            named.extend(quoted(&cells[cells.len() - 1]));
+        }
+    }
+    let text = section.text.lines().filter(|line| !line.starts_with('|'));
+    let behind = text.filter_map(|line| line.split_once("Edits: ").or(line.split_once("Edit: ")));
+    named.extend(behind.flat_map(|(_, edits)| quoted(edits)));
+    (calls, named)
+}
+
+/// What a section says of its crate that is not so, or leaves out.
+fn untrue_of(page: &str, section: &Section) -> Vec<String> {
+    let name = &section.name;
+    if page_of(family(name)) != page {
+        return vec![format!(
+            "{page}: the section `{name}` belongs into {}",
+            page_of(family(name))
+        )];
+    }
+    let (calls, named) = named(section);
+    let mut told = differences(
+        &format!("{page}, calls of `{name}`"),
+        &calls,
+        &public_functions(name),
+    );
+    told.extend(differences(
+        &format!("{page}, edits of `{name}`"),
+        &named,
+        &edits(name),
+    ));
+    told
+}
+
+#[test]
+fn each_call_and_each_edit_stands_on_its_familys_page() {
+    let mut pages: BTreeSet<String> = names_in(&root().join("docs/calls"))
+        .iter()
+        .map(|name| format!("docs/calls/{name}"))
+        .collect();
+    pages.insert("docs/PROMISES.md".to_string());
+    let mut told = Vec::new();
+    let mut shown = Vec::new();
+    for page in &pages {
+        for section in sections(&text_of(page), "## ") {
+            told.extend(untrue_of(page, &section));
+            shown.push(section.name);
+        }
+    }
+    let has_any = |name: &String| !public_functions(name).is_empty() || !edits(name).is_empty();
+    let all: Vec<String> = crates().into_iter().map(|each| each.name).collect();
+    let with_a_section = |name: &String| shown.contains(name) || has_any(name);
+    let there: Vec<String> = all.into_iter().filter(with_a_section).collect();
+    told.extend(differences(
+        "the sections of docs/calls and docs/PROMISES.md",
+        &shown,
+        &there,
+    ));
+    nothing_of(told);
+}
+
+#[test]
+fn the_code_has_what_documents_name_by_its_path() {
+    let all = crates();
+    let paths: BTreeSet<String> = all.iter().flat_map(|each| all_paths(&each.name)).collect();
+    let kit = |name: &str| {
+        all.iter()
+            .any(|each| each.uses.iter().any(|used| used == name))
+    };
+    let kit = |name: &str| kit(name) && all.iter().all(|each| each.name != name);
+    let is_there = |name: &str| {
+        let starts_with_a_type = name.starts_with(char::is_uppercase);
+        let ends_so = |path: &String| path.ends_with(&format!("::{name}"));
+        let crate_name = name.split("::").next().expect("a name");
+        kit(crate_name) || paths.contains(name) || starts_with_a_type && paths.iter().any(ends_so)
+    };
+    let mut told = Vec::new();
+    for document in documents() {
+        let text = fs::read_to_string(&document).expect("a document");
+        let names = quoted(&text).into_iter().filter(|name| name.contains("::"));
+        let stale = names.filter(|name| !is_there(name));
+        told.extend(stale.map(|name| format!("{}: the code has no `{name}`", document.display())));
+    }
+    nothing_of(told);
+}
+
+/// What only those speak of that know a file of Changes: widths of records, and names for its files.
+fn knows_a_file(word: &str) -> bool {
+    let names = [
+        "168",
+        "169",
+        "table_record",
+        "point_record",
+        "table_fault",
+        "point_fault",
+        "check_table",
+        "check_points",
+        "tableFormat",
+        "pointFormat",
+        "tableFault",
+        "pointFault",
+        "tableLookup",
+    ];
+    names.contains(&word) || family(word) == "changes" && word.contains('_')
+}
+
+/// Each place of a crate where it speaks of a file of Changes.
+fn places_with_a_file(name: &str) -> Vec<String> {
+    let folder = root().join("crates").join(name);
+    let mut told = Vec::new();
+    for part in ["src", "specs", "proofs"] {
+        for file in files_below(&folder.join(part)) {
+            let place = file
+                .strip_prefix(root())
+                .unwrap_or(Path::new(""))
+                .display()
+                .to_string();
+            let words = words_of(&file)
+                .into_iter()
+                .filter(|(_, word)| knows_a_file(word));
+            told.extend(words.map(|(line, word)| format!("{place}:{line}: {word}")));
+        }
+    }
+    told
+}
+
+#[test]
+fn label_pack_and_build_know_no_file() {
+    let names = crates().into_iter().map(|each| each.name);
+    let names = names.filter(|name| ["label", "pack", "build"].contains(&family(name)));
+    nothing_of(names.flat_map(|name| places_with_a_file(&name)).collect());
+}
