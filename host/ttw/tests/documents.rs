@@ -7,7 +7,7 @@ use std::fs;
 use std::os::unix::fs::{symlink, PermissionsExt};
 use std::process::Command;
 use support::pages::{blocks, documents, rows, text_of, Block};
-use support::{root, run, Folder, TTW};
+use support::{names_in, root, run, Folder, TTW};
 use ttw::ask::Refusal;
 use ttw::words::words;
 
@@ -72,6 +72,9 @@ fn every_command_shown_prints_what_is_shown() {
     for document in documents() {
         let text = fs::read_to_string(&document).expect("a document");
         let commands = shown(&blocks(&text));
+        if commands.is_empty() {
+            continue;
+        }
         let desk = desk();
         let path = std::env::var("PATH").expect("a path");
         let ran = run(Command::new("bash")
@@ -137,6 +140,7 @@ fn the_files_that_documents_name_exist() {
         let words = text.split(|c: char| c.is_whitespace() || "`(),;:|".contains(c));
         for word in words.map(|word| word.trim_end_matches('.')) {
             let ours = [
+                "crates/",
                 "docs/",
                 "include/",
                 "examples/",
@@ -223,4 +227,20 @@ fn the_page_for_trainers_has_every_sample() {
         .map(|cells| cells[..3].join(" | "))
         .collect();
     assert_eq!(shown, expected);
+}
+
+#[test]
+fn each_landing_and_the_table_of_times_name_each_other() {
+    let table = "docs/landings/TIMES.md";
+    let times = text_of(table);
+    for name in names_in(&root().join("docs/landings")) {
+        let note = format!("docs/landings/{name}");
+        if note != table {
+            assert!(times.contains(&note), "{table} does not name {note}");
+            assert!(
+                text_of(&note).contains(table),
+                "{note} does not name {table}"
+            );
+        }
+    }
 }

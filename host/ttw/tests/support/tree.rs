@@ -183,6 +183,28 @@ pub fn all_paths(name: &str) -> Vec<String> {
     paths
 }
 
+/// What a line of a module declares, if it does: the first word that does not say how.
+fn declared_by(line: &str) -> Option<&str> {
+    let how = ["abbrev", "unfoldable", "pub", "record", "data"];
+    line.split_whitespace().find(|word| !how.contains(word))
+}
+
+/// What the definitions and laws of a crate declare, each behind its module: `Resolve.resolve`.
+pub fn declared(name: &str) -> Vec<String> {
+    let folder = root().join("crates").join(name);
+    let mut declared = Vec::new();
+    for file in ["specs", "proofs"]
+        .iter()
+        .flat_map(|part| files_below(&folder.join(part)))
+    {
+        let text = fs::read_to_string(&file).expect("a module");
+        let module = file.file_stem().expect("a name").to_string_lossy();
+        let names = text.lines().filter_map(declared_by);
+        declared.extend(names.map(|name| format!("{module}.{name}")));
+    }
+    declared
+}
+
 /// The words of a file of a crate, with their lines.
 pub fn words_of(file: &Path) -> Vec<(usize, String)> {
     let text = fs::read_to_string(file).expect("a file of a crate");
