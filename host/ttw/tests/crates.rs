@@ -13,6 +13,7 @@ use support::tree::{
 use support::{names_in, root};
 
 const ARCHITECTURE: &str = "docs/ARCHITECTURE.md";
+const PROMISES: &str = "docs/PROMISES.md";
 
 /// Fails where there is something to tell.
 #[track_caller]
@@ -119,14 +120,18 @@ fn line_with(picture: &[String], name: &str) -> Option<usize> {
     picture.iter().position(has)
 }
 
+/// The picture of the families.
+fn picture() -> Vec<String> {
+    let top = |lines: &[String]| lines.first().is_some_and(|line| line.trim() == "demands");
+    let mut pictures = blocks(&text_of(ARCHITECTURE)).into_iter();
+    let found = pictures.find(|block| top(&block.lines));
+    found.expect("a picture with `demands` on top").lines
+}
+
 #[test]
 fn the_picture_has_each_family_above_what_it_uses() {
     let families = families();
-    let block = blocks(&text_of(ARCHITECTURE)).into_iter().find(|block| {
-        let first = block.lines.iter().find(|line| !line.trim().is_empty());
-        first.is_some_and(|line| line.trim() == "demands")
-    });
-    let picture = block.expect("a picture with `demands` on top").lines;
+    let picture = picture();
     let mut told = Vec::new();
     for (name, uses) in &families {
         let here = line_with(&picture, name);
@@ -136,7 +141,8 @@ fn the_picture_has_each_family_above_what_it_uses() {
         // Two that use each other stand as they like.
         let one_way = |used: &&String| !families[*used].contains(name);
         for used in uses.iter().filter(one_way) {
-            if line_with(&picture, used) < here {
+            let above = line_with(&picture, used).is_some_and(|line| Some(line) < here);
+            if above {
                 told.push(format!(
                     "{ARCHITECTURE}: `{name}` uses `{used}`, which the picture has above it"
                 ));
@@ -149,7 +155,7 @@ fn the_picture_has_each_family_above_what_it_uses() {
 /// The page that has the calls of a family.
 fn page_of(family: &str) -> String {
     match family {
-        "demands" | "ttwibonal" => "docs/PROMISES.md".to_string(),
+        "demands" | "ttwibonal" => PROMISES.to_string(),
         _ => format!("docs/calls/{family}.md"),
     }
 }
@@ -197,13 +203,35 @@ fn untrue_of(page: &str, section: &Section) -> Vec<String> {
     told
 }
 
+/// The pages of calls, by their family.
+fn pages_of_calls() -> Vec<(String, String)> {
+    let names = names_in(&root().join("docs/calls"));
+    let family_and_page = |name: &String| {
+        let family = name.trim_end_matches(".md");
+        (family.to_string(), format!("docs/calls/{name}"))
+    };
+    names.iter().map(family_and_page).collect()
+}
+
+#[test]
+fn each_page_of_calls_is_a_familys_and_stands_in_the_list() {
+    let families = families();
+    let mut told = Vec::new();
+    for (family, page) in pages_of_calls() {
+        if !families.contains_key(&family) {
+            told.push(format!("{page}: there is no family `{family}`"));
+        }
+        if !text_of(PROMISES).contains(&page) {
+            told.push(format!("{PROMISES} does not name {page}"));
+        }
+    }
+    nothing_of(told);
+}
+
 #[test]
 fn each_call_and_each_edit_stands_on_its_familys_page() {
-    let mut pages: BTreeSet<String> = names_in(&root().join("docs/calls"))
-        .iter()
-        .map(|name| format!("docs/calls/{name}"))
-        .collect();
-    pages.insert("docs/PROMISES.md".to_string());
+    let mut pages: Vec<String> = pages_of_calls().into_iter().map(|(_, page)| page).collect();
+    pages.push(PROMISES.to_string());
     let mut told = Vec::new();
     let mut shown = Vec::new();
     for page in &pages {
@@ -213,14 +241,11 @@ fn each_call_and_each_edit_stands_on_its_familys_page() {
         }
     }
     let has_any = |name: &String| !public_functions(name).is_empty() || !edits(name).is_empty();
-    let all: Vec<String> = crates().into_iter().map(|each| each.name).collect();
-    let with_a_section = |name: &String| shown.contains(name) || has_any(name);
-    let there: Vec<String> = all.into_iter().filter(with_a_section).collect();
-    told.extend(differences(
-        "the sections of docs/calls and docs/PROMISES.md",
-        &shown,
-        &there,
-    ));
+    let names = crates().into_iter().map(|each| each.name);
+    let there: Vec<String> = names
+        .filter(|name| shown.contains(name) || has_any(name))
+        .collect();
+    told.extend(differences("the sections of these pages", &shown, &there));
     nothing_of(told);
 }
 
