@@ -8,7 +8,8 @@ use std::fs;
 use std::path::Path;
 use support::pages::{blocks, documents, quoted, rows, sections, text_of, Section};
 use support::tree::{
-    all_paths, crates, declared, edits, family, files_below, public_functions, words_of,
+    all_paths, crate_names, crates, declared, edits, family, files_below, public_functions,
+    words_of,
 };
 use support::{names_in, root};
 
@@ -26,14 +27,12 @@ fn differences(place: &str, shown: &[String], there: &[String]) -> Vec<String> {
     let mut told = Vec::new();
     let names: BTreeSet<&String> = shown.iter().chain(there).collect();
     for name in names {
-        match (
-            shown.iter().filter(|shown| *shown == name).count(),
-            there.contains(name),
-        ) {
+        let times = shown.iter().filter(|shown| *shown == name).count();
+        match (times, there.contains(name)) {
             (0, _) => told.push(format!("{place}: `{name}` is missing")),
             (_, false) => told.push(format!("{place}: `{name}` is not in the tree")),
             (1, true) => {}
-            (times, true) => told.push(format!("{place}: `{name}` stands {times} times")),
+            (_, true) => told.push(format!("{place}: `{name}` stands {times} times")),
         }
     }
     told
@@ -74,7 +73,7 @@ fn the_list_of_crates_has_each_behind_those_that_it_uses() {
 
 #[test]
 fn each_crate_stands_under_its_family() {
-    let all: Vec<String> = crates().into_iter().map(|each| each.name).collect();
+    let all = crate_names();
     let text = text_of(ARCHITECTURE);
     let mut told = Vec::new();
     let mut shown = Vec::new();
@@ -166,10 +165,9 @@ const EDITS: &str = "| edits that are refused |";
 /// The calls and the edits that a section names.
 fn named(section: &Section) -> (Vec<String>, Vec<String>) {
     let (mut calls, mut named) = (Vec::new(), Vec::new());
-    let heads = section.text.lines().filter(|line| line.ends_with(EDITS));
-    let heads: BTreeSet<&str> = heads.collect();
-    for head in heads {
-        for cells in rows(&section.text, head) {
+    for table in section.text.split("\n\n").map(str::trim) {
+        let head = table.lines().next().filter(|head| head.ends_with(EDITS));
+        for cells in head.into_iter().flat_map(|head| rows(table, head)) {
             calls.extend(quoted(&cells[0]));
             named.extend(quoted(&cells[cells.len() - 1]));
         }
@@ -241,8 +239,8 @@ fn each_call_and_each_edit_stands_on_its_familys_page() {
         }
     }
     let has_any = |name: &String| !public_functions(name).is_empty() || !edits(name).is_empty();
-    let names = crates().into_iter().map(|each| each.name);
-    let there: Vec<String> = names
+    let there: Vec<String> = crate_names()
+        .into_iter()
         .filter(|name| shown.contains(name) || has_any(name))
         .collect();
     told.extend(differences("the sections of these pages", &shown, &there));
@@ -278,6 +276,28 @@ fn the_code_has_what_documents_name_by_its_path() {
     }));
 }
 
+/// The crates, their edits, and all that their code names, without a path.
+fn bare_names() -> BTreeSet<String> {
+    let mut names = BTreeSet::new();
+    for name in crate_names() {
+        let last = |path: String| path.rsplit("::").next().expect("a name").to_string();
+        names.extend(all_paths(&name).into_iter().map(last));
+        names.extend(edits(&name));
+        names.insert(name);
+    }
+    names
+}
+
+#[test]
+fn a_name_in_a_document_that_begins_with_a_family_is_there() {
+    let (families, names) = (families(), bare_names());
+    nothing_of(stale(|name| {
+        let is_word = name.chars().all(|c| c.is_ascii_alphanumeric() || c == '_');
+        let of_a_family = name.contains('_') && families.contains_key(family(name));
+        !is_word || !of_a_family || names.contains(name)
+    }));
+}
+
 /// A definition or a law in a document, its module before it. A file's name is none.
 fn is_declared_name(word: &str) -> bool {
     let parts = word.split_once('.');
@@ -288,8 +308,8 @@ fn is_declared_name(word: &str) -> bool {
 
 #[test]
 fn the_crates_have_what_documents_name_by_its_module() {
-    let all = crates();
-    let declared: BTreeSet<String> = all.iter().flat_map(|each| declared(&each.name)).collect();
+    let names = crate_names();
+    let declared: BTreeSet<String> = names.iter().flat_map(|name| declared(name)).collect();
     nothing_of(stale(|name| {
         let word = name.split(' ').next().expect("a word");
         !is_declared_name(word) || declared.contains(word)
@@ -348,7 +368,7 @@ fn places_with_a_file(name: &str) -> Vec<String> {
 #[test]
 #[ignore = "the crates of `build` still read the records of a pair of files"]
 fn label_pack_and_build_know_no_file() {
-    let names = crates().into_iter().map(|each| each.name);
+    let names = crate_names().into_iter();
     let names = names.filter(|name| ["label", "pack", "build"].contains(&family(name)));
     nothing_of(names.flat_map(|name| places_with_a_file(&name)).collect());
 }

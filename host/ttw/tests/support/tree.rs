@@ -23,6 +23,11 @@ pub fn crates() -> Vec<Crate> {
         .collect()
 }
 
+/// The names of the crates.
+pub fn crate_names() -> Vec<String> {
+    crates().into_iter().map(|each| each.name).collect()
+}
+
 /// The family of a crate: what its name begins with.
 pub fn family(name: &str) -> &str {
     name.split('_').next().expect("a name")
@@ -91,7 +96,8 @@ fn item_of(line: &str) -> Option<(Kind, &str)> {
     }
 }
 
-/// The items of one file. A line that is not indented opens or ends a type; one that is indented once may be the type's own.
+/// The items of one file. A line that is not indented opens or ends a type; one that is indented once may be the
+/// type's own.
 fn items_of(module: &str, text: &str) -> Vec<Item> {
     let mut items = Vec::new();
     let mut owner = "";
