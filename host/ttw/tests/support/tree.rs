@@ -211,11 +211,11 @@ pub fn declared(name: &str) -> Vec<String> {
     declared
 }
 
-/// The words of a file of a crate, with their lines.
+/// The words and paths of a file of a crate, with their lines.
 pub fn words_of(file: &Path) -> Vec<(usize, String)> {
     let text = fs::read_to_string(file).expect("a file of a crate");
     let words = |(line, text): (usize, &str)| {
-        let words = text.split(|c: char| !c.is_alphanumeric() && c != '_');
+        let words = text.split(|c: char| !c.is_alphanumeric() && !"_:".contains(c));
         let words: Vec<_> = words.map(|word| (line + 1, word.to_string())).collect();
         words
     };
