@@ -64,8 +64,10 @@ pub fn two_texts_at(
     at: usize,
     out: &mut [u8],
 ) -> usize
-    requires { ⌜ ((middle - start ≤ 255) × (end - middle ≤ 255)) × (at + length (textsBytes (twoTexts (now rec) start middle end)) ≤ length (now out)) ⌝ }
-    ensures { λ r. ⌜ Put (textsBytes (twoTexts (now (rec .entry)) start middle end)) (now (out .entry)) at r (now (out .exit)) ⌝ }
+    requires { ⌜ ((middle - start ≤ 255) × (end - middle ≤ 255)) × (at + length
+        (textsBytes (twoTexts (now rec) start middle end)) ≤ length (now out)) ⌝ }
+    ensures { λ r. ⌜ Put (textsBytes (twoTexts (now (rec .entry)) start middle end)) (now (out .entry)) at r
+        (now (out .exit)) ⌝ }
 {
     let i = text_at(rec, start, middle, at, out);
     text_at(rec, middle, end, i, out)

@@ -16,7 +16,9 @@ ghost use Rattle.build_plan.specs.Places.{firstRefused, keyRow, laterRows, rows
 // Marks the record that a key refers to; whether the key finds none.
 fn mark_key(table: &[u8], refs: &[u32], rec: &[u8], kind: u8, start: u8, marks: &mut [u32]) -> bool
     requires { ⌜ (lastOf (now table) ≤ length (now marks)) × Refs (now table) (now refs) ⌝ }
-    ensures { λ r. ⌜ (r ≡ lacksRow (now (table .entry)) (now (rec .entry)) kind start) × (now (marks .exit) ≡ markRow (keyRow (now (table .entry)) (now (rec .entry)) kind start) (now (marks .entry))) ⌝ }
+    ensures { λ r. ⌜ (r ≡ lacksRow (now (table .entry)) (now (rec .entry)) kind start)
+        × (now (marks .exit) ≡ markRow (keyRow (now (table .entry)) (now (rec .entry)) kind start)
+        (now (marks .entry))) ⌝ }
 {
     let at = start as usize;
     if !changes_keys::says_some(rec, at, at + 8) {
@@ -33,7 +35,8 @@ fn mark_key(table: &[u8], refs: &[u32], rec: &[u8], kind: u8, start: u8, marks: 
 // Marks the records that a view refers to from the third field on; the first of these whose key finds none.
 fn mark_later(table: &[u8], refs: &[u32], rec: &[u8], marks: &mut [u32]) -> usize
     requires { ⌜ (lastOf (now table) ≤ length (now marks)) × Refs (now table) (now refs) ⌝ }
-    ensures { λ r. ⌜ (r ≡ laterMissing (now (table .entry)) (now (rec .entry))) × (now (marks .exit) ≡ markRows (laterRows (now (table .entry)) (now (rec .entry))) (now (marks .entry))) ⌝ }
+    ensures { λ r. ⌜ (r ≡ laterMissing (now (table .entry)) (now (rec .entry)))
+        × (now (marks .exit) ≡ markRows (laterRows (now (table .entry)) (now (rec .entry))) (now (marks .entry))) ⌝ }
 {
     let descriptor = mark_key(table, refs, rec, b'3', View::DESCRIPTOR as u8, marks);
     let dependent = mark_key(table, refs, rec, b'2', View::DEPENDENT as u8, marks);
@@ -55,7 +58,8 @@ fn mark_later(table: &[u8], refs: &[u32], rec: &[u8], marks: &mut [u32]) -> usiz
 // Marks the records that a view refers to; the first field whose key finds none, 0 where each finds one.
 fn mark_keys(table: &[u8], refs: &[u32], rec: &[u8], marks: &mut [u32]) -> usize
     requires { ⌜ (lastOf (now table) ≤ length (now marks)) × Refs (now table) (now refs) ⌝ }
-    ensures { λ r. ⌜ (r ≡ missingIn (now (table .entry)) (now (rec .entry))) × (now (marks .exit) ≡ markRows (rowsOf (now (table .entry)) (now (rec .entry))) (now (marks .entry))) ⌝ }
+    ensures { λ r. ⌜ (r ≡ missingIn (now (table .entry)) (now (rec .entry)))
+        × (now (marks .exit) ≡ markRows (rowsOf (now (table .entry)) (now (rec .entry))) (now (marks .entry))) ⌝ }
 {
     let locality = mark_key(table, refs, rec, b'1', View::LOCALITY as u8, marks);
     let street = mark_key(table, refs, rec, b'2', View::THOROUGHFARE as u8, marks);
@@ -71,7 +75,9 @@ fn mark_keys(table: &[u8], refs: &[u32], rec: &[u8], marks: &mut [u32]) -> usize
 // Refusal 8 or 9 of a view's record; where there is none, its records are marked.
 fn mark_view(table: &[u8], refs: &[u32], rec: &[u8], marks: &mut [u32]) -> Verdict
     requires { ⌜ (lastOf (now table) ≤ length (now marks)) × Refs (now table) (now refs) ⌝ }
-    ensures { λ r. ⌜ (r ≡ refusalIn (now (table .entry)) (now (rec .entry))) × (r ≡ Fine → now (marks .exit) ≡ markRows (rowsOf (now (table .entry)) (now (rec .entry))) (now (marks .entry))) ⌝ }
+    ensures { λ r. ⌜ (r ≡ refusalIn (now (table .entry)) (now (rec .entry)))
+        × (r ≡ Fine → now (marks .exit) ≡ markRows (rowsOf (now (table .entry)) (now (rec .entry)))
+        (now (marks .entry))) ⌝ }
 {
     let rule = changes_keys::forbidden_in(rec);
     if rule != 0 {
@@ -93,7 +99,10 @@ pub fn mark_views(
     marks: &mut [u32],
 ) -> Verdict
     requires { ⌜ (lastOf (now table) ≤ length (now marks)) × Refs (now table) (now refs) ⌝ }
-    ensures { λ r. ⌜ (r ≡ firstRefused (now (table .entry)) (now (points .entry)) (wantedIn (now (code .entry)) (now (points .entry)))) × (r ≡ Fine → now (marks .exit) ≡ markPlaces (now (table .entry)) (now (points .entry)) (wantedIn (now (code .entry)) (now (points .entry))) (now (marks .entry))) ⌝ }
+    ensures { λ r. ⌜ (r ≡ firstRefused (now (table .entry)) (now (points .entry))
+        (wantedIn (now (code .entry)) (now (points .entry)))) × (r ≡ Fine → now (marks .exit)
+        ≡ markPlaces (now (table .entry)) (now (points .entry)) (wantedIn (now (code .entry)) (now (points .entry)))
+        (now (marks .entry))) ⌝ }
 {
     let last = changes_views::last_of(points);
     let mut at = changes_views::next_wanted(points, code, 1);

@@ -1,4 +1,5 @@
 // Building the pack of an outward code from a pair of files.
+use build_whole::inner::write_pack;
 use pack_read::NewestPack;
 use refusal::Answer;
 use refusal::Reason;
@@ -25,7 +26,11 @@ fn write_if_room(
     out: &mut [u8],
 ) -> Answer
     requires { ⌜ Marked (now table) (now points) (now code) (now starts) × Refs (now table) (now refs) ⌝ }
-    ensures { λ r. ⌜ (r ≡ roomAnswer (packOf (tableLookup (now (table .entry))) (liveIn (now (table .entry)) (now (points .entry)) (now (code .entry))) (now (code .entry))) (now (out .entry))) × (now (out .exit) ≡ roomMemory (packOf (tableLookup (now (table .entry))) (liveIn (now (table .entry)) (now (points .entry)) (now (code .entry))) (now (code .entry))) (now (out .entry))) ⌝ }
+    ensures { λ r. ⌜ (r ≡ roomAnswer (packOf (tableLookup (now (table .entry)))
+        (liveIn (now (table .entry)) (now (points .entry)) (now (code .entry))) (now (code .entry))) (now (out .entry)))
+        × (now (out .exit) ≡ roomMemory (packOf (tableLookup (now (table .entry)))
+        (liveIn (now (table .entry)) (now (points .entry)) (now (code .entry))) (now (code .entry)))
+        (now (out .entry))) ⌝ }
 {
     let of_table = build_place::inner::place_rows(table, starts);
     let of_points = build_place::inner::organisations_in(points, code);
@@ -38,22 +43,17 @@ fn write_if_room(
         };
     }
     let rows = of_table.rows + of_points.rows;
-    Answer::Value(build_whole::inner::write_pack(
-        table,
-        refs,
-        points,
-        starts,
-        code,
-        rows,
-        count,
-        out,
-    ))
+    Answer::Value(write_pack(table, refs, points, starts, code, rows, count, out))
 }
 
 // The pack of a code from files that are accepted.
 fn cut(table: &[u8], points: &[u8], code: &[u8], out: &mut [u8]) -> Answer
     requires { ⌜ Judged (now table) (now points) (now code) ⌝ }
-    ensures { λ r. ⌜ (r ≡ cutAnswer (tableLookup (now (table .entry))) (liveIn (now (table .entry)) (now (points .entry)) (now (code .entry))) (now (code .entry)) (now (out .entry))) × (now (out .exit) ≡ cutMemory (tableLookup (now (table .entry))) (liveIn (now (table .entry)) (now (points .entry)) (now (code .entry))) (now (code .entry)) (now (out .entry))) ⌝ }
+    ensures { λ r. ⌜ (r ≡ cutAnswer (tableLookup (now (table .entry)))
+        (liveIn (now (table .entry)) (now (points .entry)) (now (code .entry))) (now (code .entry)) (now (out .entry)))
+        × (now (out .exit) ≡ cutMemory (tableLookup (now (table .entry)))
+        (liveIn (now (table .entry)) (now (points .entry)) (now (code .entry))) (now (code .entry))
+        (now (out .entry))) ⌝ }
 {
     let mut refs = [0u32; RECORDS];
     changes_refs::inner::fill_refs(table, &mut refs);
@@ -66,7 +66,9 @@ fn cut(table: &[u8], points: &[u8], code: &[u8], out: &mut [u8]) -> Answer
 
 // The pack of a code, for any bytes given as files and code.
 pub fn build_pack(table: &[u8], points: &[u8], code: &[u8], out: &mut [u8]) -> Answer
-    ensures { λ r. ⌜ (r ≡ buildAnswer (now (table .entry)) (now (points .entry)) (now (code .entry)) (now (out .entry))) × (now (out .exit) ≡ buildMemory (now (table .entry)) (now (points .entry)) (now (code .entry)) (now (out .entry))) ⌝ }
+    ensures { λ r. ⌜ (r ≡ buildAnswer (now (table .entry)) (now (points .entry)) (now (code .entry)) (now (out .entry)))
+        × (now (out .exit) ≡ buildMemory (now (table .entry)) (now (points .entry)) (now (code .entry))
+        (now (out .entry))) ⌝ }
 {
     match changes_asked::check_pair(table, points) {
         Answer::Value(_) => {

@@ -54,7 +54,9 @@ fn one_if(holds: bool) -> usize
 // Gives a marked record the start of its row, plus 1; how many bytes the row has, 0 where the record is not marked.
 fn place_row(table: &[u8], i: usize, start: usize, marks: &mut [u32]) -> usize
     requires { ⌜ (i < length (now marks)) × ((i < 20000) × (start < 4294967295)) ⌝ }
-    ensures { λ r. ⌜ ((r ≡ cond (isMarked (now (marks .entry)) i) (length (rowBytesAt (now (table .entry)) i)) 0) × (r ≤ 104)) × (now (marks .exit) ≡ cond (isMarked (now (marks .entry)) i) (set (now (marks .entry)) i (suc start)) (now (marks .entry))) ⌝ }
+    ensures { λ r. ⌜ ((r ≡ cond (isMarked (now (marks .entry)) i) (length (rowBytesAt (now (table .entry)) i)) 0)
+        × (r ≤ 104)) × (now (marks .exit) ≡ cond (isMarked (now (marks .entry)) i)
+        (set (now (marks .entry)) i (suc start)) (now (marks .entry))) ⌝ }
 {
     if marks[i] == 0 {
         return 0;
@@ -66,7 +68,9 @@ fn place_row(table: &[u8], i: usize, start: usize, marks: &mut [u32]) -> usize
 // Gives each marked record the start of its row, plus 1, were the rows written one after the other.
 pub fn place_rows(table: &[u8], marks: &mut [u32]) -> Sums
     requires { ⌜ (lastOf (now table) ≤ length (now marks)) × (lastOf (now table) ≤ 20000) ⌝ }
-    ensures { λ r. ⌜ (r .rows ≡ countTo (now (marks .entry)) (lastOf (now (table .entry)) - 1)) × ((r .bytes ≡ bytesTo (now (table .entry)) (now (marks .entry)) (lastOf (now (table .entry)) - 1)) × Placed (now (table .entry)) (now (marks .entry)) (now (marks .exit))) ⌝ }
+    ensures { λ r. ⌜ (r .rows ≡ countTo (now (marks .entry)) (lastOf (now (table .entry)) - 1))
+        × ((r .bytes ≡ bytesTo (now (table .entry)) (now (marks .entry)) (lastOf (now (table .entry)) - 1))
+        × Placed (now (table .entry)) (now (marks .entry)) (now (marks .exit))) ⌝ }
 {
     let last = changes_rows::last_of(table);
     let mut rows = 0;
@@ -98,7 +102,9 @@ pub fn organisation_len(points: &[u8], place: usize) -> usize
 // The organisations of the packed views.
 pub fn organisations_in(points: &[u8], code: &[u8]) -> Sums
     requires { ⌜ Views.lastOf (now points) ≤ 20000 ⌝ }
-    ensures { λ r. ⌜ (r .rows ≡ organisationCount (now (points .entry)) (wantedIn (now (code .entry)) (now (points .entry)))) × (r .bytes ≡ length (organisationsAt (now (points .entry)) (wantedIn (now (code .entry)) (now (points .entry))))) ⌝ }
+    ensures { λ r. ⌜ (r .rows ≡ organisationCount (now (points .entry))
+        (wantedIn (now (code .entry)) (now (points .entry)))) × (r .bytes
+        ≡ length (organisationsAt (now (points .entry)) (wantedIn (now (code .entry)) (now (points .entry))))) ⌝ }
 {
     let last = changes_views::last_of(points);
     let mut rows = 0;

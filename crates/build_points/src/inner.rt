@@ -43,7 +43,8 @@ fn key_at(
     out: &mut [u8],
 ) -> usize
     requires { ⌜ (at + 4 ≤ length (now out)) × Refs (now table) (now refs) ⌝ }
-    ensures { λ r. ⌜ Put (bytesOf 4 (keyOffset (now (table .entry)) (now (starts .entry)) (now (rec .entry)) kind start)) (now (out .entry)) at r (now (out .exit)) ⌝ }
+    ensures { λ r. ⌜ Put (bytesOf 4 (keyOffset (now (table .entry)) (now (starts .entry))
+        (now (rec .entry)) kind start)) (now (out .entry)) at r (now (out .exit)) ⌝ }
 {
     word_at(key_offset(table, refs, starts, rec, kind, start), at, out)
 }
@@ -58,7 +59,8 @@ fn premises_at(
     out: &mut [u8],
 ) -> usize
     requires { ⌜ (at + 8 ≤ length (now out)) × Refs (now table) (now refs) ⌝ }
-    ensures { λ r. ⌜ Put (premisesOffsets (now (table .entry)) (now (starts .entry)) (now (rec .entry))) (now (out .entry)) at r (now (out .exit)) ⌝ }
+    ensures { λ r. ⌜ Put (premisesOffsets (now (table .entry)) (now (starts .entry)) (now (rec .entry)))
+        (now (out .entry)) at r (now (out .exit)) ⌝ }
 {
     let i = key_at(
         table,
@@ -92,7 +94,8 @@ fn later_at(
     out: &mut [u8],
 ) -> usize
     requires { ⌜ (at + 20 ≤ length (now out)) × Refs (now table) (now refs) ⌝ }
-    ensures { λ r. ⌜ Put (laterOffsets (now (table .entry)) (now (starts .entry)) (now (rec .entry))) (now (out .entry)) at r (now (out .exit)) ⌝ }
+    ensures { λ r. ⌜ Put (laterOffsets (now (table .entry)) (now (starts .entry)) (now (rec .entry)))
+        (now (out .entry)) at r (now (out .exit)) ⌝ }
 {
     let i = key_at(
         table,
@@ -137,7 +140,8 @@ fn keys_at(
     out: &mut [u8],
 ) -> usize
     requires { ⌜ (at + 28 ≤ length (now out)) × Refs (now table) (now refs) ⌝ }
-    ensures { λ r. ⌜ Put (keyOffsets (now (table .entry)) (now (starts .entry)) (now (rec .entry))) (now (out .entry)) at r (now (out .exit)) ⌝ }
+    ensures { λ r. ⌜ Put (keyOffsets (now (table .entry)) (now (starts .entry)) (now (rec .entry)))
+        (now (out .entry)) at r (now (out .exit)) ⌝ }
 {
     let i = key_at(
         table,
@@ -176,7 +180,8 @@ fn organisation_offset(rec: &[u8], place: usize) -> usize
 // What a field says, in four bytes.
 fn value_at(rec: &[u8], start: usize, end: usize, at: usize, out: &mut [u8]) -> usize
     requires { ⌜ at + 4 ≤ length (now out) ⌝ }
-    ensures { λ r. ⌜ Put (bytesOf 4 (value (part (now (rec .entry)) start end))) (now (out .entry)) at r (now (out .exit)) ⌝ }
+    ensures { λ r. ⌜ Put (bytesOf 4 (value (part (now (rec .entry)) start end))) (now (out .entry)) at r
+        (now (out .exit)) ⌝ }
 {
     word_at(
         field_read::value_of(file_record::part_of(rec, start, end)),
@@ -217,8 +222,10 @@ fn point_at(
     at: usize,
     out: &mut [u8],
 ) -> usize
-    requires { ⌜ (at + length (pointOf (now table) (now starts) (now rec) row) ≤ length (now out)) × Refs (now table) (now refs) ⌝ }
-    ensures { λ r. ⌜ Put (pointOf (now (table .entry)) (now (starts .entry)) (now (rec .entry)) row) (now (out .entry)) at r (now (out .exit)) ⌝ }
+    requires { ⌜ (at + length (pointOf (now table) (now starts) (now rec) row) ≤ length (now out))
+        × Refs (now table) (now refs) ⌝ }
+    ensures { λ r. ⌜ Put (pointOf (now (table .entry)) (now (starts .entry)) (now (rec .entry)) row)
+        (now (out .entry)) at r (now (out .exit)) ⌝ }
 {
     let i = plain_at(rec, at, out);
     let j = keys_at(table, refs, starts, rec, i, out);
@@ -236,8 +243,11 @@ pub fn points_at(
     at: usize,
     out: &mut [u8],
 ) -> usize
-    requires { ⌜ (start + length (organisationsAt (now points) (wantedIn (now code) (now points))) ≤ at) × (at + length (pointsAt (now table) (now points) (now starts) start (wantedIn (now code) (now points))) ≤ length (now out)) × Refs (now table) (now refs) ⌝ }
-    ensures { λ r. ⌜ Put (pointsAt (now (table .entry)) (now (points .entry)) (now (starts .entry)) start (wantedIn (now (code .entry)) (now (points .entry)))) (now (out .entry)) at r (now (out .exit)) ⌝ }
+    requires { ⌜ (start + length (organisationsAt (now points) (wantedIn (now code) (now points))) ≤ at)
+        × (at + length (pointsAt (now table) (now points) (now starts) start (wantedIn (now code) (now points)))
+        ≤ length (now out)) × Refs (now table) (now refs) ⌝ }
+    ensures { λ r. ⌜ Put (pointsAt (now (table .entry)) (now (points .entry)) (now (starts .entry)) start
+        (wantedIn (now (code .entry)) (now (points .entry)))) (now (out .entry)) at r (now (out .exit)) ⌝ }
 {
     let last = changes_views::last_of(points);
     let mut row = start;

@@ -26,7 +26,8 @@ fn follower_at(rec: &[u8], at: usize, out: &mut [u8]) -> usize
 
 // The organisation's row of the view at a place, where it has a follower.
 fn organisation_at(points: &[u8], place: usize, at: usize, out: &mut [u8]) -> usize
-    requires { ⌜ (place < length (now points)) × (at + length (organisationAt (now points) place) ≤ length (now out)) ⌝ }
+    requires { ⌜ (place < length (now points)) × (at + length (organisationAt (now points) place)
+        ≤ length (now out)) ⌝ }
     ensures { λ r. ⌜ Put (organisationAt (now (points .entry)) place) (now (out .entry)) at r (now (out .exit)) ⌝ }
 {
     if file::needed_next(file_record::point_record(points, place)) == 0 {
@@ -38,7 +39,8 @@ fn organisation_at(points: &[u8], place: usize, at: usize, out: &mut [u8]) -> us
 // The organisations' rows of all views of a code.
 pub fn organisations_at(points: &[u8], code: &[u8], at: usize, out: &mut [u8]) -> usize
     requires { ⌜ at + length (organisationsAt (now points) (wantedIn (now code) (now points))) ≤ length (now out) ⌝ }
-    ensures { λ r. ⌜ Put (organisationsAt (now (points .entry)) (wantedIn (now (code .entry)) (now (points .entry)))) (now (out .entry)) at r (now (out .exit)) ⌝ }
+    ensures { λ r. ⌜ Put (organisationsAt (now (points .entry)) (wantedIn (now (code .entry)) (now (points .entry))))
+        (now (out .entry)) at r (now (out .exit)) ⌝ }
 {
     let last = changes_views::last_of(points);
     let mut end = at;

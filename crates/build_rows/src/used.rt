@@ -55,7 +55,8 @@ fn row_at(rec: &[u8], at: usize, out: &mut [u8]) -> usize
 // The row of record `i`, where it has a start.
 fn used_at(table: &[u8], starts: &[u32], i: usize, at: usize, out: &mut [u8]) -> usize
     requires { ⌜ at + length (usedAt (now table) (now starts) i) ≤ length (now out) ⌝ }
-    ensures { λ r. ⌜ Put (usedAt (now (table .entry)) (now (starts .entry)) i) (now (out .entry)) at r (now (out .exit)) ⌝ }
+    ensures { λ r. ⌜ Put (usedAt (now (table .entry)) (now (starts .entry)) i) (now (out .entry)) at r
+        (now (out .exit)) ⌝ }
 {
     if start_of(starts, i) == 0 {
         return at;
@@ -66,7 +67,8 @@ fn used_at(table: &[u8], starts: &[u32], i: usize, at: usize, out: &mut [u8]) ->
 // All rows of the table file that have a start.
 pub fn rows_at(table: &[u8], starts: &[u32], at: usize, out: &mut [u8]) -> usize
     requires { ⌜ at + length (tableRows (now table) (now starts)) ≤ length (now out) ⌝ }
-    ensures { λ r. ⌜ Put (tableRows (now (table .entry)) (now (starts .entry))) (now (out .entry)) at r (now (out .exit)) ⌝ }
+    ensures { λ r. ⌜ Put (tableRows (now (table .entry)) (now (starts .entry))) (now (out .entry)) at r
+        (now (out .exit)) ⌝ }
 {
     let last = changes_rows::last_of(table);
     let mut end = at;

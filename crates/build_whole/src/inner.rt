@@ -19,8 +19,10 @@ pub fn write_pack(
     count: usize,
     out: &mut [u8],
 ) -> usize
-    requires { ⌜ Ready (now table) (now points) (now starts) (now code) rows count (now out) × Refs (now table) (now refs) ⌝ }
-    ensures { λ r. ⌜ Wrote (packAt (now (table .entry)) (now (points .entry)) (now (starts .entry)) (now (code .entry))) (now (out .entry)) r (now (out .exit)) ⌝ }
+    requires { ⌜ Ready (now table) (now points) (now starts) (now code) rows count (now out)
+        × Refs (now table) (now refs) ⌝ }
+    ensures { λ r. ⌜ Wrote (packAt (now (table .entry)) (now (points .entry)) (now (starts .entry)) (now (code .entry)))
+        (now (out .entry)) r (now (out .exit)) ⌝ }
 {
     let i = rows_at(table, starts, 0, out);
     let j = organisations_at(points, code, i, out);

@@ -8,7 +8,8 @@ ghost use Rattle.changes_label.specs.Pair.{ViewPlace, placeAnswer, place
 // The label of the view at a place, 0 being no place.
 pub fn label_at<'a>(table: &'a [u8], points: &'a [u8], place: usize, out: &mut [u8]) -> Answer
     requires { ⌜ ViewPlace (now table) (now points) place ⌝ }
-    ensures { λ r. ⌜ (r ≡ placeAnswer (now (table .entry)) (now (points .entry)) place (now (out .entry))) × (now (out .exit) ≡ placeMemory (now (table .entry)) (now (points .entry)) place (now (out .entry))) ⌝ }
+    ensures { λ r. ⌜ (r ≡ placeAnswer (now (table .entry)) (now (points .entry)) place (now (out .entry)))
+        × (now (out .exit) ≡ placeMemory (now (table .entry)) (now (points .entry)) place (now (out .entry))) ⌝ }
 {
     if place == 0 {
         return Answer::Refused {

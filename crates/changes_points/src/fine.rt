@@ -19,14 +19,17 @@ ghost use Rattle.file_fault.specs.Point.{pointHead, viewFields, pointFault};
 
 // Whether date, time and both keys are digits: a 9 stands for each. A pattern is as wide as bytes are taken at once.
 fn head_digits(rec: &[u8]) -> bool
-    ensures { λ r. ⌜ (r ≡ true → (digitsFault (part (now (rec .entry)) 0 14) ≡ 0) × (digitsFault (part (now (rec .entry)) 24 40) ≡ 0)) ⌝ }
+    ensures { λ r. ⌜ (r ≡ true → (digitsFault (part (now (rec .entry)) 0 14) ≡ 0)
+        × (digitsFault (part (now (rec .entry)) 24 40) ≡ 0)) ⌝ }
 {
     field_test::digits_where(rec, b"99999999999999..........9999999999999999........")
 }
 
 // The same, and the keys, the number, the households and the reason of a view.
 fn view_digits(rec: &[u8]) -> bool
-    ensures { λ r. ⌜ (r ≡ true → (digitsFault (part (now (rec .entry)) 0 14) ≡ 0) × (digitsFault (part (now (rec .entry)) 24 40) ≡ 0) × (digitsFault (part (now (rec .entry)) 42 106) ≡ 0) × (digitsFault (part (now (rec .entry)) 114 116) ≡ 0)) ⌝ }
+    ensures { λ r. ⌜ (r ≡ true → (digitsFault (part (now (rec .entry)) 0 14) ≡ 0)
+        × (digitsFault (part (now (rec .entry)) 24 40) ≡ 0) × (digitsFault (part (now (rec .entry)) 42 106) ≡ 0)
+        × (digitsFault (part (now (rec .entry)) 114 116) ≡ 0)) ⌝ }
 {
     field_test::digits_where(
         rec,
@@ -51,7 +54,8 @@ fn is_fine_outward(before: &[u8], rec: &[u8], known: bool) -> bool
 // Whether the other fields that all types begin with are well formed.
 fn is_fine_head(before: &[u8], rec: &[u8], known: bool) -> bool
     requires { ⌜ (known ≡ true → pointFault (now before) ≡ 0) ⌝ }
-    ensures { λ r. ⌜ (r ≡ true → digitsFault (part (now (rec .entry)) 0 14) ≡ 0 → digitsFault (part (now (rec .entry)) 24 40) ≡ 0 → faultIn 0 pointHead (now (rec .entry)) ≡ 0) ⌝ }
+    ensures { λ r. ⌜ (r ≡ true → digitsFault (part (now (rec .entry)) 0 14) ≡ 0
+        → digitsFault (part (now (rec .entry)) 24 40) ≡ 0 → faultIn 0 pointHead (now (rec .entry)) ≡ 0) ⌝ }
 {
     let outward = is_fine_outward(before, rec, known);
     let inward = field_inward::is_inward(part_of(rec, Point::INWARD, Point::SUFFIX));
@@ -75,7 +79,8 @@ fn is_fine_box(rec: &[u8]) -> bool
 
 // Whether the other fields of a view are well formed.
 fn is_fine_view(rec: &[u8]) -> bool
-    ensures { λ r. ⌜ (r ≡ true → digitsFault (part (now (rec .entry)) 42 106) ≡ 0 → digitsFault (part (now (rec .entry)) 114 116) ≡ 0 → faultIn 42 viewFields (now (rec .entry)) ≡ 0) ⌝ }
+    ensures { λ r. ⌜ (r ≡ true → digitsFault (part (now (rec .entry)) 42 106) ≡ 0
+        → digitsFault (part (now (rec .entry)) 114 116) ≡ 0 → faultIn 42 viewFields (now (rec .entry)) ≡ 0) ⌝ }
 {
     let concatenation = yes_at(rec, View::CONCATENATION) == 0;
     let po_box = is_fine_box(rec);
@@ -85,7 +90,8 @@ fn is_fine_view(rec: &[u8]) -> bool
 
 // Whether every byte of name and department may stand in a text. The second part overlaps the first: sixteen bytes are taken at once.
 fn are_texts(rec: &[u8]) -> bool
-    ensures { λ r. ⌜ (r ≡ true → (every textByte (part (now (rec .entry)) 42 102) ≡ true) × (every textByte (part (now (rec .entry)) 102 162) ≡ true)) ⌝ }
+    ensures { λ r. ⌜ (r ≡ true → (every textByte (part (now (rec .entry)) 42 102) ≡ true)
+        × (every textByte (part (now (rec .entry)) 102 162) ≡ true)) ⌝ }
 {
     let most = field_test::are_text(part_of(rec, Organisation::NAME, 154));
     let rest = field_test::are_text(part_of(rec, 146, Organisation::DEPARTMENT_END));
@@ -94,7 +100,8 @@ fn are_texts(rec: &[u8]) -> bool
 
 // Whether a name of such bytes is well formed; a small user's may not be blank.
 fn is_fine_name(s: &[u8], small: bool) -> bool
-    ensures { λ r. ⌜ (r ≡ true → every textByte (now (s .entry)) ≡ true → cond small (filledFault (now (s .entry))) (textFault (now (s .entry))) ≡ 0) ⌝ }
+    ensures { λ r. ⌜ (r ≡ true → every textByte (now (s .entry)) ≡ true
+        → cond small (filledFault (now (s .entry))) (textFault (now (s .entry))) ≡ 0) ⌝ }
 {
     let begins = !field_test::starts_blank(s);
     let blank = field_test::all_are(s, b' ');
@@ -112,7 +119,8 @@ fn is_fine_department(s: &[u8]) -> bool
 
 // Whether name and department of an organisation are well formed.
 fn is_fine_organisation(rec: &[u8], small: bool) -> bool
-    ensures { λ r. ⌜ (r ≡ true → (cond small (filledFault (part (now (rec .entry)) 42 102)) (textFault (part (now (rec .entry)) 42 102)) ≡ 0) × (textFault (part (now (rec .entry)) 102 162) ≡ 0)) ⌝ }
+    ensures { λ r. ⌜ (r ≡ true → (cond small (filledFault (part (now (rec .entry)) 42 102))
+        (textFault (part (now (rec .entry)) 42 102)) ≡ 0) × (textFault (part (now (rec .entry)) 102 162) ≡ 0)) ⌝ }
 {
     let texts = are_texts(rec);
     let name = is_fine_name(

@@ -16,7 +16,8 @@ pub fn labels_of_views<'a>(
     count: usize,
     out: &mut [u8],
 ) -> Series
-    ensures { λ r. ⌜ (r ≡ viewSeries (now (table .entry)) (now (points .entry)) first count (now (out .entry))) × (now (out .exit) ≡ viewsMemory (now (table .entry)) (now (points .entry)) first count (now (out .entry))) ⌝ }
+    ensures { λ r. ⌜ (r ≡ viewSeries (now (table .entry)) (now (points .entry)) first count (now (out .entry)))
+        × (now (out .exit) ≡ viewsMemory (now (table .entry)) (now (points .entry)) first count (now (out .entry))) ⌝ }
 {
     match changes_asked::check_pair(table, points) {
         Answer::Value(_) => run_places(table, points, &points[..0], first, count, out),
@@ -33,7 +34,9 @@ pub fn labels_in_code<'a>(
     count: usize,
     out: &mut [u8],
 ) -> Series
-    ensures { λ r. ⌜ (r ≡ codeSeries (now (table .entry)) (now (points .entry)) (now (code .entry)) first count (now (out .entry))) × (now (out .exit) ≡ codesMemory (now (table .entry)) (now (points .entry)) (now (code .entry)) first count (now (out .entry))) ⌝ }
+    ensures { λ r. ⌜ (r ≡ codeSeries (now (table .entry)) (now (points .entry)) (now (code .entry)) first count
+        (now (out .entry))) × (now (out .exit) ≡ codesMemory (now (table .entry)) (now (points .entry))
+        (now (code .entry)) first count (now (out .entry))) ⌝ }
 {
     match changes_asked::check_pair(table, points) {
         Answer::Value(_) => {

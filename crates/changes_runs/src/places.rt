@@ -21,7 +21,9 @@ fn label_behind<'a>(
     out: &mut [u8],
 ) -> Answer
     requires { ⌜ (at ≤ length (now out)) × ViewPlace (now table) (now points) place ⌝ }
-    ensures { λ r. ⌜ (r ≡ placeAnswer (now (table .entry)) (now (points .entry)) place (drop at (now (out .entry)))) × (now (out .exit) ≡ take at (now (out .entry)) ++ placeMemory (now (table .entry)) (now (points .entry)) place (drop at (now (out .entry)))) ⌝ }
+    ensures { λ r. ⌜ (r ≡ placeAnswer (now (table .entry)) (now (points .entry)) place (drop at (now (out .entry))))
+        × (now (out .exit) ≡ take at (now (out .entry)) ++ placeMemory (now (table .entry)) (now (points .entry)) place
+        (drop at (now (out .entry)))) ⌝ }
 {
     changes_label::inner::label_at(table, points, place, &mut out[at..])
 }
@@ -49,7 +51,10 @@ pub fn run_places<'a>(
     out: &mut [u8],
 ) -> Series
     requires { ⌜ Accepted tableFormat (now table) × Accepted pointFormat (now points) ⌝ }
-    ensures { λ r. ⌜ (r ≡ seriesFrom (placesAsked (now (table .entry)) (now (points .entry)) (now (code .entry))) first count (now (out .entry))) × (now (out .exit) ≡ memoryFrom (placesAsked (now (table .entry)) (now (points .entry)) (now (code .entry))) first count (now (out .entry))) ⌝ }
+    ensures { λ r. ⌜ (r ≡ seriesFrom (placesAsked (now (table .entry)) (now (points .entry))
+        (now (code .entry))) first count (now (out .entry))) × (now (out .exit)
+        ≡ memoryFrom (placesAsked (now (table .entry)) (now (points .entry)) (now (code .entry))) first count
+        (now (out .entry))) ⌝ }
 {
     let mut place = changes_views::wanted_at(points, code, first);
     let mut at = 0;

@@ -17,14 +17,16 @@ ghost use Rattle.file_fault.specs.Table.{tableHead, tableRest, localityFields, 
 
 // Whether key, date and time are digits: a 9 stands for each. The pattern is as wide as bytes are taken at once.
 fn head_digits(rec: &[u8]) -> bool
-    ensures { λ r. ⌜ (r ≡ true → (digitsFault (part (now (rec .entry)) 1 9) ≡ 0) × (digitsFault (part (now (rec .entry)) 9 23) ≡ 0)) ⌝ }
+    ensures { λ r. ⌜ (r ≡ true → (digitsFault (part (now (rec .entry)) 1 9) ≡ 0)
+        × (digitsFault (part (now (rec .entry)) 9 23) ≡ 0)) ⌝ }
 {
     field_test::digits_where(rec, b".9999999999999999999999.........")
 }
 
 // Whether the fields that all types begin with are well formed, but for the type itself.
 fn is_fine_head(rec: &[u8]) -> bool
-    ensures { λ r. ⌜ (r ≡ true → elem (getD (now (rec .entry)) 0 0) (49 ∷ 50 ∷ 51 ∷ 52 ∷ 53 ∷ []) ≡ true → faultIn 0 tableHead (now (rec .entry)) ≡ 0) ⌝ }
+    ensures { λ r. ⌜ (r ≡ true → elem (getD (now (rec .entry)) 0 0) (49 ∷ 50 ∷ 51 ∷ 52 ∷ 53 ∷ []) ≡ true
+        → faultIn 0 tableHead (now (rec .entry)) ≡ 0) ⌝ }
 {
     let digits = head_digits(rec);
     let zero = field_test::all_are(part_of(rec, Table::KEY, Table::DATE), b'0');
@@ -45,7 +47,9 @@ fn is_fine_text(rec: &[u8], most: usize, end: usize) -> bool
 
 // Whether every byte of a locality's three texts may stand in one.
 fn are_texts(rec: &[u8]) -> bool
-    ensures { λ r. ⌜ (r ≡ true → (every textByte (part (now (rec .entry)) 69 99) ≡ true) × (every textByte (part (now (rec .entry)) 99 134) ≡ true) × (every textByte (part (now (rec .entry)) 134 169) ≡ true)) ⌝ }
+    ensures { λ r. ⌜ (r ≡ true → (every textByte (part (now (rec .entry)) 69 99) ≡ true)
+        × (every textByte (part (now (rec .entry)) 99 134) ≡ true) ×
+        (every textByte (part (now (rec .entry)) 134 169) ≡ true)) ⌝ }
 {
     let most = field_test::are_text(part_of(rec, Locality::TOWN, 165));
     let rest = field_test::are_text(part_of(rec, 153, Locality::END));
@@ -77,7 +81,8 @@ fn is_fine_locality(rec: &[u8]) -> bool
 
 // Whether the type is one of the five, and what it goes on with is well formed.
 fn is_fine_rest(rec: &[u8]) -> bool
-    ensures { λ r. ⌜ (r ≡ true → (elem (getD (now (rec .entry)) 0 0) (49 ∷ 50 ∷ 51 ∷ 52 ∷ 53 ∷ []) ≡ true) × (faultIn 24 (tableRest (getD (now (rec .entry)) 0 0) (now (rec .entry))) (now (rec .entry)) ≡ 0)) ⌝ }
+    ensures { λ r. ⌜ (r ≡ true → (elem (getD (now (rec .entry)) 0 0) (49 ∷ 50 ∷ 51 ∷ 52 ∷ 53 ∷ []) ≡ true)
+        × (faultIn 24 (tableRest (getD (now (rec .entry)) 0 0) (now (rec .entry))) (now (rec .entry)) ≡ 0)) ⌝ }
 {
     let kind = byte_of(rec, Table::TYPE);
     match kind {

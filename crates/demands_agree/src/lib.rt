@@ -24,7 +24,12 @@ fn compare<'a>(
     ours: &mut [u8],
     theirs: &mut [u8],
 ) -> usize
-    ensures { λ r. ⌜ (r ≡ compared (codeAnswer (now (table .entry)) (now (points .entry)) (now (code .entry)) k (now (ours .entry))) (packAnswer (now (pack .entry)) k (now (theirs .entry))) (codeMemory (now (table .entry)) (now (points .entry)) (now (code .entry)) k (now (ours .entry))) (packMemory (now (pack .entry)) k (now (theirs .entry)))) × ((now (ours .exit) ≡ codeMemory (now (table .entry)) (now (points .entry)) (now (code .entry)) k (now (ours .entry))) × (now (theirs .exit) ≡ packMemory (now (pack .entry)) k (now (theirs .entry)))) ⌝ }
+    ensures { λ r. ⌜ (r ≡ compared (codeAnswer (now (table .entry)) (now (points .entry)) (now (code .entry)) k
+        (now (ours .entry))) (packAnswer (now (pack .entry)) k (now (theirs .entry)))
+        (codeMemory (now (table .entry)) (now (points .entry)) (now (code .entry)) k (now (ours .entry)))
+        (packMemory (now (pack .entry)) k (now (theirs .entry)))) ×
+        ((now (ours .exit) ≡ codeMemory (now (table .entry)) (now (points .entry)) (now (code .entry)) k
+        (now (ours .entry))) × (now (theirs .exit) ≡ packMemory (now (pack .entry)) k (now (theirs .entry)))) ⌝ }
 {
     let files_say = refusal::packed_answer(changes_asked::label_in_code(
         table,
@@ -49,7 +54,13 @@ pub fn ask_both<'a>(
     ours: &mut [u8],
     theirs: &mut [u8],
 ) -> usize
-    ensures { λ r. ⌜ (r ≡ agreement (now (table .entry)) (now (points .entry)) (now (code .entry)) (now (pack .entry)) k (now (ours .entry)) (now (theirs .entry))) × ((now (pack .exit) ≡ buildMemory (now (table .entry)) (now (points .entry)) (now (code .entry)) (now (pack .entry))) × ((now (ours .exit) ≡ askedMemory (now (table .entry)) (now (points .entry)) (now (code .entry)) (now (pack .entry)) k (now (ours .entry))) × (now (theirs .exit) ≡ askedMemory (now (table .entry)) (now (points .entry)) (now (code .entry)) (now (pack .entry)) k (now (theirs .entry))))) ⌝ }
+    ensures { λ r. ⌜ (r ≡ agreement (now (table .entry)) (now (points .entry)) (now (code .entry)) (now (pack .entry)) k
+        (now (ours .entry)) (now (theirs .entry))) × ((now (pack .exit)
+        ≡ buildMemory (now (table .entry)) (now (points .entry)) (now (code .entry)) (now (pack .entry)))
+        × ((now (ours .exit) ≡ askedMemory (now (table .entry)) (now (points .entry)) (now (code .entry))
+        (now (pack .entry)) k (now (ours .entry))) × (now (theirs .exit)
+        ≡ askedMemory (now (table .entry)) (now (points .entry)) (now (code .entry)) (now (pack .entry)) k
+        (now (theirs .entry))))) ⌝ }
 {
     match build_pack::build_pack(table, points, code, pack) {
         Answer::Value(n) => compare(table, points, code, k, &pack[..n], ours, theirs),

@@ -10,7 +10,8 @@ ghost use Rattle.file_compare.specs.Order.{order, same, SameFront, Four}
 // Whether the eight bytes from `i` on are the same in both: all are looked at, so that they are compared at once.
 fn eight_same(a: &[u8], b: &[u8], i: usize) -> bool
     requires { ⌜ (i + 8 ≤ length (now a)) × (i + 8 ≤ length (now b)) ⌝ }
-    ensures { λ r. ⌜ (r ≡ true → order (drop i (now (a .entry))) (drop i (now (b .entry))) ≡ order (drop (i + 8) (now (a .entry))) (drop (i + 8) (now (b .entry)))) ⌝ }
+    ensures { λ r. ⌜ (r ≡ true → order (drop i (now (a .entry))) (drop i (now (b .entry)))
+        ≡ order (drop (i + 8) (now (a .entry))) (drop (i + 8) (now (b .entry)))) ⌝ }
 {
     let low = (a[i] == b[i])
         & (a[i + 1] == b[i + 1])
@@ -81,7 +82,8 @@ fn four_of(s: &[u8], i: usize) -> usize
 // How the four bytes from `i` on compare: 0 where they are the same, so that what is behind them decides.
 fn four_order(a: &[u8], b: &[u8], i: usize) -> usize
     requires { ⌜ (i + 4 ≤ length (now a)) × (i + 4 ≤ length (now b)) ⌝ }
-    ensures { λ r. ⌜ order (drop i (now (a .entry))) (drop i (now (b .entry))) ≡ cond (eqb r 0) (order (drop (i + 4) (now (a .entry))) (drop (i + 4) (now (b .entry)))) r ⌝ }
+    ensures { λ r. ⌜ order (drop i (now (a .entry))) (drop i (now (b .entry)))
+        ≡ cond (eqb r 0) (order (drop (i + 4) (now (a .entry))) (drop (i + 4) (now (b .entry)))) r ⌝ }
 {
     let x = four_of(a, i);
     let y = four_of(b, i);
@@ -91,7 +93,8 @@ fn four_order(a: &[u8], b: &[u8], i: usize) -> usize
 // The same of the eight bytes from `i` on.
 fn eight_order(a: &[u8], b: &[u8], i: usize) -> usize
     requires { ⌜ (i + 8 ≤ length (now a)) × (i + 8 ≤ length (now b)) ⌝ }
-    ensures { λ r. ⌜ order (drop i (now (a .entry))) (drop i (now (b .entry))) ≡ cond (eqb r 0) (order (drop (i + 8) (now (a .entry))) (drop (i + 8) (now (b .entry)))) r ⌝ }
+    ensures { λ r. ⌜ order (drop i (now (a .entry))) (drop i (now (b .entry)))
+        ≡ cond (eqb r 0) (order (drop (i + 8) (now (a .entry))) (drop (i + 8) (now (b .entry)))) r ⌝ }
 {
     let front = four_order(a, b, i);
     let back = four_order(a, b, i + 4);

@@ -70,7 +70,8 @@ fn put_place<'a>(
     out: &mut [u8],
 ) -> usize
     requires { ⌜ length (placeIn (now a) (now b) f name tail) ≤ length (now out) ⌝ }
-    ensures { λ r. ⌜ Wrote (placeIn (now (a .entry)) (now (b .entry)) f name tail) (now (out .entry)) r (now (out .exit)) ⌝ }
+    ensures { λ r. ⌜ Wrote (placeIn (now (a .entry)) (now (b .entry)) f name tail) (now (out .entry)) r
+        (now (out .exit)) ⌝ }
 {
     if text_len(a, b, name) == 0 {
         return 0;
@@ -113,7 +114,8 @@ fn place_at<'a>(
     out: &mut [u8],
 ) -> usize
     requires { ⌜ at + length (placeIn (now a) (now b) f name tail) ≤ length (now out) ⌝ }
-    ensures { λ r. ⌜ Put (placeIn (now (a .entry)) (now (b .entry)) f name tail) (now (out .entry)) at r (now (out .exit)) ⌝ }
+    ensures { λ r. ⌜ Put (placeIn (now (a .entry)) (now (b .entry)) f name tail) (now (out .entry)) at r
+        (now (out .exit)) ⌝ }
 {
     at + put_place(a, b, f, name, tail, &mut out[at..])
 }
@@ -154,7 +156,8 @@ fn localities_at<'a>(
     out: &mut [u8],
 ) -> usize
     requires { ⌜ at + length (localitiesIn (now a) (now b) f e) ≤ length (now out) ⌝ }
-    ensures { λ r. ⌜ Put (localitiesIn (now (a .entry)) (now (b .entry)) f e) (now (out .entry)) at r (now (out .exit)) ⌝ }
+    ensures { λ r. ⌜ Put (localitiesIn (now (a .entry)) (now (b .entry)) f e) (now (out .entry)) at r
+        (now (out .exit)) ⌝ }
 {
     let double = e.double_locality;
     let dependent = e.dependent_locality;
@@ -186,7 +189,9 @@ fn places_at<'a>(a: &'a [u8], b: &'a [u8], f: Front, e: Spans, at: usize, out: &
 // The whole label, where there is room for it.
 pub fn write_label<'a>(a: &'a [u8], b: &'a [u8], e: Spans, out: &mut [u8]) -> usize
     requires { ⌜ length (labelOf (elementsIn (now a) (now b) e)) ≤ length (now out) ⌝ }
-    ensures { λ r. ⌜ (r ≡ length (labelOf (elementsIn (now (a .entry)) (now (b .entry)) e))) × (now (out .exit) ≡ labelOf (elementsIn (now (a .entry)) (now (b .entry)) e) ++ drop (length (labelOf (elementsIn (now (a .entry)) (now (b .entry)) e))) (now (out .entry))) ⌝ }
+    ensures { λ r. ⌜ (r ≡ length (labelOf (elementsIn (now (a .entry)) (now (b .entry)) e)))
+        × (now (out .exit) ≡ labelOf (elementsIn (now (a .entry)) (now (b .entry)) e) ++ drop
+        (length (labelOf (elementsIn (now (a .entry)) (now (b .entry)) e))) (now (out .entry))) ⌝ }
 {
     let shape = shape_of(a, b, e);
     let lines = lines_of(shape, e);

@@ -10,7 +10,9 @@ ghost use Rattle.label.specs.Spans.{elementsIn};
 
 // Prints the label, or refuses and writes nothing: its length is known before the first byte is written.
 pub fn print_label<'a>(a: &'a [u8], b: &'a [u8], e: Spans, out: &mut [u8]) -> Answer
-    ensures { λ r. ⌜ (r ≡ roomAnswer (labelOf (elementsIn (now (a .entry)) (now (b .entry)) e)) (now (out .entry))) × (now (out .exit) ≡ roomMemory (labelOf (elementsIn (now (a .entry)) (now (b .entry)) e)) (now (out .entry))) ⌝ }
+    ensures { λ r. ⌜ (r ≡ roomAnswer (labelOf (elementsIn (now (a .entry)) (now (b .entry)) e)) (now (out .entry)))
+        × (now (out .exit) ≡ roomMemory (labelOf (elementsIn (now (a .entry)) (now (b .entry)) e))
+        (now (out .entry))) ⌝ }
 {
     let needed = label_len(a, b, e);
     if out.len() < needed {

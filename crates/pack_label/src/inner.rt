@@ -15,7 +15,9 @@ ghost use Rattle.pack_points.specs.Ready.{Sized};
 // The label of point k of a pack that has so many.
 fn point_label<'a>(pack: &'a [u8], k: usize, out: &mut [u8]) -> Answer
     requires { ⌜ Sized (now pack) × ((1 ≤ k) × (k ≤ pointCount (now pack))) ⌝ }
-    ensures { λ r. ⌜ (r ≡ roomAnswer (labelOf (elementsAt (now (pack .entry)) (pointPlace (now (pack .entry)) k))) (now (out .entry))) × (now (out .exit) ≡ roomMemory (labelOf (elementsAt (now (pack .entry)) (pointPlace (now (pack .entry)) k))) (now (out .entry))) ⌝ }
+    ensures { λ r. ⌜ (r ≡ roomAnswer (labelOf (elementsAt (now (pack .entry)) (pointPlace (now (pack .entry)) k)))
+        (now (out .entry))) × (now (out .exit) ≡ roomMemory (labelOf
+        (elementsAt (now (pack .entry)) (pointPlace (now (pack .entry)) k))) (now (out .entry))) ⌝ }
 {
     let layout = layout_in(pack);
     let start = trailer_number(pack, layout, PackTrailer::START);
@@ -27,7 +29,8 @@ fn point_label<'a>(pack: &'a [u8], k: usize, out: &mut [u8]) -> Answer
 // The label of point k, counted from 1, of a pack that has so many points.
 pub fn label_at<'a>(pack: &'a [u8], count: usize, k: usize, out: &mut [u8]) -> Answer
     requires { ⌜ Sized (now pack) × (count ≡ pointCount (now pack)) ⌝ }
-    ensures { λ r. ⌜ (r ≡ pointAnswer (now (pack .entry)) k (now (out .entry))) × (now (out .exit) ≡ pointMemory (now (pack .entry)) k (now (out .entry))) ⌝ }
+    ensures { λ r. ⌜ (r ≡ pointAnswer (now (pack .entry)) k (now (out .entry)))
+        × (now (out .exit) ≡ pointMemory (now (pack .entry)) k (now (out .entry))) ⌝ }
 {
     let there = (1 <= k) & (k <= count);
     if !there {

@@ -12,7 +12,8 @@ ghost use Rattle.pack_rows.specs.Walks.{GoodRows, Tells, Cut, Starts};
 // From a row start to the first one at or behind a place. What it tells of an offset from there on, it tells then.
 fn walk_to(rows: &[u8], from: usize, place: usize) -> usize
     requires { ⌜ place ≤ length (now rows) ⌝ }
-    ensures { λ r. ⌜ (place ≤ r) × ((n o : ℕ) → place ≤ o → o < length (now (rows .entry)) → Tells (now (rows .entry)) n o from → Tells (now (rows .entry)) n o r) ⌝ }
+    ensures { λ r. ⌜ (place ≤ r) × ((n o : ℕ) → place ≤ o → o < length (now (rows .entry))
+        → Tells (now (rows .entry)) n o from → Tells (now (rows .entry)) n o r) ⌝ }
 {
     let mut at = from;
     while at < place {
@@ -24,7 +25,8 @@ fn walk_to(rows: &[u8], from: usize, place: usize) -> usize
 // Keeps for each stretch the first row start at or behind its beginning.
 pub fn keep_starts(rows: &[u8], width: usize, starts: &mut [u32])
     requires { ⌜ (length (now rows) < 4294967296) × (GoodRows (now rows) × Cut (now rows) width (now starts)) ⌝ }
-    ensures { λ r. ⌜ ((n : ℕ) → rowsGood (now (rows .entry)) n 1 0 ≡ true → Starts (now (rows .entry)) n width (now (starts .exit))) ⌝ }
+    ensures { λ r. ⌜ ((n : ℕ) → rowsGood (now (rows .entry)) n 1 0 ≡ true
+        → Starts (now (rows .entry)) n width (now (starts .exit))) ⌝ }
 {
     let mut at = 0;
     let mut place = 0;
@@ -40,7 +42,8 @@ pub fn keep_starts(rows: &[u8], width: usize, starts: &mut [u32])
 // Whether a row starts at an offset.
 fn is_start(rows: &[u8], width: usize, starts: &[u32], o: usize) -> bool
     requires { ⌜ Cut (now rows) width (now starts) ⌝ }
-    ensures { λ r. ⌜ ((n : ℕ) → Starts (now (rows .entry)) n width (now (starts .entry)) → r ≡ isStart (now (rows .entry)) n 0 o) ⌝ }
+    ensures { λ r. ⌜ ((n : ℕ) → Starts (now (rows .entry)) n width (now (starts .entry)) → r
+        ≡ isStart (now (rows .entry)) n 0 o) ⌝ }
 {
     if rows.len() <= o {
         return false;
@@ -52,7 +55,8 @@ fn is_start(rows: &[u8], width: usize, starts: &[u32], o: usize) -> bool
 // Whether an offset is absent, or the start of a row of a type.
 pub fn offset_good(rows: &[u8], width: usize, starts: &[u32], kind: u8, o: usize) -> bool
     requires { ⌜ Cut (now rows) width (now starts) ⌝ }
-    ensures { λ r. ⌜ ((n : ℕ) → Starts (now (rows .entry)) n width (now (starts .entry)) → r ≡ offsetGood (now (rows .entry)) n kind o) ⌝ }
+    ensures { λ r. ⌜ ((n : ℕ) → Starts (now (rows .entry)) n width (now (starts .entry)) → r
+        ≡ offsetGood (now (rows .entry)) n kind o) ⌝ }
 {
     if o == PackPoint::ABSENT {
         return true;

@@ -14,7 +14,9 @@ ghost use Rattle.pack_runs.specs.Runs.{pointsAsked};
 // The label of point k, behind so many bytes.
 fn label_behind<'a>(pack: &'a [u8], points: usize, k: usize, at: usize, out: &mut [u8]) -> Answer
     requires { ⌜ (at ≤ length (now out)) × (Sized (now pack) × (points ≡ pointCount (now pack))) ⌝ }
-    ensures { λ r. ⌜ (r ≡ pointAnswer (now (pack .entry)) k (drop at (now (out .entry)))) × (now (out .exit) ≡ take at (now (out .entry)) ++ pointMemory (now (pack .entry)) k (drop at (now (out .entry)))) ⌝ }
+    ensures { λ r. ⌜ (r ≡ pointAnswer (now (pack .entry)) k (drop at (now (out .entry))))
+        × (now (out .exit) ≡ take at (now (out .entry)) ++ pointMemory (now (pack .entry)) k
+        (drop at (now (out .entry)))) ⌝ }
 {
     pack_label::inner::label_at(pack, points, k, &mut out[at..])
 }
@@ -28,7 +30,8 @@ pub fn run_points<'a>(
     out: &mut [u8],
 ) -> Series
     requires { ⌜ Sized (now pack) × (points ≡ pointCount (now pack)) ⌝ }
-    ensures { λ r. ⌜ (r ≡ seriesFrom (pointsAsked (now (pack .entry))) first count (now (out .entry))) × (now (out .exit) ≡ memoryFrom (pointsAsked (now (pack .entry))) first count (now (out .entry))) ⌝ }
+    ensures { λ r. ⌜ (r ≡ seriesFrom (pointsAsked (now (pack .entry))) first count (now (out .entry)))
+        × (now (out .exit) ≡ memoryFrom (pointsAsked (now (pack .entry))) first count (now (out .entry))) ⌝ }
 {
     let mut k = first;
     let mut at = 0;

@@ -14,7 +14,8 @@ ghost use Rattle.report.specs.Report.{viewText, block, blocks};
 // The label of the view at a place, or its refusal.
 fn view_at<'a>(table: &'a [u8], points: &'a [u8], place: usize, at: usize, out: &mut [u8]) -> usize
     requires { ⌜ (at ≤ length (now out)) × ViewPlace (now table) (now points) place ⌝ }
-    ensures { λ r. ⌜ Fed (viewText (now (table .entry)) (now (points .entry)) place) (now (out .entry)) at r (now (out .exit)) ⌝ }
+    ensures { λ r. ⌜ Fed (viewText (now (table .entry)) (now (points .entry)) place) (now (out .entry)) at r
+        (now (out .exit)) ⌝ }
 {
     let mut label = [0u8; 499];
     match changes_label::inner::label_at(table, points, place, &mut label) {
@@ -26,7 +27,8 @@ fn view_at<'a>(table: &'a [u8], points: &'a [u8], place: usize, at: usize, out: 
 // `view`, number, letter; then the label.
 fn block_at<'a>(table: &'a [u8], points: &'a [u8], view: usize, at: usize, out: &mut [u8]) -> usize
     requires { ⌜ (at ≤ length (now out)) × Accepted tableFormat (now table) × Accepted pointFormat (now points) ⌝ }
-    ensures { λ r. ⌜ Fed (block (now (table .entry)) (now (points .entry)) view) (now (out .entry)) at r (now (out .exit)) ⌝ }
+    ensures { λ r. ⌜ Fed (block (now (table .entry)) (now (points .entry)) view) (now (out .entry)) at r
+        (now (out .exit)) ⌝ }
 {
     let place = changes_views::wanted_at(points, &points[..0], view);
     let letter = file_record::byte_of(
@@ -49,7 +51,8 @@ pub fn blocks_at<'a>(
     out: &mut [u8],
 ) -> usize
     requires { ⌜ (at ≤ length (now out)) × Accepted tableFormat (now table) × Accepted pointFormat (now points) ⌝ }
-    ensures { λ r. ⌜ Fed (blocks (now (table .entry)) (now (points .entry)) views) (now (out .entry)) at r (now (out .exit)) ⌝ }
+    ensures { λ r. ⌜ Fed (blocks (now (table .entry)) (now (points .entry)) views) (now (out .entry)) at r
+        (now (out .exit)) ⌝ }
 {
     let mut view = 0;
     let mut i = at;

@@ -25,7 +25,8 @@ const POINTS_MOST: usize = 50400;
 // `pair`, table records, point records, views; then each view.
 fn write_pair<'a>(table: &'a [u8], points: &'a [u8], t: usize, p: usize, out: &mut [u8]) -> usize
     requires { ⌜ Accepted tableFormat (now table) × Accepted pointFormat (now points) ⌝ }
-    ensures { λ r. ⌜ Fed (pairText (now (table .entry)) (now (points .entry)) t p) (now (out .entry)) 0 r (now (out .exit)) ⌝ }
+    ensures { λ r. ⌜ Fed (pairText (now (table .entry)) (now (points .entry)) t p) (now (out .entry)) 0 r
+        (now (out .exit)) ⌝ }
 {
     let views = changes_views::count_wanted(points, &points[..0]);
     let i = text_at(b"pair", 0, out);
@@ -38,7 +39,8 @@ fn write_pair<'a>(table: &'a [u8], points: &'a [u8], t: usize, p: usize, out: &m
 
 // The one line of a refused file.
 fn write_refused(word: &[u8], reason: Reason, out: &mut [u8]) -> usize
-    ensures { λ r. ⌜ Fed (now (word .entry) ++ ((32 ∷ []) ++ refusedLine reason)) (now (out .entry)) 0 r (now (out .exit)) ⌝ }
+    ensures { λ r. ⌜ Fed (now (word .entry) ++ ((32 ∷ []) ++ refusedLine reason)) (now (out .entry)) 0 r
+        (now (out .exit)) ⌝ }
 {
     let i = text_at(word, 0, out);
     let j = text_at(b" ", i, out);
@@ -48,7 +50,8 @@ fn write_refused(word: &[u8], reason: Reason, out: &mut [u8]) -> usize
 // What is written once the table file is taken.
 fn write_points<'a>(table: &'a [u8], points: &'a [u8], t: usize, out: &mut [u8]) -> usize
     requires { ⌜ checked tableFormat (now table) ≡ Value t ⌝ }
-    ensures { λ r. ⌜ Fed (pointsText (now (table .entry)) (now (points .entry)) t) (now (out .entry)) 0 r (now (out .exit)) ⌝ }
+    ensures { λ r. ⌜ Fed (pointsText (now (table .entry)) (now (points .entry)) t) (now (out .entry)) 0 r
+        (now (out .exit)) ⌝ }
 {
     if POINTS_MOST < points.len() {
         return text_at(b"points long\n", 0, out);
@@ -61,7 +64,8 @@ fn write_points<'a>(table: &'a [u8], points: &'a [u8], t: usize, out: &mut [u8])
 
 // The report of a pair of files, as far as the buffer goes; the answer is how many bytes were written.
 pub fn write_report<'a>(table: &'a [u8], points: &'a [u8], out: &mut [u8]) -> usize
-    ensures { λ r. ⌜ Wrote (fitting (reportOf (now (table .entry)) (now (points .entry))) (now (out .entry))) (now (out .entry)) r (now (out .exit)) ⌝ }
+    ensures { λ r. ⌜ Wrote (fitting (reportOf (now (table .entry)) (now (points .entry))) (now (out .entry)))
+        (now (out .entry)) r (now (out .exit)) ⌝ }
 {
     if TABLE_MOST < table.len() {
         return text_at(b"table long\n", 0, out);

@@ -1,5 +1,7 @@
 // The calls that a C program makes. Each answers one number, which packs the answer of the crate below; see the header,
 // include/ttwibonal.h.
+use changes_asked::label_in_code;
+use changes_runs::labels_in_code;
 ghost use mathlib.Core.Path.{_≡_};
 ghost use Rattle.refusal.specs.Packed.{packed};
 ghost use Rattle.file.specs.Check.{checked};
@@ -56,7 +58,8 @@ pub extern "C" fn ttw_live(points: &[u8], code: &[u8]) -> u64
 // The label of a view, printed into `out`.
 #[no_mangle]
 pub extern "C" fn ttw_label<'a>(table: &'a [u8], points: &'a [u8], view: u64, out: &mut [u8]) -> u64
-    ensures { λ r. ⌜ (r ≡ packed (viewAnswer (now (table .entry)) (now (points .entry)) view (now (out .entry)))) × (now (out .exit) ≡ viewMemory (now (table .entry)) (now (points .entry)) view (now (out .entry))) ⌝ }
+    ensures { λ r. ⌜ (r ≡ packed (viewAnswer (now (table .entry)) (now (points .entry)) view (now (out .entry))))
+        × (now (out .exit) ≡ viewMemory (now (table .entry)) (now (points .entry)) view (now (out .entry))) ⌝ }
 {
     refusal::packed_answer(changes_asked::label_view(table, points, view as usize, out)) as u64
 }
@@ -70,21 +73,19 @@ pub extern "C" fn ttw_code_label<'a>(
     k: u64,
     out: &mut [u8],
 ) -> u64
-    ensures { λ r. ⌜ (r ≡ packed (codeAnswer (now (table .entry)) (now (points .entry)) (now (code .entry)) k (now (out .entry)))) × (now (out .exit) ≡ codeMemory (now (table .entry)) (now (points .entry)) (now (code .entry)) k (now (out .entry))) ⌝ }
+    ensures { λ r. ⌜ (r ≡ packed (codeAnswer (now (table .entry)) (now (points .entry)) (now (code .entry)) k
+        (now (out .entry)))) × (now (out .exit) ≡ codeMemory (now (table .entry)) (now (points .entry))
+        (now (code .entry)) k (now (out .entry))) ⌝ }
 {
-    refusal::packed_answer(changes_asked::label_in_code(
-        table,
-        points,
-        code,
-        k as usize,
-        out,
-    )) as u64
+    refusal::packed_answer(label_in_code(table, points, code, k as usize, out)) as u64
 }
 
 // The pack of an outward code, cut from both files into `out`.
 #[no_mangle]
 pub extern "C" fn ttw_build(table: &[u8], points: &[u8], code: &[u8], out: &mut [u8]) -> u64
-    ensures { λ r. ⌜ (r ≡ packed (buildAnswer (now (table .entry)) (now (points .entry)) (now (code .entry)) (now (out .entry)))) × (now (out .exit) ≡ buildMemory (now (table .entry)) (now (points .entry)) (now (code .entry)) (now (out .entry))) ⌝ }
+    ensures { λ r. ⌜ (r ≡ packed (buildAnswer (now (table .entry)) (now (points .entry)) (now (code .entry))
+        (now (out .entry)))) × (now (out .exit) ≡ buildMemory (now (table .entry)) (now (points .entry))
+        (now (code .entry)) (now (out .entry))) ⌝ }
 {
     refusal::packed_answer(build_pack::build_pack(table, points, code, out)) as u64
 }
@@ -100,7 +101,8 @@ pub extern "C" fn ttw_pack(pack: &[u8]) -> u64
 // The label of point k of a pack, printed into `out`.
 #[no_mangle]
 pub extern "C" fn ttw_pack_label<'a>(pack: &'a [u8], k: u64, out: &mut [u8]) -> u64
-    ensures { λ r. ⌜ (r ≡ packed (packAnswer (now (pack .entry)) k (now (out .entry)))) × (now (out .exit) ≡ packMemory (now (pack .entry)) k (now (out .entry))) ⌝ }
+    ensures { λ r. ⌜ (r ≡ packed (packAnswer (now (pack .entry)) k (now (out .entry))))
+        × (now (out .exit) ≡ packMemory (now (pack .entry)) k (now (out .entry))) ⌝ }
 {
     refusal::packed_answer(pack_label::label_of_point(pack, k as usize, out)) as u64
 }
@@ -115,7 +117,10 @@ pub extern "C" fn ttw_labels<'a>(
     out: &mut [u8],
     bytes: &mut u64,
 ) -> u64
-    ensures { λ r. ⌜ (r ≡ packedSeries (viewSeries (now (table .entry)) (now (points .entry)) first count (now (out .entry)))) × ((now (out .exit) ≡ viewsMemory (now (table .entry)) (now (points .entry)) first count (now (out .entry))) × (now (bytes .exit) ≡ seriesBytes (viewSeries (now (table .entry)) (now (points .entry)) first count (now (out .entry))) (now (bytes .entry)))) ⌝ }
+    ensures { λ r. ⌜ (r ≡ packedSeries (viewSeries (now (table .entry)) (now (points .entry)) first count
+        (now (out .entry)))) × ((now (out .exit) ≡ viewsMemory (now (table .entry)) (now (points .entry)) first count
+        (now (out .entry))) × (now (bytes .exit) ≡ seriesBytes (viewSeries (now (table .entry))
+        (now (points .entry)) first count (now (out .entry))) (now (bytes .entry)))) ⌝ }
 {
     let run = changes_runs::labels_of_views(table, points, first as usize, count as usize, out);
     *bytes = run::bytes_of(run, *bytes as usize) as u64;
@@ -133,16 +138,13 @@ pub extern "C" fn ttw_code_labels<'a>(
     out: &mut [u8],
     bytes: &mut u64,
 ) -> u64
-    ensures { λ r. ⌜ (r ≡ packedSeries (codeSeries (now (table .entry)) (now (points .entry)) (now (code .entry)) first count (now (out .entry)))) × ((now (out .exit) ≡ codesMemory (now (table .entry)) (now (points .entry)) (now (code .entry)) first count (now (out .entry))) × (now (bytes .exit) ≡ seriesBytes (codeSeries (now (table .entry)) (now (points .entry)) (now (code .entry)) first count (now (out .entry))) (now (bytes .entry)))) ⌝ }
+    ensures { λ r. ⌜ (r ≡ packedSeries (codeSeries (now (table .entry)) (now (points .entry))
+        (now (code .entry)) first count (now (out .entry)))) × ((now (out .exit)
+        ≡ codesMemory (now (table .entry)) (now (points .entry)) (now (code .entry)) first count (now (out .entry)))
+        × (now (bytes .exit) ≡ seriesBytes (codeSeries (now (table .entry)) (now (points .entry))
+        (now (code .entry)) first count (now (out .entry))) (now (bytes .entry)))) ⌝ }
 {
-    let run = changes_runs::labels_in_code(
-        table,
-        points,
-        code,
-        first as usize,
-        count as usize,
-        out,
-    );
+    let run = labels_in_code(table, points, code, first as usize, count as usize, out);
     *bytes = run::bytes_of(run, *bytes as usize) as u64;
     run::packed_series(run) as u64
 }
@@ -156,7 +158,10 @@ pub extern "C" fn ttw_pack_labels<'a>(
     out: &mut [u8],
     bytes: &mut u64,
 ) -> u64
-    ensures { λ r. ⌜ (r ≡ packedSeries (packSeries (now (pack .entry)) first count (now (out .entry)))) × ((now (out .exit) ≡ packsMemory (now (pack .entry)) first count (now (out .entry))) × (now (bytes .exit) ≡ seriesBytes (packSeries (now (pack .entry)) first count (now (out .entry))) (now (bytes .entry)))) ⌝ }
+    ensures { λ r. ⌜ (r ≡ packedSeries (packSeries (now (pack .entry)) first count (now (out .entry))))
+        × ((now (out .exit) ≡ packsMemory (now (pack .entry)) first count (now (out .entry)))
+        × (now (bytes .exit) ≡ seriesBytes (packSeries (now (pack .entry)) first count (now (out .entry)))
+        (now (bytes .entry)))) ⌝ }
 {
     let run = pack_runs::labels_of_points(pack, first as usize, count as usize, out);
     *bytes = run::bytes_of(run, *bytes as usize) as u64;
