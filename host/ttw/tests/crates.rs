@@ -375,10 +375,9 @@ fn places_with_a_file(name: &str) -> Vec<String> {
 }
 
 #[test]
-#[ignore = "the crates of `build` still read the records of a pair of files"]
-fn label_pack_and_build_know_no_file() {
+fn label_and_pack_know_no_file() {
     let is_above = |name: &&String| {
-        let above = ["label", "pack", "build"];
+        let above = ["label", "pack"];
         above.iter().any(|start| name.starts_with(start))
     };
     let names = crate_names();
