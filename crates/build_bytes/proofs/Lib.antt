@@ -1,4 +1,2 @@
 pub mod Numbers
 pub mod Texts
-pub mod Places
-pub mod Pack

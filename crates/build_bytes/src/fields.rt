@@ -8,7 +8,7 @@ ghost use Rattle.field.specs.Text.{part, textIn};
 ghost use Rattle.label.specs.Put.{Put};
 ghost use Rattle.pack.specs.Layout.{textsBytes};
 ghost use Rattle.pack.specs.Numbers.{bytesOf};
-ghost use Rattle.build_bytes.specs.Emit.{sized, twoTexts};
+ghost use Rattle.build.specs.Bytes.{sized, twoTexts};
 
 // The last two bytes of a number, the most significant first.
 pub fn short_at(n: usize, at: usize, out: &mut [u8]) -> usize

@@ -1,4 +1,4 @@
-// The starts of the rows, by record of the table file.
+// The starts of the rows, by row.
 ghost use mathlib.Core.Path.{_≡_};
 ghost use Prim.Native.Nat.{_-_, _≤_};
 ghost use lib.ListN.{getD};

@@ -1,9 +1,10 @@
+pub mod Refused
 pub mod Orders
-pub mod Refs
-pub mod Marked
 pub mod Keys
+pub mod Marked
 pub mod Offsets
 pub mod Rows
 pub mod Organisations
 pub mod Points
 pub mod Pack
+pub mod Size

@@ -1,4 +1,4 @@
--- Which records a builder marks: those that a packed view refers to. Where rows stand shows the same, and as many bytes.
+-- Which rows a builder marks: those that a delivery point refers to. Where rows stand shows the same.
 -- Assumes nothing.
 use Prim.Native.Nat.{ℕ, zero, suc, _+_, _-_, _≤_, _<_}
 use mathlib.Core.Path.{_≡_, refl, sym, ap, _∙_}
@@ -11,11 +11,10 @@ use lib.ListN.{length, getD, set, length-set}
 use lib.Seq.{getD-set-same, getD-set-other}
 use Rattle.field.specs.Test.{elem}
 use Rattle.field.proofs.Tests.{or-false}
-use Rattle.file_record.specs.Parts.{recordAt}
-use Rattle.changes_rows.specs.Rows.{lastOf}
-use Rattle.build_plan.specs.Places.{rowsOf, refersTo, markRow, markRows, markPlaces}
-use Rattle.build_plan.specs.Rows.{rowBytesAt, isMarked, bytesTo, countTo}
-use Rattle.build_plan.specs.Placed.{Placed}
+use Rattle.shelf.specs.Stock.{Stock}
+use Rattle.build.specs.Plan.{Packed, rowsOf, refersTo, markRow, markRows, markAll}
+use Rattle.build.specs.Rows.{rowBytesAt, isMarked, bytesTo, countTo}
+use Rattle.build.specs.Placed.{Placed}
 
 -- ---- marks
 
@@ -29,6 +28,12 @@ row-length row marks = by-test (eqb row 0)
 rows-length : (rows marks : List ℕ) → length (markRows rows marks) ≡ length marks
 rows-length [] marks = refl
 rows-length (row ∷ rows) marks = rows-length rows (markRow row marks) ∙ row-length row marks
+
+-- marking keeps how many marks there are
+pub all-length : (st : Stock) (ds : List Packed) (marks : List ℕ) → length (markAll st ds marks) ≡ length marks
+all-length st [] marks = refl
+all-length st (d ∷ ds) marks =
+    all-length st ds (markRows (rowsOf st (d .point)) marks) ∙ rows-length (rowsOf st (d .point)) marks
 
 or-turned : (r s t : Bool) → r || (s || t) ≡ (s || r) || t
 or-turned true true t = refl
@@ -57,52 +62,51 @@ module _ (i : ℕ) (low : 1 ≤ i) where
       ∙ (ap (λ b. elem i rows || b) (mark-one row marks h)
       ∙ or-turned (elem i rows) (eqb i row) (isMarked marks i))
 
-  mark-places : (table points places marks : List ℕ) → i < length marks
-      → isMarked (markPlaces table points places marks) i ≡ refersTo table points places i || isMarked marks i
-  mark-places table points [] marks h = refl
-  mark-places table points (place ∷ places) marks h =
-      let rows = rowsOf table (recordAt 168 points place) in
-      mark-places table points places (markRows rows marks) (omega (arith, rows-length rows marks))
-      ∙ (ap (λ b. refersTo table points places i || b) (mark-all rows marks h)
-      ∙ or-turned (refersTo table points places i) (elem i rows) (isMarked marks i))
+  mark-points : (st : Stock) (ds : List Packed) (marks : List ℕ) → i < length marks
+      → isMarked (markAll st ds marks) i ≡ refersTo st ds i || isMarked marks i
+  mark-points st [] marks h = refl
+  mark-points st (d ∷ ds) marks h =
+      let rows = rowsOf st (d .point) in
+      mark-points st ds (markRows rows marks) (omega (arith, rows-length rows marks))
+      ∙ (ap (λ b. refersTo st ds i || b) (mark-all rows marks h)
+      ∙ or-turned (refersTo st ds i) (elem i rows) (isMarked marks i))
 
   -- what is marked where nothing was
-  pub marked-exactly : (table points places fresh : List ℕ) → i < length fresh → getD fresh i 0 ≡ 0
-      → isMarked (markPlaces table points places fresh) i ≡ refersTo table points places i
-  marked-exactly table points places fresh h e =
-      mark-places table points places fresh h
-      ∙ (ap (λ b. refersTo table points places i || not b) (eq-eqb (getD fresh i 0) 0 e)
-      ∙ or-false (refersTo table points places i))
+  pub marked-exactly : (st : Stock) (ds : List Packed) (fresh : List ℕ) → i < length fresh → getD fresh i 0 ≡ 0
+      → isMarked (markAll st ds fresh) i ≡ refersTo st ds i
+  marked-exactly st ds fresh h e =
+      mark-points st ds fresh h
+      ∙ (ap (λ b. refersTo st ds i || not b) (eq-eqb (getD fresh i 0) 0 e) ∙ or-false (refersTo st ds i))
 
 -- ---- starts
 
-module _ (table marks starts : List ℕ) (p : Placed table marks starts) where
-  module _ (i : ℕ) (low : 1 ≤ i) (high : i < lastOf table) where
-    -- a record has a start where it is marked
+module _ (st : Stock) (marks starts : List ℕ) (p : Placed st marks starts) where
+  module _ (i : ℕ) (low : 1 ≤ i) (high : i < st .last) where
+    -- a row has a start where it is marked
     pub start-marked : isMarked starts i ≡ isMarked marks i
-    start-marked = ap (λ n. not (eqb n 0)) (p .each i low high) ∙ by-test (isMarked marks i) (bytesTo table marks (i - 1))
+    start-marked = ap (λ n. not (eqb n 0)) (p .each i low high) ∙ by-test (isMarked marks i) (bytesTo st marks (i - 1))
       where
         by-test : (t : Bool) (n : ℕ) → not (eqb (cond t (suc n) 0) 0) ≡ t
         by-test true n = rw (ne-eqb (suc n) 0 (λ z. omega arith))
         by-test false n = refl
 
-  pub bytes-same : (n : ℕ) → n < lastOf table → bytesTo table starts n ≡ bytesTo table marks n
+  pub bytes-same : (n : ℕ) → n ≤ st .last - 1 → bytesTo st starts n ≡ bytesTo st marks n
   bytes-same zero h = refl
   bytes-same (suc n) h =
-      rw (start-marked (suc n) (omega arith) h)
-      (ap (λ m. m + cond (isMarked marks (suc n)) (length (rowBytesAt table (suc n))) 0) (bytes-same n (omega arith)))
+      rw (start-marked (suc n) (omega arith) (omega arith))
+      (ap (λ m. m + cond (isMarked marks (suc n)) (length (rowBytesAt st (suc n))) 0) (bytes-same n (omega arith)))
 
-  pub count-same : (n : ℕ) → n < lastOf table → countTo starts n ≡ countTo marks n
+  pub count-same : (n : ℕ) → n ≤ st .last - 1 → countTo starts n ≡ countTo marks n
   count-same zero h = refl
   count-same (suc n) h =
-      rw (start-marked (suc n) (omega arith) h)
+      rw (start-marked (suc n) (omega arith) (omega arith))
       (ap (λ m. m + cond (isMarked marks (suc n)) 1 0) (count-same n (omega arith)))
 
-  -- its row stands behind those of the records before it that have one
-  pub start-is : (i : ℕ) → 1 ≤ i → i < lastOf table → isMarked starts i ≡ true
-      → getD starts i 0 - 1 ≡ bytesTo table starts (i - 1)
+  -- it stands behind those before it that have one
+  pub start-is : (i : ℕ) → 1 ≤ i → i < st .last → isMarked starts i ≡ true
+      → getD starts i 0 - 1 ≡ bytesTo st starts (i - 1)
   start-is i low high e =
-      let here : getD starts i 0 ≡ suc (bytesTo table marks (i - 1)) =
+      let here : getD starts i 0 ≡ suc (bytesTo st marks (i - 1)) =
       p .each i low high
-      ∙ ap (λ t. cond t (suc (bytesTo table marks (i - 1))) 0) (sym (start-marked i low high) ∙ e) in
+      ∙ ap (λ t. cond t (suc (bytesTo st marks (i - 1))) 0) (sym (start-marked i low high) ∙ e) in
       omega (arith, here, bytes-same (i - 1) (omega arith))

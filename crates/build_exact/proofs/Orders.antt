@@ -1,32 +1,15 @@
--- Nine digits are a type and a key. And two rising lists with the same members are equal.
+-- Two rising lists with the same members are equal.
 -- Assumes nothing.
-use Prim.Native.Nat.{ℕ, suc, _+_, _-_, _*_, _^_, _≤_, _<_}
+use Prim.Native.Nat.{ℕ, _≤_, _<_}
 use mathlib.Core.Path.{_≡_, refl, sym, ap, ap₂, subst, _∙_}
 use mathlib.Core.Bool.{Bool, true, false, true≢false, _||_}
 use mathlib.Core.List.{List, [], _∷_}
 use native.Mathlib.Omega.{arith}
 use borrow.Author.Tests.{eq-eqb, ne-eqb, eqb-true}
 use lib.Dec.{eqb}
-use lib.ListN.{length}
 use Rattle.field.specs.Test.{elem}
-use Rattle.field.specs.Digits.{digit, digitValue, value}
-use Rattle.field.proofs.Values.{value-whole}
-use Rattle.changes_source.proofs.Digits.{digit-again}
-use Rattle.changes_refs.proofs.Digits.{first-digit}
-use Rattle.source.specs.Address.{ref}
 use Rattle.pack_carries.specs.Used.{Rises}
 use Rattle.pack_carries.proofs.Rows.{or-true}
-
--- ---- digits
-
--- a type byte and a key are a number for what a row stands for
-pub nine-digits : (x : ℕ) (s : List ℕ) → digit x ≡ true → length s ≡ 8 → value (x ∷ s) ≡ ref (x - 48) (value s)
-nine-digits x s d n =
-    let is : 10 ^ length s ≡ 100_000_000 = ap (λ k. 10 ^ k) n in
-    let first : digitValue x ≡ x - 48 = omega (arith, digit-again x d) in
-    value-whole (x ∷ s) (omega arith) ∙ (first-digit x s ∙ rw (is, first, value-whole s (omega arith)))
-
--- ---- rising lists
 
 rises-above : (low r : ℕ) (xs : List ℕ) → Rises low xs → elem r xs ≡ true → low < r
 rises-above low r [] h e = let z : _≡_ {A = ℕ} 0 1 = cc in absurd (omega arith)

@@ -1,25 +1,20 @@
--- The pack that a builder writes is the pack of the views that are packed.
+-- The pack that a builder writes is the pack of the addresses that its delivery points say.
 -- Assumes nothing.
-use Prim.Native.Nat.{ℕ, _+_, _-_, _<_}
-use mathlib.Core.Path.{_≡_, ap, ap₂, _∙_}
+use Prim.Native.Nat.{ℕ, suc, _+_, _-_, _<_}
+use mathlib.Core.Path.{_≡_, refl, ap, ap₂, _∙_}
 use mathlib.Core.List.{List, _++_, append-assoc}
 use native.Mathlib.Omega.{arith}
 use lib.ListN.{length, length-append}
-use Rattle.file.specs.Formats.{pointFormat}
-use Rattle.file.proofs.Accepted.{Accepted}
-use Rattle.changes_views.specs.Views.{wantedIn}
-use Rattle.changes_rows.specs.Rows.{lastOf}
 use Rattle.source.specs.Address.{Address, ref}
-use Rattle.changes_source.specs.Rows.{tableLookup}
-use Rattle.pack.specs.Layout.{newest, Entry, organisationEntries, entriesOf, entriesBytes, offsetOf, pointsBytes, trailerBytes, packBytes, packOf}
-use Rattle.build_plan.specs.Places.{organisationsAt, organisationCount}
-use Rattle.build_plan.specs.Rows.{countTo}
-use Rattle.build_sound.specs.Packed.{packed, viewsAt}
-use Rattle.build_sound.proofs.Packed.{packed-views, views-length, all-wanted}
-use Rattle.build_bytes.specs.Emit.{pointsAt, tableRows, packAt}
-use Rattle.build_exact.specs.Started.{Started}
-use Rattle.build_exact.specs.Half.{usedRows, TableHalf}
-use Rattle.build_exact.proofs.Organisations.{entries-join, numbers-rise, organisations-bytes, organisations-count}
+use Rattle.shelf.specs.Stock.{Stock, lookIn}
+use Rattle.pack.specs.Layout.{Entry, usedBy, tableEntries, organisationEntries, entriesOf, entriesBytes, offsetOf, pointsBytes, trailerBytes, packBytes, packOf}
+use Rattle.pack.specs.Names.{newest}
+use Rattle.build.specs.Plan.{Packed, organisationRows, organisationCount}
+use Rattle.build.specs.Rows.{countTo}
+use Rattle.build.specs.Bytes.{usedRows, pointsIn, packIn}
+use Rattle.build_exact.specs.Started.{AllSay, none-says, one-says, Started}
+use Rattle.build_exact.proofs.Rows.{rows-bytes, rows-count, no-table-row, ref-offset}
+use Rattle.build_exact.proofs.Organisations.{entries-join, organisations-bytes, organisations-count}
 use Rattle.build_exact.proofs.Points.{points-are}
 
 -- a pack from what it has, and that the same makes the same pack
@@ -35,66 +30,47 @@ laid-same : {rows rows′ points points′ : List ℕ} {count count′ start sta
     → laid rows points count start size code ≡ laid rows′ points′ count′ start′ size′ code
 laid-same code e0 e1 e2 e3 e4 = cc
 
-module _ (table points code starts : List ℕ) (p : Accepted pointFormat points) (half : TableHalf table points code starts)
-    (in-order : packed points code ≡ viewsAt points (wantedIn code points)) where
-  abbrev places : List ℕ
-  places = wantedIn code points
+said-length : {own others : List ℕ} {ds : List Packed} {as′ : List Address} → AllSay own others ds as′
+    → length as′ ≡ length ds
+said-length none-says = refl
+said-length (one-says s rest) = ap suc (said-length rest)
 
-  abbrev views : List Address
-  views = packed points code
-
+module _ {st : Stock} {own others : List ℕ} {ds : List Packed} {as′ : List Address} {fresh starts : List ℕ}
+    (s : Started st own others ds as′ fresh starts) where
   abbrev used : List Entry
-  used = usedRows table points code
+  used = tableEntries (lookIn st) (usedBy as′)
 
   abbrev es : List Entry
-  es = entriesOf (tableLookup table) views
+  es = entriesOf (lookIn st) as′
 
-  others : entriesBytes (organisationEntries views) ≡ organisationsAt points places
-  others = rw in-order (organisations-bytes points 0 places (numbers-rise points code p))
-
-  all-rows : entriesBytes es ≡ tableRows table starts ++ organisationsAt points places
+  all-rows : entriesBytes es ≡ usedRows st starts ++ organisationRows others ds
   unfolding entriesOf
-  all-rows = entries-join used (organisationEntries views) ∙ ap₂ _++_ (half .rows-bytes) others
+  all-rows =
+      entries-join used (organisationEntries as′)
+      ∙ ap₂ _++_ (rows-bytes s) (organisations-bytes 0 (s .said) (s .rising))
 
-  start-is : length (entriesBytes es) ≡ length (tableRows table starts) + length (organisationsAt points places)
-  start-is = ap length all-rows ∙ length-append (tableRows table starts) (organisationsAt points places)
+  start-is : length (entriesBytes es) ≡ length (usedRows st starts) + length (organisationRows others ds)
+  start-is = ap length all-rows ∙ length-append (usedRows st starts) (organisationRows others ds)
 
-  count-is : length es ≡ countTo starts (lastOf table - 1) + organisationCount points places
+  count-is : length es ≡ countTo starts (st .last - 1) + organisationCount ds
   unfolding entriesOf
   count-is =
-      omega (
-        arith,
-        length-append used (organisationEntries views),
-        half .rows-count,
-        ap (λ (as′ : List Address). length (organisationEntries as′)) in-order,
-        organisations-count points places,
-      )
+      length-append used (organisationEntries as′) ∙ ap₂ _+_ (rows-count s) (organisations-count (s .said))
 
-  -- the rows of organisations stand behind those of the table
+  -- the rows of organisations stand behind those of the tables
   standing : (r : ℕ) → ref 6 0 < r
-      → offsetOf es r ≡ length (tableRows table starts) + offsetOf (organisationEntries (viewsAt points places)) r
+      → offsetOf es r ≡ length (usedRows st starts) + offsetOf (organisationEntries as′) r
   unfolding entriesOf
-  standing r h =
-      half .no-six r (organisationEntries views) (omega arith)
-      ∙ ap₂ _+_ (ap length (half .rows-bytes)) (ap (λ (as′ : List Address). offsetOf (organisationEntries as′) r) in-order)
+  standing r h = no-table-row s r (omega arith) (organisationEntries as′)
 
-  all-points : pointsBytes newest es views ≡ pointsAt table points starts (length (tableRows table starts)) places
+  all-points : pointsBytes newest es as′ ≡ pointsIn st own others starts (length (usedRows st starts)) ds
+  unfolding entriesOf
   all-points =
-      ap (pointsBytes newest es) in-order
-      ∙ points-are table points code starts p es (length (tableRows table starts)) 0 places (numbers-rise points code p)
-      (all-wanted code points) standing (half .key-offsets)
+      points-are st starts es (length (usedRows st starts)) 0 (s .said) (s .rising) standing
+      (ref-offset s (organisationEntries as′))
 
-  size-is : length views ≡ length places
-  size-is = ap length in-order ∙ views-length points places
-
-  pack-laid : packOf (tableLookup table) views code ≡ packAt table points starts code
-  unfolding packOf packBytes packAt
-  pack-laid =
-      laid-same code all-rows all-points count-is start-is size-is
-      ∙ append-assoc (tableRows table starts) (organisationsAt points places) _
-
-pub pack-is : (table points code fresh starts : List ℕ) → Started table points code fresh starts
-    → TableHalf table points code starts
-    → packOf (tableLookup table) (packed points code) code ≡ packAt table points starts code
-pack-is table points code fresh starts s half =
-    pack-laid table points code starts (s .of-points) half (packed-views points code (s .of-code))
+  pub pack-is : (code : List ℕ) → packOf (lookIn st) as′ code ≡ packIn st own others starts ds code
+  unfolding packOf packBytes packIn
+  pack-is code =
+      laid-same code all-rows all-points count-is start-is (said-length (s .said))
+      ∙ append-assoc (usedRows st starts) (organisationRows others ds) _

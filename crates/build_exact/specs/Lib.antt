@@ -1,3 +1,2 @@
 pub mod Started
-pub mod Refs
-pub mod Half
+pub mod Within

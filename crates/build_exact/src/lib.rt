@@ -1,1 +1,1 @@
-// That the bytes which a builder writes are those of the pack. This crate has theorems and no code.
+// Laws, no code: the bytes that a builder writes are those of the pack of the addresses that the delivery points say.

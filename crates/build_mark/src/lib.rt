@@ -1,2 +1,2 @@
-// Whether a packed view is refused, and which records of the table file the packed views refer to.
+// Whether a packed delivery point is refused, and the marks of the rows that it refers to.
 pub mod inner;

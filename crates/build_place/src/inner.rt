@@ -1,19 +1,16 @@
-// The places of the rows of accepted files: the caller knows how many records these have.
-use build_plan::text_end;
-use file_record::Locality;
-use file_record::Organisation;
-use file_record::Table;
+// The places of the rows of a shelf: the caller knows that its fields lie within its records, and how many there are.
+use shelf::Shelf;
+use source::DeliveryPoint;
 ghost use mathlib.Core.Path.{_≡_};
 ghost use mathlib.Core.Bool.{cond};
-ghost use Prim.Native.Nat.{suc, _-_, _≤_, _<_};
-ghost use lib.ListN.{length, set};
+ghost use Prim.Native.Nat.{suc, _+_, _-_, _≤_, _<_};
+ghost use lib.ListN.{length};
 ghost use Rattle.field.specs.Text.{textIn};
-ghost use Rattle.changes_rows.specs.Rows.{lastOf};
-ghost use Rattle.changes_views.specs.Views.{wantedIn};
-ghost use Rattle.changes_views.specs.Views as Views;
-ghost use Rattle.build_plan.specs.Places.{organisationAt, organisationsAt, organisationCount};
-ghost use Rattle.build_plan.specs.Rows.{rowBytesAt, isMarked, bytesTo, countTo};
-ghost use Rattle.build_plan.specs.Placed.{Placed};
+ghost use Rattle.shelf.specs.Shelf.{Fit, lastOf, textWidth};
+ghost use Rattle.shelf.specs.Stock.{stockOf};
+ghost use Rattle.build.specs.Plan.{organisationRow};
+ghost use Rattle.build.specs.Rows.{rowBytesAt, sizeAt, allBytes, allCount};
+ghost use Rattle.build.specs.Placed.{started, Placed};
 
 // So many rows in so many bytes.
 pub struct Sums {
@@ -21,63 +18,75 @@ pub struct Sums {
     pub bytes: usize,
 }
 
+// How wide the text of a row is that is no locality.
+pub fn text_width(kind: usize) -> usize
+    ensures { λ r. ⌜ (r ≡ textWidth kind) × (r ≤ 60) ⌝ }
+{
+    match kind {
+        2 => 60,
+        3 => 20,
+        4 => 50,
+        _ => 30,
+    }
+}
+
 // The bytes of a text in a row, with its length byte.
 fn text_len(rec: &[u8], from: usize, to: usize) -> usize
-    requires { ⌜ (from ≤ to) × (to ≤ 169) ⌝ }
+    requires { ⌜ from ≤ to ⌝ }
     ensures { λ r. ⌜ (r ≡ suc (length (textIn (now (rec .entry)) from to))) × (r ≤ suc (to - from)) ⌝ }
 {
     field_read::read_text(rec, from, to).len() + 1
 }
 
-// The bytes of the row of record `i`.
-fn row_len(table: &[u8], i: usize) -> usize
-    ensures { λ r. ⌜ (r ≡ length (rowBytesAt (now (table .entry)) i)) × (r ≤ 104) ⌝ }
+// The bytes of row `i`.
+fn row_len(file: &[u8], s: Shelf, i: usize) -> usize
+    requires { ⌜ Fit s ⌝ }
+    ensures { λ r. ⌜ (r ≡ length (rowBytesAt (stockOf s (now (file .entry))) i)) × (r ≤ 104) ⌝ }
 {
-    let rec = file_record::table_record(table, i);
-    let kind = file_record::byte_of(rec, Table::TYPE);
-    if kind == b'1' {
-        let town = text_len(rec, Locality::TOWN, Locality::DEPENDENT);
-        let dependent = text_len(rec, Locality::DEPENDENT, Locality::DOUBLE);
-        let double = text_len(rec, Locality::DOUBLE, Locality::END);
+    let rec = shelf_read::inner::record_of(file, s, i);
+    let kind = shelf_read::inner::ref_at(file, s, i) / 100_000_000;
+    if kind == 1 {
+        let town = text_len(rec, s.locality, s.locality + 30);
+        let dependent = text_len(rec, s.locality + 30, s.locality + 65);
+        let double = text_len(rec, s.locality + 65, s.locality + 100);
         return 1 + town + dependent + double;
     }
-    1 + text_len(rec, Table::TEXT, text_end(kind))
+    1 + text_len(rec, s.text, s.text + text_width(kind))
 }
 
 // 1 where it holds, 0 otherwise.
-fn one_if(holds: bool) -> usize
+pub fn one_if(holds: bool) -> usize
     ensures { λ r. ⌜ (r ≡ cond holds 1 0) × (r ≤ 1) ⌝ }
 {
     if holds { 1 } else { 0 }
 }
 
-// Gives a marked record the start of its row, plus 1; how many bytes the row has, 0 where the record is not marked.
-fn place_row(table: &[u8], i: usize, start: usize, marks: &mut [u32]) -> usize
-    requires { ⌜ (i < length (now marks)) × ((i < 20000) × (start < 4294967295)) ⌝ }
-    ensures { λ r. ⌜ ((r ≡ cond (isMarked (now (marks .entry)) i) (length (rowBytesAt (now (table .entry)) i)) 0)
-        × (r ≤ 104)) × (now (marks .exit) ≡ cond (isMarked (now (marks .entry)) i)
-        (set (now (marks .entry)) i (suc start)) (now (marks .entry))) ⌝ }
+// Gives a marked row its start, plus 1; how many bytes the row has, 0 where it is not marked.
+fn place_row(file: &[u8], s: Shelf, i: usize, start: usize, marks: &mut [u32]) -> usize
+    requires { ⌜ Fit s × ((i < length (now marks)) × (start < 4294967295)) ⌝ }
+    ensures len { λ r. ⌜ (r ≡ sizeAt (stockOf s (now (file .entry))) (now (marks .entry)) i) × (r ≤ 104) ⌝ }
+    ensures start { λ r. ⌜ now (marks .exit) ≡ started (now (marks .entry)) i start ⌝ }
 {
     if marks[i] == 0 {
         return 0;
     }
     marks[i] = (start + 1) as u32;
-    row_len(table, i)
+    row_len(file, s, i)
 }
 
-// Gives each marked record the start of its row, plus 1, were the rows written one after the other.
-pub fn place_rows(table: &[u8], marks: &mut [u32]) -> Sums
-    requires { ⌜ (lastOf (now table) ≤ length (now marks)) × (lastOf (now table) ≤ 20000) ⌝ }
-    ensures { λ r. ⌜ (r .rows ≡ countTo (now (marks .entry)) (lastOf (now (table .entry)) - 1))
-        × ((r .bytes ≡ bytesTo (now (table .entry)) (now (marks .entry)) (lastOf (now (table .entry)) - 1))
-        × Placed (now (table .entry)) (now (marks .entry)) (now (marks .exit))) ⌝ }
+// Gives each marked row its start, plus 1, were the rows written one after the other.
+pub fn place_rows(file: &[u8], s: Shelf, marks: &mut [u32]) -> Sums
+    requires { ⌜ Fit s × ((lastOf s (now file) ≤ length (now marks)) × (lastOf s (now file) ≤ 1_000_000)) ⌝ }
+    ensures rows { λ r. ⌜ r .rows ≡ allCount (stockOf s (now (file .entry))) (now (marks .entry)) ⌝ }
+    ensures bytes { λ r. ⌜ r .bytes ≡ allBytes (stockOf s (now (file .entry))) (now (marks .entry)) ⌝ }
+    ensures placed { λ r. ⌜ Placed (stockOf s (now (file .entry))) (now (marks .entry)) (now (marks .exit)) ⌝ }
 {
-    let last = changes_rows::last_of(table);
+    let last = shelf_read::inner::last_of(file, s);
     let mut rows = 0;
     let mut bytes = 0;
     let mut i = 1;
     while i < last {
-        let len = place_row(table, i, bytes, marks);
+        let len = place_row(file, s, i, bytes, marks);
         rows += one_if(len != 0);
         bytes += len;
         i += 1;
@@ -85,36 +94,15 @@ pub fn place_rows(table: &[u8], marks: &mut [u32]) -> Sums
     Sums { rows, bytes }
 }
 
-// The bytes of the organisation's row of the view at a place, 0 where it has none.
-pub fn organisation_len(points: &[u8], place: usize) -> usize
-    requires { ⌜ place < length (now points) ⌝ }
-    ensures { λ r. ⌜ (r ≡ length (organisationAt (now (points .entry)) place)) × (r ≤ 123) ⌝ }
+// The bytes of an organisation's row: 0 where there is none, otherwise its name 60 and department 60 stand at a place.
+pub fn organisation_len(others: &[u8], p: DeliveryPoint) -> usize
+    requires { ⌜ p .organisation + 120 ≤ length (now others) ⌝ }
+    ensures { λ r. ⌜ (r ≡ length (organisationRow (now (others .entry)) p)) × (r ≤ 123) ⌝ }
 {
-    if file::needed_next(file_record::point_record(points, place)) == 0 {
+    if !p.organised {
         return 0;
     }
-    let next = file_record::point_record(points, place + 1);
-    let name = text_len(next, Organisation::NAME, Organisation::DEPARTMENT);
-    let department = text_len(next, Organisation::DEPARTMENT, Organisation::DEPARTMENT_END);
+    let name = text_len(others, p.organisation, p.organisation + 60);
+    let department = text_len(others, p.organisation + 60, p.organisation + 120);
     1 + name + department
-}
-
-// The organisations of the packed views.
-pub fn organisations_in(points: &[u8], code: &[u8]) -> Sums
-    requires { ⌜ Views.lastOf (now points) ≤ 20000 ⌝ }
-    ensures { λ r. ⌜ (r .rows ≡ organisationCount (now (points .entry))
-        (wantedIn (now (code .entry)) (now (points .entry)))) × (r .bytes
-        ≡ length (organisationsAt (now (points .entry)) (wantedIn (now (code .entry)) (now (points .entry))))) ⌝ }
-{
-    let last = changes_views::last_of(points);
-    let mut rows = 0;
-    let mut bytes = 0;
-    let mut at = changes_views::next_wanted(points, code, 1);
-    while at < last {
-        let len = organisation_len(points, at);
-        rows += one_if(len != 0);
-        bytes += len;
-        at = changes_views::next_wanted(points, code, at + 1);
-    }
-    Sums { rows, bytes }
 }

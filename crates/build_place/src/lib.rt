@@ -1,2 +1,2 @@
-// Where the rows of a pack will stand, and how long the organisations' rows are.
+// Where the rows of a pack will stand, and how long an organisation's row is.
 pub mod inner;

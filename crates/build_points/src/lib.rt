@@ -1,2 +1,2 @@
-// The points of a pack, written into a lent buffer that is known to be long enough.
+// A point of a pack, written into a lent buffer that is known to be long enough.
 pub mod inner;

@@ -1,3 +1,3 @@
-// What the crate that writes the whole pack has to know.
-pub use crate::organisations::organisations_at;
+// What the crates that write whole packs have to know.
+pub use crate::organisations::organisation_at;
 pub use crate::used::rows_at;

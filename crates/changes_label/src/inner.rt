@@ -17,11 +17,15 @@ pub fn label_at<'a>(table: &'a [u8], points: &'a [u8], place: usize, out: &mut [
             reason: Reason::NoSuchNumber,
         };
     }
-    match changes_missing::refusal_in(table, file_record::point_record(points, place)) {
+    let s = changes_source::table_shelf();
+    let p = changes_source::delivery_at(points, place);
+    let keys = p.keys;
+    let found = shelf_find::inner::rows_of(table, s, keys);
+    match source_keys::refusal_in(p, found) {
         Verdict::Fine => label_print::print_label(
             table,
             points,
-            changes_spans::spans_of(table, points, place),
+            source_spans::inner::spans_of(table, s, points, p, found),
             out,
         ),
         Verdict::Bad(reason) => Answer::Refused { file: 0, reason },

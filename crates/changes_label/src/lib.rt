@@ -1,2 +1,60 @@
-// A pair of files: what is answered of it, and the label of one of its views.
+// Labels asked of a pair of files, by view and by code: both files are judged first, then the code, then the view.
 pub mod inner;
+
+use inner::label_at;
+use refusal::Answer;
+use refusal::Reason;
+ghost use mathlib.Core.Path.{_≡_};
+ghost use Rattle.file.specs.Check.{checked};
+ghost use Rattle.file.specs.Formats.{tableFormat, pointFormat};
+ghost use Rattle.changes_list.specs.Listing.{after};
+ghost use Rattle.changes_label.specs.Pair.{viewAnswer, viewMemory, codeAnswer, codeMemory};
+
+// Whether both files are accepted: the number of records of the point file, or the first refusal.
+pub fn check_pair(table: &[u8], points: &[u8]) -> Answer
+    ensures { λ r. ⌜ r ≡ after (checked tableFormat (now (table .entry))) (checked pointFormat (now (points .entry))) ⌝ }
+{
+    match file_check::check_table(table) {
+        Answer::Value(_) => file_check::check_points(points),
+        Answer::Refused { file, reason } => Answer::Refused { file, reason },
+    }
+}
+
+// The label of a view.
+pub fn label_view<'a>(table: &'a [u8], points: &'a [u8], view: usize, out: &mut [u8]) -> Answer
+    ensures { λ r. ⌜ (r ≡ viewAnswer (now (table .entry)) (now (points .entry)) view (now (out .entry)))
+        × (now (out .exit) ≡ viewMemory (now (table .entry)) (now (points .entry)) view (now (out .entry))) ⌝ }
+{
+    match check_pair(table, points) {
+        Answer::Value(_) => {
+            let place = changes_views::wanted_at(points, &points[..0], view);
+            label_at(table, points, place, out)
+        }
+        Answer::Refused { file, reason } => Answer::Refused { file, reason },
+    }
+}
+
+// The label of the k-th live view in a code.
+pub fn label_in_code<'a>(
+    table: &'a [u8],
+    points: &'a [u8],
+    code: &[u8],
+    k: usize,
+    out: &mut [u8],
+) -> Answer
+    ensures { λ r. ⌜ (r ≡ codeAnswer (now (table .entry)) (now (points .entry)) (now (code .entry)) k (now (out .entry))) × (now (out .exit) ≡ codeMemory (now (table .entry)) (now (points .entry)) (now (code .entry)) k (now (out .entry))) ⌝ }
+{
+    match check_pair(table, points) {
+        Answer::Value(_) => {
+            if field_outward::outward_fault(code) != 0 {
+                return Answer::Refused {
+                    file: 0,
+                    reason: Reason::BadCode,
+                };
+            }
+            let place = changes_views::wanted_at(points, code, k);
+            label_at(table, points, place, out)
+        }
+        Answer::Refused { file, reason } => Answer::Refused { file, reason },
+    }
+}

@@ -1,8 +1,2 @@
-pub mod Records
-pub mod Fields
-pub mod Keys
-pub mod Refusals
-pub mod Texts
-pub mod Elements
-pub mod Fits
+pub mod Says
 pub mod Meant

@@ -19,7 +19,7 @@ pub fn labels_of_views<'a>(
     ensures { λ r. ⌜ (r ≡ viewSeries (now (table .entry)) (now (points .entry)) first count (now (out .entry)))
         × (now (out .exit) ≡ viewsMemory (now (table .entry)) (now (points .entry)) first count (now (out .entry))) ⌝ }
 {
-    match changes_asked::check_pair(table, points) {
+    match changes_label::check_pair(table, points) {
         Answer::Value(_) => run_places(table, points, &points[..0], first, count, out),
         Answer::Refused { file, reason } => Series::Unasked { file, reason },
     }
@@ -38,7 +38,7 @@ pub fn labels_in_code<'a>(
         (now (out .entry))) × (now (out .exit) ≡ codesMemory (now (table .entry)) (now (points .entry))
         (now (code .entry)) first count (now (out .entry))) ⌝ }
 {
-    match changes_asked::check_pair(table, points) {
+    match changes_label::check_pair(table, points) {
         Answer::Value(_) => {
             if field_outward::outward_fault(code) != 0 {
                 return Series::Unasked {

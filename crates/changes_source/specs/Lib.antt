@@ -1,3 +1,3 @@
 pub mod Rows
 pub mod Addresses
-pub mod Pair
+pub mod Delivery

@@ -24,8 +24,9 @@ use Rattle.pack.specs.Cutting.{firstBad, cutWith, leftWith, cutAnswer, cutMemor
 use Rattle.pack.specs.Opening.{opened}
 use Rattle.pack.specs.Points.{isPoint, pointAnswer, pointMemory, afterOpened, packAnswer, packMemory}
 use Rattle.changes_list.specs.Listing.{after}
+use Rattle.changes_sound.specs.Live.{liveIn}
 use Rattle.changes_label.specs.Pair.{resolvedAt, placeAnswer, placeMemory, afterMemory, pairAnswer, pairMemory, viewAnswer, viewMemory, codeAnswer, codeMemory}
-use Rattle.build_pack.specs.Build.{liveIn, codeCut, codeCutMemory, buildAnswer, buildMemory}
+use Rattle.changes_build.specs.Build.{codeCut, codeCutMemory, buildAnswer, buildMemory}
 use Rattle.demands.specs.One.{Allows, Call, of-table, of-points, of-views, of-letter, of-live, of-label, of-code-label, of-build, of-pack, of-pack-label, answerOf, memoryOf}
 
 -- "for every input, refusals too, it allows one answer and one content of lent memory"
@@ -117,7 +118,7 @@ refused-writes-nothing (of-label table points view) out file why e =
 refused-writes-nothing (of-code-label table points code k) out file why e =
     pair-kept table points _ _ out (code-kept code _ _ out (place-kept table points _ out)) file why e
 refused-writes-nothing (of-build table points code) out file why e =
-    let views = liveIn table points code in
+    let views = liveIn points code in
     let pack = packOf (tableLookup table) views code in
     pair-kept table points _ _ out (code-kept code _ _ out (cut-kept (firstBad (tableLookup table) views) pack out)) file
     why e

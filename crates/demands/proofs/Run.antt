@@ -5,17 +5,16 @@ use mathlib.Core.Path.{_≡_, refl}
 use lib.ListN.{replicate}
 use Rattle.refusal.specs.declared.Answer.the-variants.{Value}
 use Rattle.changes_source.specs.Addresses.{addressesIn}
-use Rattle.changes_source.specs.Pair.{pairSource}
 use Rattle.label.specs.Label.{roomAnswer, roomMemory}
 use Rattle.pack.specs.Layout.{entriesOf, packBytes, packOf}
 use Rattle.pack.specs.Cutting.{cutAnswer, cutMemory}
 use Rattle.pack.proofs.Worked.{code, worked}
 use Rattle.report_worked.proofs.Worked.{table, respelt, points, run-computes}
-use Rattle.build_pack.specs.Build.{codeCut, codeCutMemory, buildAnswer, buildMemory}
+use Rattle.changes_build.specs.Build.{codeCut, codeCutMemory, buildAnswer, buildMemory}
 
 -- what a pack is computed from
 computes : Unit {0}
-unfolding run-computes addressesIn pairSource roomAnswer roomMemory entriesOf packBytes packOf cutAnswer cutMemory codeCut codeCutMemory buildAnswer buildMemory
+unfolding run-computes addressesIn roomAnswer roomMemory entriesOf packBytes packOf cutAnswer cutMemory codeCut codeCutMemory buildAnswer buildMemory
 computes = tt
 
 pub the-pack : buildMemory table points code (replicate 129 0) ≡ worked

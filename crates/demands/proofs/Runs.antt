@@ -18,7 +18,7 @@ use Rattle.file.proofs.Accepted.{accepts}
 use Rattle.pack.specs.Opening.{opened}
 use Rattle.pack.specs.Points.{afterOpened}
 use Rattle.changes_label.specs.Pair.{afterMemory}
-use Rattle.build_pack.specs.Build.{buildAnswer, buildMemory}
+use Rattle.changes_build.specs.Build.{buildAnswer, buildMemory}
 use Rattle.run.specs.declared.Series.{Series}
 use Rattle.run.specs.declared.Series.the-variants.{Unasked, Stopped, Done}
 use Rattle.run.specs.Series.{Asking, behind, goOn, seriesFrom, memoryFrom, wholly}

@@ -38,14 +38,13 @@ use Rattle.pack_carries.specs.Kth.{kth, labelAnswer, labelMemory, kthAnswer, kt
 use Rattle.pack_carries.proofs.Carried.{pack-opens}
 use Rattle.pack_carries.proofs.Labels.{kth-zero, kth-none, pack-labels, pack-memories}
 use Rattle.pack_carries.proofs.Exactly.{rows-exactly}
-use Rattle.build_sound.specs.Packed.{packed, viewAt}
-use Rattle.build_sound.proofs.Packed.{packed-live, packed-length, packed-at}
-use Rattle.build_sound.proofs.Refused.{resolve-number}
-use Rattle.build_sound.proofs.Sound.{pair-sound}
+use Rattle.changes_sound.specs.Live.{liveIn, viewAt}
+use Rattle.changes_sound.proofs.Live.{live-length, live-at, resolve-number}
+use Rattle.changes_sound.proofs.Sound.{pair-sound}
 use Rattle.changes_label.specs.Pair.{resolvedAt, placeAnswer, placeMemory, pairAnswer, pairMemory, codeAnswer, codeMemory}
 use Rattle.changes_label.proofs.Laws.{Says, pair-says, table-accepted, points-accepted, good-code}
 use Rattle.changes_list.specs.Listing.{after}
-use Rattle.build_pack.specs.Build.{liveIn, codeCut, codeCutMemory, buildAnswer, buildMemory}
+use Rattle.changes_build.specs.Build.{codeCut, codeCutMemory, buildAnswer, buildMemory}
 use Rattle.demands.specs.Three.{Carries, AllPrinted, Buildable}
 
 -- ---- the k-th of the packed views
@@ -66,10 +65,10 @@ module _ (table points code : List ℕ) (clean : outwardFault code ≡ 0) (k : �
   place = wantedAt code points k
 
   record Same : Type 0 where
-    answer : kthAnswer look (packed points code) k out ≡ placeAnswer table points place out
-    memory : kthMemory look (packed points code) k out ≡ placeMemory table points place out
+    answer : kthAnswer look (liveIn points code) k out ≡ placeAnswer table points place out
+    memory : kthMemory look (liveIn points code) k out ≡ placeMemory table points place out
 
-  no-view : kth (packed points code) k ≡ none → place ≡ 0 → Same
+  no-view : kth (liveIn points code) k ≡ none → place ≡ 0 → Same
   unfolding kthAnswer kthMemory placeAnswer placeMemory
   no-view none-there e =
       record {
@@ -82,8 +81,8 @@ module _ (table points code : List ℕ) (clean : outwardFault code ≡ 0) (k : �
   a-view p h =
       let d = viewAt points place in
       let there =
-      kth-at (packed points code) k d p (omega (arith, packed-length points code clean))
-      ∙ ap some (packed-at points code clean k d p h) in
+      kth-at (liveIn points code) k d p (omega (arith, live-length points code clean))
+      ∙ ap some (live-at points code clean k d p h) in
       let same = resolve-number look points _ 0 place in
       let n = wanted-at-wanted code points k p h .0 in
       record {
@@ -103,13 +102,13 @@ module _ (table points code : List ℕ) (clean : outwardFault code ≡ 0) (k : �
       by-count j e false h =
           let more = leb-false k (wantedCount code points) h in
           no-view
-          (ap (kth (packed points code)) e
-          ∙ kth-none (packed points code) j (omega (arith, packed-length points code clean, more)))
+          (ap (kth (liveIn points code)) e
+          ∙ kth-none (liveIn points code) j (omega (arith, live-length points code clean, more)))
           (wanted-at-none code points k more)
 
       by-number : (j : ℕ) → k ≡ j → Same
       by-number zero e =
-          no-view (ap (kth (packed points code)) e ∙ kth-zero (packed points code))
+          no-view (ap (kth (liveIn points code)) e ∙ kth-zero (liveIn points code))
           (ap (wantedAt code points) e ∙ wanted-at-zero code points)
       by-number (suc j) e = by-count j e (leb k (wantedCount code points)) refl
 
@@ -193,7 +192,7 @@ module _ (text out : List ℕ) where
 
 module _ (table points code out : List ℕ) where
   abbrev views : List Address
-  views = liveIn table points code
+  views = liveIn points code
 
   abbrev pack : List ℕ
   pack = packOf (tableLookup table) views code
@@ -270,14 +269,10 @@ module _ (table points code out : List ℕ) where
       b : Buildable table points code out
       b = c .buildable
 
-      live : views ≡ packed points code
-      live = packed-live table points code
-
       sound : Sound (tableLookup table) views code
       sound =
-          subst (λ (v : List Address). Sound (tableLookup table) v code) (sym live)
-          (pair-sound table points code (b .of-table) (b .of-points) (b .of-code)
-          (ap (firstBad (tableLookup table)) (sym live) ∙ all-fine (tableLookup table) views (b .printed)))
+          pair-sound table points code (b .of-table) (b .of-points) (b .of-code)
+          (all-fine (tableLookup table) views (b .printed))
 
       taken : after (checked tableFormat table) (checked pointFormat points) ≡ Value (records pointFormat points)
       taken = simp (accepts tableFormat table (b .of-table), accepts pointFormat points (b .of-points))
@@ -292,16 +287,14 @@ module _ (table points code out : List ℕ) where
           record {
             opens =
                 pack-opens (tableLookup table) views code sound
-                ∙ ap Value (ap length live ∙ packed-length points code (b .of-code));
+                ∙ ap Value (live-length points code (b .of-code));
             answers =
                 λ k o.
                 pack-labels (tableLookup table) views code sound k o
-                ∙ (ap (λ v. kthAnswer (tableLookup table) v k o) live
-                ∙ (kth-is-place table points code (b .of-code) k o .answer ∙ sym (files-say k o .answer-is)));
+                ∙ (kth-is-place table points code (b .of-code) k o .answer ∙ sym (files-say k o .answer-is));
             memories =
                 λ k o.
                 pack-memories (tableLookup table) views code sound k o
-                ∙ (ap (λ v. kthMemory (tableLookup table) v k o) live
-                ∙ (kth-is-place table points code (b .of-code) k o .memory ∙ sym (files-say k o .memory-is)));
+                ∙ (kth-is-place table points code (b .of-code) k o .memory ∙ sym (files-say k o .memory-is));
             rows = rows-exactly (tableLookup table) views code sound;
           }

@@ -21,27 +21,22 @@ use Rattle.file.proofs.Accepted.{Accepted, accepts}
 use Rattle.changes_views.specs.Views.{lastOf, wantedIn, wantedAt}
 use Rattle.source.specs.Address.{Lookup, Address, Asked, keysOf}
 use Rattle.source.specs.Resolve.{Resolved}
-use Rattle.source.proofs.Same.{Agree, resolve-same}
+use Rattle.source.specs.Same.{Agree}
+use Rattle.source.proofs.Same.{resolve-same}
 use Rattle.changes_source.specs.Rows.{tableLookup}
 use Rattle.changes_source.specs.Addresses.{addressOf, addressAt}
-use Rattle.changes_meaning.proofs.Keys.{no-zero-row}
 use Rattle.label.specs.Label.{resolvedAnswer, resolvedMemory}
 use Rattle.pack.specs.Layout.{packOf}
 use Rattle.pack.specs.Cutting.{badOf, firstBad, cutWith, leftWith, cutAnswer, cutMemory}
 use Rattle.pack_carries.proofs.Same.{AllFit, AllAgree, pack-same}
-use Rattle.build_sound.specs.Packed.{packed, viewAt, viewsAt, WantedPlaces}
-use Rattle.build_sound.proofs.Packed.{packed-live, packed-views, all-wanted}
-use Rattle.build_sound.proofs.Addresses.{eight}
+use Rattle.changes_sound.specs.Live.{liveIn, viewAt, viewsAt, WantedPlaces}
+use Rattle.changes_sound.proofs.Live.{live-views, all-wanted}
+use Rattle.changes_sound.proofs.Addresses.{eight}
 use Rattle.changes_list.specs.Listing.{after}
 use Rattle.changes_label.specs.Pair.{resolvedAt, placeAnswer, placeMemory, afterMemory, viewAnswer, viewMemory, codeAnswer, codeMemory}
 use Rattle.changes_label.proofs.Laws.{wanted-place, viewed}
-use Rattle.build_pack.specs.Build.{liveIn, codeCut, codeCutMemory, buildAnswer, buildMemory}
-use Rattle.demands.specs.Unused.{SameFor, SameRows, Unmoved}
-
--- no accepted table file has a row for the key zero
-zero-none : (table : List ℕ) → Accepted tableFormat table → (kind : ℕ) → tableLookup table kind 0 ≡ none
-unfolding tableLookup
-zero-none table t kind = rw (no-zero-row table t kind)
+use Rattle.changes_build.specs.Build.{codeCut, codeCutMemory, buildAnswer, buildMemory}
+use Rattle.demands.specs.Unused.{SameRows, Unmoved}
 
 -- views are cut alike where the look-ups agree on their keys
 module _ (look other : Lookup) where
@@ -75,22 +70,11 @@ module _ (one other points : List ℕ) (t : Accepted tableFormat one) (u : Accep
   abbrev look′ : Lookup
   look′ = tableLookup other
 
-  agree : (keys : List Asked) → SameFor look look′ keys → Agree look look′ keys
-  agree [] h = tt
-  agree (a ∷ more) h = (by-test (eqb (a .key) 0) refl, agree more (h .1))
-    where
-      by-test : (z : Bool) → eqb (a .key) 0 ≡ z → look (a .kind) (a .key) ≡ look′ (a .kind) (a .key)
-      by-test true e =
-          let zero = eqb-true (a .key) 0 e in
-          ap (look (a .kind)) zero
-          ∙ (zero-none one t (a .kind) ∙ sym (ap (look′ (a .kind)) zero ∙ zero-none other u (a .kind)))
-      by-test false e = h .0 (ap not e)
-
   -- of the view at a place, whatever its number
   agree-at : (place n : ℕ) → 1 ≤ place → place < lastOf points → getD (recordAt 168 points place) 41 0 ≡ 49
       → Agree look look′ (keysOf (addressAt points n place))
   unfolding addressOf
-  agree-at place n low high view = agree (keysOf (addressAt points 0 place)) (same .each place low high view)
+  agree-at place n low high view = same .each place low high view
 
   agree-all : (code places : List ℕ) → WantedPlaces code points places → AllAgree look look′ (viewsAt points places)
   agree-all code [] w = tt
@@ -130,20 +114,20 @@ module _ (one other points : List ℕ) (t : Accepted tableFormat one) (u : Accep
   -- whatever is made of the first refusal and the pack of a code
   packs-same : {A : Type 0} (no-code : A) (made : Verdict → List ℕ → A) (code : List ℕ)
       → cond (eqb (outwardFault code) 0)
-      (made (firstBad look (liveIn one points code)) (packOf look (liveIn one points code) code))
+      (made (firstBad look (liveIn points code)) (packOf look (liveIn points code) code))
       no-code
       ≡ cond (eqb (outwardFault code) 0)
-      (made (firstBad look′ (liveIn other points code)) (packOf look′ (liveIn other points code) code))
+      (made (firstBad look′ (liveIn points code)) (packOf look′ (liveIn points code) code))
       no-code
   packs-same {A} no-code made code = by-test (eqb (outwardFault code) 0) refl
     where
       by-test : (z : Bool) → eqb (outwardFault code) 0 ≡ z
-          → cond z (made (firstBad look (liveIn one points code)) (packOf look (liveIn one points code) code)) no-code
+          → cond z (made (firstBad look (liveIn points code)) (packOf look (liveIn points code) code)) no-code
           ≡ cond z
-          (made (firstBad look′ (liveIn other points code)) (packOf look′ (liveIn other points code) code))
+          (made (firstBad look′ (liveIn points code)) (packOf look′ (liveIn points code) code))
           no-code
       by-test true e =
-          rw (packed-live one points code, packed-live other points code, packed-views points code (eqb-true (outwardFault code) 0 e))
+          rw (live-views points code (eqb-true (outwardFault code) 0 e))
           (cut-same look look′ made (viewsAt points (wantedIn code points)) code (fits-at points (wantedIn code points))
           (agree-all code (wantedIn code points) (all-wanted code points)))
       by-test false e = refl

@@ -11,7 +11,7 @@ use Rattle.pack.specs.Opening.{opened}
 use Rattle.pack.specs.Points.{packAnswer, packMemory}
 use Rattle.changes_list.specs.Listing.{viewsAnswer, letterAnswer, liveAnswer}
 use Rattle.changes_label.specs.Pair.{viewAnswer, viewMemory, codeAnswer, codeMemory}
-use Rattle.build_pack.specs.Build.{buildAnswer, buildMemory}
+use Rattle.changes_build.specs.Build.{buildAnswer, buildMemory}
 
 -- a contract gives the packed number of one answer, and one content of the buffer
 pub record Allows (answer : Answer) (memory : List ℕ) (r : ℕ) (exit : List ℕ) : Type 0 where

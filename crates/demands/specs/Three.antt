@@ -16,8 +16,8 @@ use Rattle.pack.specs.Layout.{usedBy, packOf}
 use Rattle.pack.specs.Opening.{opened}
 use Rattle.pack.specs.Points.{packAnswer, packMemory}
 use Rattle.pack_carries.specs.Rows.{rowsIn, tableRows, organisationRows}
+use Rattle.changes_sound.specs.Live.{liveIn}
 use Rattle.changes_label.specs.Pair.{codeAnswer, codeMemory}
-use Rattle.build_pack.specs.Build.{liveIn}
 
 -- "it opens, and for every number k and every buffer length answers label k as the files do for the k-th live view of its
 -- code: same answer, same bytes written, same bytes untouched. It holds each table row that its views refer to once, and
@@ -28,7 +28,7 @@ pub record Carries (table points code pack : List ℕ) : Type 0 where
   pub memories : (k : ℕ) (out : List ℕ) → packMemory pack k out ≡ codeMemory table points code k out
   pub rows :
       rowsIn pack
-      ≡ tableRows (tableLookup table) (usedBy (liveIn table points code)) ++ organisationRows (liveIn table points code)
+      ≡ tableRows (tableLookup table) (usedBy (liveIn points code)) ++ organisationRows (liveIn points code)
 
 -- no view has "a missing key or a forbidden combination"
 abbrev pub AllPrinted : Lookup → List Address → Type 0
@@ -40,5 +40,5 @@ pub record Buildable (table points code out : List ℕ) : Type 0 where
   pub of-table : Accepted tableFormat table
   pub of-points : Accepted pointFormat points
   pub of-code : outwardFault code ≡ 0
-  pub printed : AllPrinted (tableLookup table) (liveIn table points code)
-  pub room : length (packOf (tableLookup table) (liveIn table points code) code) ≤ length out
+  pub printed : AllPrinted (tableLookup table) (liveIn points code)
+  pub room : length (packOf (tableLookup table) (liveIn points code) code) ≤ length out

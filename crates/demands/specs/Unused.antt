@@ -2,28 +2,22 @@
 -- Assumes nothing.
 use Prim.Native.Nat.{ℕ, _≤_, _<_}
 use mathlib.Core.Path.{_≡_}
-use mathlib.Core.Bool.{true}
-use mathlib.Core.List.{List, [], _∷_}
+use mathlib.Core.List.{List}
 use lib.ListN.{getD}
 use Rattle.file_record.specs.Parts.{recordAt}
 use Rattle.changes_views.specs.Views.{lastOf}
-use Rattle.source.specs.Address.{Lookup, present, Asked, keysOf}
+use Rattle.source.specs.Address.{keysOf}
+use Rattle.source.specs.Same.{Agree}
 use Rattle.changes_source.specs.Rows.{tableLookup}
 use Rattle.changes_source.specs.Addresses.{addressAt}
 use Rattle.changes_label.specs.Pair.{viewAnswer, viewMemory, codeAnswer, codeMemory}
-use Rattle.build_pack.specs.Build.{buildAnswer, buildMemory}
-
--- of these keys, each that is not zero has the same row in force in both, or none in either
-abbrev pub SameFor : Lookup → Lookup → List Asked → Type 0
-SameFor look other [] = Unit {0}
-SameFor look other (a ∷ more) =
-    (present (a .key) ≡ true → look (a .kind) (a .key) ≡ other (a .kind) (a .key)) × SameFor look other more
+use Rattle.changes_build.specs.Build.{buildAnswer, buildMemory}
 
 -- "two accepted table files which, for every key that any view refers to, have the same row or both none", a row being the
 -- row in force; a view is a type 1 record between header and trailer
 pub record SameRows (one other points : List ℕ) : Type 0 where
   pub each : (place : ℕ) → 1 ≤ place → place < lastOf points → getD (recordAt 168 points place) 41 0 ≡ 49
-      → SameFor (tableLookup one) (tableLookup other) (keysOf (addressAt points 0 place))
+      → Agree (tableLookup one) (tableLookup other) (keysOf (addressAt points 0 place))
 
 -- "Every label or its refusal, and every pack or refusal to build, must be the same under both": the answers, and the whole
 -- lent buffer

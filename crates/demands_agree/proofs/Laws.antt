@@ -14,7 +14,7 @@ use Rattle.file_compare.specs.Order.{order}
 use Rattle.file_compare.proofs.Order.{order-same}
 use Rattle.pack.specs.Points.{packAnswer, packMemory}
 use Rattle.changes_label.specs.Pair.{codeAnswer, codeMemory}
-use Rattle.build_pack.specs.Build.{buildAnswer, buildMemory}
+use Rattle.changes_build.specs.Build.{buildAnswer, buildMemory}
 use Rattle.demands.specs.Three.{Carries}
 use Rattle.demands.proofs.Three.{carries}
 use Rattle.demands_agree.specs.Agree.{compared, agreement, askedMemory}

@@ -9,7 +9,7 @@ use Rattle.refusal.specs.Packed.{packed}
 use Rattle.refusal.specs.declared.Answer.{Answer}
 use Rattle.refusal.specs.declared.Answer.the-variants.{Value, Refused}
 use Rattle.changes_label.specs.Pair.{afterMemory, codeAnswer, codeMemory}
-use Rattle.build_pack.specs.Build.{buildAnswer}
+use Rattle.changes_build.specs.Build.{buildAnswer}
 
 -- two answers, and what two buffers hold then: 1 the same, 2 not
 abbrev pub compared : Answer → Answer → List ℕ → List ℕ → ℕ

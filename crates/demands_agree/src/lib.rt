@@ -4,7 +4,7 @@ ghost use mathlib.Core.Path.{_≡_};
 ghost use mathlib.Core.Bool.{cond};
 ghost use Rattle.pack.specs.Points.{packAnswer, packMemory};
 ghost use Rattle.changes_label.specs.Pair.{codeAnswer, codeMemory};
-ghost use Rattle.build_pack.specs.Build.{buildMemory};
+ghost use Rattle.changes_build.specs.Build.{buildMemory};
 ghost use Rattle.demands_agree.specs.Agree.{compared, agreement, askedMemory};
 
 // 1 where both agree, 2 where not.
@@ -31,7 +31,7 @@ fn compare<'a>(
         ((now (ours .exit) ≡ codeMemory (now (table .entry)) (now (points .entry)) (now (code .entry)) k
         (now (ours .entry))) × (now (theirs .exit) ≡ packMemory (now (pack .entry)) k (now (theirs .entry)))) ⌝ }
 {
-    let files_say = refusal::packed_answer(changes_asked::label_in_code(
+    let files_say = refusal::packed_answer(changes_label::label_in_code(
         table,
         points,
         code,
@@ -62,7 +62,7 @@ pub fn ask_both<'a>(
         ≡ askedMemory (now (table .entry)) (now (points .entry)) (now (code .entry)) (now (pack .entry)) k
         (now (theirs .entry))))) ⌝ }
 {
-    match build_pack::build_pack(table, points, code, pack) {
+    match changes_build::build_pack(table, points, code, pack) {
         Answer::Value(n) => compare(table, points, code, k, &pack[..n], ours, theirs),
         Answer::Refused { file: _, reason: _ } => 0,
     }

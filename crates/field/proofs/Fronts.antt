@@ -5,14 +5,14 @@ use mathlib.Core.Path.{_≡_, refl, sym, ap}
 use mathlib.Core.Bool.{Bool, true, false}
 use mathlib.Core.List.{List, [], _∷_}
 use native.Mathlib.Omega.{arith}
-use native.Mathlib.Nat.{lt-of-lt-of-le, pow-le-pow-right}
+use native.Mathlib.Nat.{lt-of-lt-of-le, pow-le-pow-right, min-le-left}
 use lib.Dec.{eqb, lit<}
-use lib.ListN.{length, take, drop}
+use lib.ListN.{length, take, drop, length-take}
 use lib.Seq.{take-take}
-use Rattle.field.specs.Digits.{value}
+use Rattle.field.specs.Digits.{valueFrom, value}
 use Rattle.field.specs.Text.{keep, trim, part, textIn}
 use Rattle.field.proofs.Texts.{part-bound}
-use Rattle.field.proofs.Values.{value-whole, value-bound}
+use Rattle.field.proofs.Values.{power-small, value-whole, value-bound}
 
 -- a text is the front of its field
 keep-bound : (t : Bool) (x : ℕ) (s : List ℕ) (n : ℕ) → length s ≤ n → length (keep t x s) ≤ suc n
@@ -36,6 +36,13 @@ keep-front false x s xs e = ap (x ∷_) e
 trim-front : (s : List ℕ) → take (length (trim s)) s ≡ trim s
 trim-front [] = refl
 trim-front (x ∷ xs) = keep-front (eqb x 32) x (trim xs) xs (trim-front xs)
+
+-- a numeric field says a number of nine digits, whatever its bytes are
+pub value-small : (s : List ℕ) → value s < 1_000_000_000
+unfolding value
+value-small s =
+    power-small (valueFrom 0 (take 9 s)) (length (take 9 s)) (value-bound (take 9 s))
+    (rw length-take (min-le-left 9 (length s)))
 
 -- w bytes say less than 10 to the w
 pub digits-below : (w : ℕ) (s : List ℕ) → w ≤ 9 → length s ≤ w → value s < 10 ^ w

@@ -8,5 +8,6 @@ pub mod Split
 pub mod Examples
 pub mod Room
 pub mod Going
+pub mod Stand
 pub mod Walk
 pub mod Pieces

@@ -12,7 +12,8 @@ use Rattle.refusal.specs.declared.Reason.the-variants.{BadPack, NoSuchNumber}
 use Rattle.refusal.specs.declared.Answer.the-variants.{Value, Refused}
 use Rattle.source.specs.Address.{Address}
 use Rattle.source.proofs.Worked.{bay, quarry, lane, range, attic, tables, view, printed}
-use Rattle.pack.specs.Numbers.{numberAt, absent}
+use Rattle.pack.specs.Numbers.{numberAt}
+use Rattle.pack.specs.Names.{absent}
 use Rattle.pack.specs.Layout.{entriesOf, packBytes, packOf}
 use Rattle.pack.specs.Opening.{trailerGood, textGood, rowGood, offsetGood, allRowsGood, plainGood, allowedMix, organisationGood, partsGood, allPointsGood, opened}
 use Rattle.pack.specs.Points.{elementsFrom, elementsAt}

@@ -8,8 +8,7 @@ use mathlib.Core.Option.{Option, none, some}
 use lib.Dec.{eqb, ltb}
 use lib.ListN.{length}
 use Rattle.source.specs.Address.{Lookup, Organisation, none-needed, named, lacking, Address, present, Asked, keysOf, ref, kindOf, keyOf}
-use Rattle.pack.specs.Names.{absent, pointWidth, trailerWidth}
-pub use Rattle.pack.specs.Names.{newest}
+use Rattle.pack.specs.Names.{newest, absent, pointWidth, trailerWidth}
 use Rattle.pack.specs.Numbers.{bytesOf}
 
 -- a row of a pack

@@ -3,7 +3,6 @@
 use Prim.Native.Nat.{ℕ, zero, suc, _+_, _*_, _/_, _%_, _^_}
 use mathlib.Core.List.{List, [], _∷_}
 use Rattle.field.specs.Text.{part}
-pub use Rattle.pack.specs.Names.{absent}
 
 -- a number in so many bytes
 abbrev pub bytesOf : ℕ → ℕ → List ℕ

@@ -13,7 +13,8 @@ use Rattle.source.specs.Address.{Lookup, Organisation, none-needed, named, lack
 use Rattle.pack.specs.Layout.{Entry, entry, usedBy, textsOr, tableEntries, organisationEntry, organisationEntries, entriesOf}
 use Rattle.pack.specs.Sound.{RowSound, OrganisationSound, KeysFit, AddressesSound, Sound}
 use Rattle.pack_carries.specs.Used.{refersIn, refers, Rises, RowFound}
-use Rattle.pack_carries.proofs.Used.{used-exactly, used-rises, used-each, used-found, Each, ref-kind, ref-key}
+use Rattle.pack_carries.proofs.Used.{used-exactly, used-rises, used-each, used-found, Each}
+use Rattle.source.proofs.Refs.{ref-kind, ref-key}
 use Rattle.pack_carries.proofs.Rows.{EntrySound, EntriesSound, and-both, or-true}
 use Rattle.pack_carries.proofs.Found.{textsFor}
 

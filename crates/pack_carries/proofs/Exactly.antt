@@ -11,7 +11,7 @@ use Rattle.pack.specs.Opening.{Slot, slotsOf, textEnd, rowEnd}
 use Rattle.pack.specs.Sound.{AddressesSound, Sound}
 use Rattle.pack_carries.specs.Rows.{rowRead, textsAt, rowsFrom, rowsIn, rowsOf, tableRows, organisationRow, organisationRows}
 use Rattle.pack_carries.proofs.Stands.{Stands, stands-all}
-use Rattle.pack_carries.proofs.Used.{ref-kind}
+use Rattle.source.proofs.Refs.{ref-kind}
 use Rattle.pack_carries.proofs.Rows.{EntriesSound, text-at, text-behind, row-kind, row-long, texts-stand, first-stands, others-stand}
 use Rattle.pack_carries.proofs.Carried.{pack-rows}
 

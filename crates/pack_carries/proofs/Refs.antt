@@ -16,7 +16,7 @@ use Rattle.pack.specs.Layout.{Entry, entry, entriesBytes, offsetOf, organisatio
 use Rattle.pack.specs.Opening.{rowCount, rowArea, slotsOf, rowKind, rowText, offsetGood, offsetOfPoint, given}
 use Rattle.pack.specs.Points.{offsetText}
 use Rattle.pack_carries.proofs.Stands.{stands-all}
-use Rattle.pack_carries.proofs.Used.{ref-kind}
+use Rattle.source.proofs.Refs.{ref-kind}
 use Rattle.pack_carries.proofs.Rows.{EntriesSound, and-both, row-kind, row-long, row-text}
 use Rattle.pack_carries.proofs.Found.{textsFor, offset-within, FoundAt, found-at}
 use Rattle.pack_carries.proofs.Entries.{KeyFound, OrganisationFound, RowsFound}

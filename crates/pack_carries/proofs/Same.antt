@@ -8,13 +8,15 @@ use native.Mathlib.Omega.{arith}
 use borrow.Author.Tests.{eq-eqb, eqb-true}
 use lib.Dec.{eqb}
 use Rattle.field.specs.Test.{elem}
-use Rattle.field.proofs.Tests.{and-right}
+use Rattle.field.proofs.Tests.{and-left, and-right}
 use Rattle.source.specs.Address.{Lookup, Address, present, Asked, keysOf, ref, kindOf, keyOf}
-use Rattle.source.proofs.Same.{Agree}
-use Rattle.pack.specs.Layout.{usedBy, textsOr, entry, tableEntries, organisationEntries, entriesOf, newest, packBytes, packOf}
+use Rattle.source.specs.Same.{Agree}
+use Rattle.pack.specs.Layout.{usedBy, textsOr, entry, tableEntries, organisationEntries, entriesOf, packBytes, packOf}
+use Rattle.pack.specs.Names.{newest}
 use Rattle.pack.specs.Sound.{KeysFit, AddressesSound}
 use Rattle.pack_carries.specs.Used.{refersIn, refers}
-use Rattle.pack_carries.proofs.Used.{used-exactly, ref-kind, ref-key}
+use Rattle.pack_carries.proofs.Used.{used-exactly}
+use Rattle.source.proofs.Refs.{ref-kind, ref-key}
 use Rattle.pack_carries.proofs.Rows.{or-true}
 
 -- each key of each address has eight digits
@@ -64,7 +66,7 @@ module _ (look other : Lookup) where
           let is = eqb-true r (ref (a .kind) (a .key)) (and-right (present (a .key)) (eqb r (ref (a .kind) (a .key))) q) in
           let k = ap kindOf is ∙ ref-kind (a .kind) (a .key) (fit .0) in
           let n = ap keyOf is ∙ ref-key (a .kind) (a .key) (fit .0) in
-          ap₂ look k n ∙ (h .0 ∙ sym (ap₂ other k n))
+          ap₂ look k n ∙ (h .0 (and-left (present (a .key)) _ q) ∙ sym (ap₂ other k n))
       by-test false q e later = later e
 
   alike-all : (addresses : List Address) → AllFit addresses → AllAgree look other addresses → (r : ℕ)

@@ -10,6 +10,7 @@ use borrow.Author.Tests.{eqb-true, eqb-false, ltb-true, ltb-false}
 use lib.Dec.{eqb, ltb}
 use Rattle.field.specs.Test.{elem}
 use Rattle.source.specs.Address.{Lookup, Address, present, Asked, keysOf, ref, kindOf, keyOf}
+use Rattle.source.proofs.Refs.{ref-kind, ref-key}
 use Rattle.source.specs.Resolve.{lacks, missingFrom, lacksOrganisation, missing}
 use Rattle.pack.specs.Layout.{insert, insertKeys, usedBy}
 use Rattle.pack.specs.Sound.{RowSound, RowsSound, KeysFit, AddressesSound, Sound}
@@ -114,13 +115,6 @@ module _ (P : ℕ → Type 0) where
       by-test : (t : Bool) → eqb r x ≡ t → (elem r xs ≡ true → P r) → t || elem r xs ≡ true → P r
       by-test true q later e = subst P (sym (eqb-true r x q)) (g .0)
       by-test false q later e = later e
-
--- a number says its kind and its key
-pub ref-kind : (kind key : ℕ) → key ≤ 99_999_999 → kindOf (ref kind key) ≡ kind
-ref-kind kind key h = omega arith
-
-pub ref-key : (kind key : ℕ) → key ≤ 99_999_999 → keyOf (ref kind key) ≡ key
-ref-key kind key h = omega arith
 
 -- the keys of tables
 abbrev KindsFit : List Asked → Type 0

@@ -1,6 +1,6 @@
 -- Document 01's run, computed: two files, byte by byte, and their report.
 -- Assumes nothing.
-use Prim.Native.Nat.{ℕ, _+_}
+use Prim.Native.Nat.{ℕ, zero, suc, _+_, _/_, _%_, _^_}
 use mathlib.Core.Path.{_≡_, refl}
 use mathlib.Core.List.{List, [], _∷_, _++_}
 use lib.ListN.{take, replicate, set}
@@ -16,15 +16,19 @@ use Rattle.file_fault.specs.Table.{doubleFault, tableFault}
 use Rattle.file.specs.Check.{judged, verdict, checked}
 use Rattle.file.specs.Formats.{changes, needed, follows, placed}
 use Rattle.changes_views.specs.Views.{wanted, wantedIn, wantedCount, wantedAt}
-use Rattle.changes_rows.specs.Rows.{lastRow, inForce, rowOf}
-use Rattle.changes_rows.specs.Search.{lastFound, found}
+use Rattle.shelf.specs.Shelf.{refAt, textsAt, lastRow, inForce, rowOf}
+use Rattle.shelf.specs.Stock.{lookIn}
 use Rattle.source.proofs.Worked.{bay, quarry, lane, range, attic}
 use Rattle.source.specs.Resolve.{forbidden, missing, elementsOf, resolve}
 use Rattle.changes_source.specs.Addresses.{addressOf}
-use Rattle.changes_source.specs.Rows.{digitsOf, tableLookup}
 use Rattle.label.specs.Label.{labelOf}
 use Rattle.label.specs.Lines.{numberText, linesOf}
 use Rattle.report.specs.Report.{decimal, byteText, refusedLine, viewText, block, pairText, pointsText, reportOf}
+
+-- a number as so many digits
+abbrev digitsOf : ℕ → ℕ → List ℕ
+digitsOf zero n = []
+digitsOf (suc w) n = (48 + n / 10 ^ w % 10) ∷ digitsOf w n
 
 -- a field of n bytes, padded with spaces
 abbrev field : ℕ → List ℕ → List ℕ
@@ -120,7 +124,7 @@ refused-line = 114 ∷ 101 ∷ 102 ∷ 117 ∷ 115 ∷ 101 ∷ 100 ∷ 32 ∷ 57
 
 -- what a run is computed from: to unfold this is to unfold all that its line names
 unfoldable pub run-computes : Unit {0}
-unfolding digitsFault digitValue value textFault filledFault textIn numericLike identifier headerOk trailerOk recordAt inwardLetter inwardFault suffixFault class allowed outwardFault oneOf keyFault pointFault doubleFault tableFault judged verdict checked needed follows placed wanted wantedIn wantedCount wantedAt lastRow inForce rowOf lastFound found forbidden missing elementsOf resolve addressOf tableLookup labelOf numberText linesOf decimal byteText refusedLine viewText block pairText pointsText reportOf
+unfolding digitsFault digitValue value textFault filledFault textIn numericLike identifier headerOk trailerOk recordAt inwardLetter inwardFault suffixFault class allowed outwardFault oneOf keyFault pointFault doubleFault tableFault judged verdict checked needed follows placed wanted wantedIn wantedCount wantedAt refAt textsAt lastRow inForce rowOf lookIn forbidden missing elementsOf resolve addressOf labelOf numberText linesOf decimal byteText refusedLine viewText block pairText pointsText reportOf
 run-computes = tt
 
 pub one-run : reportOf table points

@@ -17,9 +17,7 @@ use Rattle.source.specs.Resolve.{Resolved, elements, refused, forbidden, missin
 use Rattle.changes_source.specs.Rows.{tableLookup}
 use Rattle.changes_source.specs.Addresses.{addressAt}
 use Rattle.label.specs.Label.{labelOf, roomAnswer, roomMemory, resolvedAnswer, resolvedMemory}
-use Rattle.label.specs.Widths.{Fits}
 use Rattle.label.proofs.Bounds.{at-most-499}
-use Rattle.changes_meaning.proofs.Fits as meaning
 use Rattle.changes_meaning.proofs.Meant.{address-fits}
 use Rattle.changes_label.specs.Pair.{resolvedAt, placeAnswer, placeMemory, ViewPlace}
 use Rattle.report.specs.Report.{refusedLine, resolvedText, viewText}
@@ -62,33 +60,12 @@ resolved-is : (look : Lookup) (a : Address) (e : Elements) → resolve look a �
 unfolding resolve
 resolved-is look a e h = resolved-by (elementsOf look a) e _ _ (eqb (forbidden a) 0) (eqb (missing look a) 0) h
 
--- no text is longer than its field
-narrow : {e : Elements} → meaning.Fits e → Fits e
-narrow f =
-    record {
-      organisation = f .organisation;
-      department = f .department;
-      box = f .box;
-      sub-building = f .sub-building;
-      building = f .building;
-      dependent = f .dependent;
-      dependent-descriptor = f .dependent-descriptor;
-      thoroughfare = f .thoroughfare;
-      descriptor = f .descriptor;
-      double-locality = f .double-locality;
-      dependent-locality = f .dependent-locality;
-      town = f .town;
-      outward = f .outward;
-      inward = f .inward;
-    }
-
 module _ (table points : List ℕ) (place : ℕ) (v : ViewPlace table points place) where
   -- the label of a view has at most 499 bytes
   pub label-fits : (place ≡ 0 → ⊥) → length (labelOf (elementsOf (tableLookup table) (addressAt points 0 place))) ≤ 499
   label-fits some =
       at-most-499 (elementsOf (tableLookup table) (addressAt points 0 place))
-      (narrow
-      (address-fits table points (v .of-table) (v .of-points) place (v .low some) (v .high some) (v .a-view some) 0))
+      (address-fits table points (v .of-table) place (v .high some) 0)
 
   module _ (out : List ℕ) (n : 499 ≤ length out) where
     some-told : (place ≡ 0 → ⊥)

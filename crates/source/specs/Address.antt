@@ -6,12 +6,8 @@ use mathlib.Core.List.{List, [], _∷_}
 use mathlib.Core.Option.{Option}
 use lib.Dec.{eqb}
 
--- a row of a table: its kind (1 locality, 2 thoroughfare, 3 descriptor, 4 building name, 5 sub building name), its key,
--- and its texts without padding (of a locality: town, dependent, double dependent; of another kind one)
-pub record Row : Type 0 where
-  pub kind : ℕ
-  pub key : ℕ
-  pub texts : List (List ℕ)
+-- A row of a table has a kind (1 locality, 2 thoroughfare, 3 descriptor, 4 building name, 5 sub building name), a key, and
+-- texts without padding (of a locality: town, dependent, double dependent; of another kind one).
 
 -- from a kind and a key to the texts of the row that they find, or nothing
 abbrev pub Lookup : Type 0
@@ -59,17 +55,29 @@ abbrev pub asked : ℕ → ℕ → Asked
 asked k n = record { kind = k; key = n }
 
 -- "in offset order": locality, thoroughfare, descriptor, dependent thoroughfare, its descriptor, building name, sub
--- building
-abbrev pub keysOf : Address → List Asked
-keysOf a =
-    asked 1 (a .locality)
-    ∷ asked 2 (a .thoroughfare)
-    ∷ asked 3 (a .descriptor)
-    ∷ asked 2 (a .dependent)
-    ∷ asked 3 (a .dependent-descriptor)
-    ∷ asked 4 (a .building)
-    ∷ asked 5 (a .sub-building)
+-- building; the kinds of the rows that the seven keys refer to, and the keys
+abbrev pub keyKinds : List ℕ
+keyKinds = 1 ∷ 2 ∷ 3 ∷ 2 ∷ 3 ∷ 4 ∷ 5 ∷ []
+
+abbrev pub keyNumbers : Address → List ℕ
+keyNumbers a =
+    a .locality
+    ∷ a .thoroughfare
+    ∷ a .descriptor
+    ∷ a .dependent
+    ∷ a .dependent-descriptor
+    ∷ a .building
+    ∷ a .sub-building
     ∷ []
+
+-- keys of these kinds, as they are asked for
+abbrev pub askedBy : List ℕ → List ℕ → List Asked
+askedBy [] ns = []
+askedBy (k ∷ ks) [] = []
+askedBy (k ∷ ks) (n ∷ ns) = asked k n ∷ askedBy ks ns
+
+abbrev pub keysOf : Address → List Asked
+keysOf a = askedBy keyKinds (keyNumbers a)
 
 -- what a row stands for, as one number: its type, and its key in the last eight digits; so a rising order is "by type then
 -- key". A row of type 6 stands for its view.
@@ -81,11 +89,6 @@ kindOf r = r / 100_000_000
 
 abbrev pub keyOf : ℕ → ℕ
 keyOf r = r % 100_000_000
-
--- rows in order of kind and then key, and the addresses that count as live, in order
-pub record Source : Type 0 where
-  pub rows : List Row
-  pub live : List Address
 
 -- what a label is printed from; an empty text is absent, and so is the number 0
 pub record Elements : Type 0 where

@@ -1,2 +1,4 @@
 pub mod Address
 pub mod Resolve
+pub mod Delivery
+pub mod Same

@@ -1,6 +1,6 @@
 // The calls that a C program makes. Each answers one number, which packs the answer of the crate below; see the header,
 // include/ttwibonal.h.
-use changes_asked::label_in_code;
+use changes_label::label_in_code;
 use changes_runs::labels_in_code;
 ghost use mathlib.Core.Path.{_≡_};
 ghost use Rattle.refusal.specs.Packed.{packed};
@@ -9,7 +9,7 @@ ghost use Rattle.file.specs.Formats.{tableFormat, pointFormat};
 ghost use Rattle.changes_label.specs.Pair.{viewAnswer, viewMemory, codeAnswer, codeMemory};
 ghost use Rattle.pack.specs.Opening.{opened};
 ghost use Rattle.pack.specs.Points.{packAnswer, packMemory};
-ghost use Rattle.build_pack.specs.Build.{buildAnswer, buildMemory};
+ghost use Rattle.changes_build.specs.Build.{buildAnswer, buildMemory};
 ghost use Rattle.changes_list.specs.Listing.{viewsAnswer, letterAnswer, liveAnswer};
 ghost use Rattle.run.specs.Packed.{packedSeries, seriesBytes};
 ghost use Rattle.changes_runs.specs.Runs.{viewSeries, viewsMemory, codeSeries, codesMemory};
@@ -61,7 +61,7 @@ pub extern "C" fn ttw_label<'a>(table: &'a [u8], points: &'a [u8], view: u64, ou
     ensures { λ r. ⌜ (r ≡ packed (viewAnswer (now (table .entry)) (now (points .entry)) view (now (out .entry))))
         × (now (out .exit) ≡ viewMemory (now (table .entry)) (now (points .entry)) view (now (out .entry))) ⌝ }
 {
-    refusal::packed_answer(changes_asked::label_view(table, points, view as usize, out)) as u64
+    refusal::packed_answer(changes_label::label_view(table, points, view as usize, out)) as u64
 }
 
 // The label of the k-th live view in a code, printed into `out`.
@@ -87,7 +87,7 @@ pub extern "C" fn ttw_build(table: &[u8], points: &[u8], code: &[u8], out: &mut 
         (now (out .entry)))) × (now (out .exit) ≡ buildMemory (now (table .entry)) (now (points .entry))
         (now (code .entry)) (now (out .entry))) ⌝ }
 {
-    refusal::packed_answer(build_pack::build_pack(table, points, code, out)) as u64
+    refusal::packed_answer(changes_build::build_pack(table, points, code, out)) as u64
 }
 
 // How many points a pack has.

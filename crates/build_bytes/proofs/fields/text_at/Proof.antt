@@ -4,7 +4,7 @@ use mathlib.Core.Path.{ap}
 use native.Mathlib.Omega.{arith}
 use Rattle.label.proofs.Puts.{put-as}
 use Rattle.field.proofs.Fronts.{text-in-bound}
-use Rattle.build_bytes.specs.Emit.{sized}
+use Rattle.build.specs.Bytes.{sized}
 use Rattle.build_bytes.proofs.fields.text_at.Statement.{statement}
 use Rattle.build_bytes.proofs.fields.text_at.Tie as tie
 

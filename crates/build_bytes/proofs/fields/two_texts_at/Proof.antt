@@ -4,7 +4,7 @@ use mathlib.Core.List.{[], _∷_}
 use Rattle.field.specs.Text.{textIn}
 use Rattle.label.proofs.Puts.{room-first, room-after, room-as, put-then, put-as}
 use Rattle.pack.specs.Layout.{textsBytes}
-use Rattle.build_bytes.specs.Emit.{sized}
+use Rattle.build.specs.Bytes.{sized}
 use Rattle.build_bytes.proofs.Texts.{texts-last}
 use Rattle.build_bytes.proofs.fields.two_texts_at.Statement.{statement}
 use Rattle.build_bytes.proofs.fields.two_texts_at.Tie as tie

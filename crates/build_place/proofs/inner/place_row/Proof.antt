@@ -1,9 +1,8 @@
 -- `build_place::inner::place_row` meets its contract. Assumes nothing.
 use borrow.Author.Needs.{needs}
-use mathlib.Core.Path.{_≡_, refl, sym, ap, _∙_}
 use native.Mathlib.Numerals.{add-one}
-use borrow.Author.Tests.{eq-eqb, ne-eqb}
 use native.Mathlib.Omega.{arith}
+use borrow.Author.Tests.{eq-eqb, ne-eqb}
 use Rattle.build_place.proofs.inner.place_row.Statement.{statement}
 use Rattle.build_place.proofs.inner.place_row.Tie as tie
 

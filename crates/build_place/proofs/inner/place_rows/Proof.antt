@@ -1,52 +1,46 @@
--- `build_place::inner::place_rows` meets its contract. Assumes nothing.
+-- `build_place::inner::place_rows` meets its contract. The invariant: before row i the marked rows have their starts, from it
+-- on the marks are as they were; rows and bytes are those of the rows before it. Assumes nothing.
 use borrow.Author.Needs.{needs}
-use mathlib.Core.Path.{_≡_, refl, sym, ap, _∙_}
-use Prim.Native.Nat.{ℕ, suc, _+_, _*_, _-_, _≤_, _<_}
+use Prim.Native.Nat.{ℕ, suc, _*_, _-_, _≤_, _<_}
+use mathlib.Core.Path.{_≡_, refl, ap, _∙_}
 use mathlib.Core.Bool.{cond, not}
 use native.Mathlib.Nat.{le-refl}
-use lib.Dec.{eqb}
-use lib.ListN.{length, getD, set}
-use Rattle.changes_rows.specs.Rows.{lastOf}
-use Rattle.build_plan.specs.Rows.{rowBytesAt, isMarked, bytesTo, countTo}
-use Rattle.build_plan.specs.Placed.{startOf}
-use Rattle.build_plan.proofs.Laws.{count-on, bytes-more, placed-on, kept-on, long-on}
 use native.Mathlib.Omega.{arith}
+use lib.Dec.{eqb}
+use lib.ListN.{length}
+use Rattle.shelf.specs.Shelf.{lastOf}
+use Rattle.shelf.specs.Stock.{stockOf}
+use Rattle.build.specs.Rows.{rowBytesAt, bytesTo, countTo}
+use Rattle.build.specs.Placed.{started}
+use Rattle.build.proofs.Laws.{count-on, bytes-more, Placing, placing-start, placing-on}
 use Rattle.build_place.proofs.inner.place_rows.Statement.{statement}
 use Rattle.build_place.proofs.inner.place_rows.Tie as tie
 
 abbrev Inv-loop : tie.InvT-loop
-Inv-loop table marks₀ last rows₀ bytes₀ i₀ marks rows bytes i =
-    (length marks ≡ length marks₀)
-    × (1 ≤ i)
+Inv-loop file s marks₀ last rows₀ bytes₀ i₀ marks rows bytes i =
+    Placing (stockOf s file) marks₀ i marks
     × (i ≤ suc (last - 1))
     × (rows ≡ countTo marks₀ (i - 1))
-    × (bytes ≡ bytesTo table marks₀ (i - 1))
+    × (bytes ≡ bytesTo (stockOf s file) marks₀ (i - 1))
     × (rows ≤ i)
     × (bytes ≤ 104 * i)
-    × ((j : ℕ) → 1 ≤ j → j < i → getD marks j 0 ≡ startOf table marks₀ j)
-    × ((j : ℕ) → i ≤ j → getD marks j 0 ≡ getD marks₀ j 0)
 
 abbrev μ-loop : tie.MeasureT-loop
-μ-loop table marks₀ last rows₀ bytes₀ i₀ marks rows bytes i = last - i
+μ-loop file s marks₀ last rows₀ bytes₀ i₀ marks rows bytes i = last - i
 
 last-of-requires : tie.Need-last-of-requires Inv-loop μ-loop
 last-of-requires c κs = search needs
 
 loop-holds : tie.Need-loop-holds Inv-loop μ-loop
-loop-holds c = (
-  refl,
-  omega arith,
-  omega arith,
-  refl,
-  refl,
-  omega arith,
-  omega arith,
-  λ j p q. absurd (omega arith),
-  λ j p. refl,
-)
+loop-holds c = (placing-start _ _, omega arith, refl, refl, omega arith, omega arith)
 
 place-row-requires : tie.Need-place-row-requires Inv-loop μ-loop
-place-row-requires c κs = search needs
+place-row-requires c κs =
+    let l = c .before .before in
+    let inv = l .loop .inv in
+    let last = l .before .last-of .ensures in
+    let pre = l .before .before .before .before .pre in
+    (pre .0, (omega (arith, inv .0 .as-long, last, pre .1 .0), omega (arith, inv .5, last, pre .1 .1)))
 
 one-if-requires : tie.Need-one-if-requires Inv-loop μ-loop
 one-if-requires c κs = search needs
@@ -65,31 +59,26 @@ loop-less c = search needs
 
 loop-again : tie.Need-loop-again Inv-loop μ-loop
 loop-again c =
-    let k = c .before .before .before in
-    let l = k .before .before .before in
-    let f = l .before in
-    let a = f .before .before .before .args in
-    let table = a .table .now in
-    let marks = a .marks .now in
+    let placed = c .before .before .before .place-row in
+    let l = c .before .before .before .before .before .before in
+    let last = l .before .last-of .ensures in
+    let start = l .before .before .before .before in
+    let a = start .args in
+    let st = stockOf (a .s) (a .file .now) in
     let i = l .loop .i in
     let inv = l .loop .inv in
-    let same = inv .8 i (le-refl i) in
-    let size = k .place-row .ensures .0 .0 ∙ ap (λ (v : ℕ). cond (not (eqb v 0)) (length (rowBytesAt table i)) 0) same in
+    let p = inv .0 .some in
+    let size =
+    placed .ensures .0 .0
+    ∙ ap (λ (v : ℕ). cond (not (eqb v 0)) (length (rowBytesAt st i)) 0) (inv .0 .behind i (le-refl i)) in
     let one = c .one-if .ensures .0 ∙ ap (λ (v : ℕ). cond (not (eqb v 0)) 1 0) size in
-    let next = k .place-row .last .1 .1 .1 .0 in
-    let is : next ≡ cond (isMarked (l .loop .marks) i) (set (l .loop .marks) i (suc (bytesTo table marks (i - 1)))) (l .loop .marks) =
-    k .place-row .ensures .1
-    ∙ ap (λ (b : ℕ). cond (isMarked (l .loop .marks) i) (set (l .loop .marks) i (suc b)) (l .loop .marks)) (inv .4) in
-    let long : i < length (l .loop .marks) = omega (arith, inv .0, f .last-of .ensures) in (
-      long-on table marks i (inv .1) (l .loop .marks) next long (inv .7) (inv .8) is ∙ inv .0,
-      omega arith,
-      omega arith,
-      omega (arith, inv .3, one, count-on table marks i (inv .1)),
-      omega (arith, inv .4, size, bytes-more table marks i (inv .1)),
-      omega (arith, inv .5, c .one-if .ensures .1),
-      omega (arith, inv .6, k .place-row .ensures .0 .1),
-      placed-on table marks i (inv .1) (l .loop .marks) next long (inv .7) (inv .8) is,
-      kept-on table marks i (inv .1) (l .loop .marks) next long (inv .7) (inv .8) is,
+    let is = placed .ensures .1 ∙ ap (started (l .loop .marks) i) (inv .3) in (
+      placing-on (inv .0) (omega (arith, inv .0 .as-long, last, start .pre .1 .0)) is,
+      omega (arith, last),
+      omega (arith, inv .2, one, count-on st (a .marks .now) i p),
+      omega (arith, inv .3, size, bytes-more st (a .marks .now) i p),
+      omega (arith, inv .4, c .one-if .ensures .1),
+      omega (arith, inv .5, placed .ensures .0 .1),
     )
 
 same-length : tie.Need-same-length Inv-loop μ-loop
@@ -98,13 +87,14 @@ same-length c = search needs
 returns : tie.Need-returns Inv-loop μ-loop
 returns c =
     let l = c .before in
-    let f = l .before in
-    let a = f .before .before .before .args in
-    let end : l .loop .i - 1 ≡ lastOf (a .table .now) - 1 = omega (arith, f .last-of .ensures) in (
-      l .loop .inv .3 ∙ ap (countTo (a .marks .now)) end,
+    let last = l .before .last-of .ensures in
+    let a = l .before .before .before .before .args in
+    let inv = l .loop .inv in
+    let end : l .loop .i - 1 ≡ lastOf (a .s) (a .file .now) - 1 = omega (arith, last, inv .0 .some) in (
+      inv .2 ∙ ap (countTo (a .marks .now)) end,
       (
-        l .loop .inv .4 ∙ ap (bytesTo (a .table .now) (a .marks .now)) end,
-        record { same-long = l .loop .inv .0; each = λ j p q. l .loop .inv .7 j p (omega (arith, f .last-of .ensures)) },
+        inv .3 ∙ ap (bytesTo (stockOf (a .s) (a .file .now)) (a .marks .now)) end,
+        record { same-long = inv .0 .as-long; each = λ j p q. inv .0 .before j p (omega (arith, last)) },
       ),
     )
 

@@ -1,28 +1,43 @@
 -- `build_place::inner::row_len` meets its contract. Assumes nothing.
 use borrow.Author.Needs.{needs}
-use mathlib.Core.Path.{_≡_, refl, sym, ap, _∙_}
-use lib.ListN.{length, getD}
-use Rattle.build_plan.proofs.Laws.{row-of-three, row-of-one}
-use Prim.Native.Nat.{ℕ, suc}
+use Prim.Native.Nat.{ℕ, suc, _+_}
+use mathlib.Core.Path.{_≡_, sym, ap, _∙_}
 use mathlib.Core.List.{List}
-use Rattle.field.specs.Text.{textIn}
-use Rattle.file_record.specs.Parts.{recordAt}
-use Rattle.build_plan.specs.Rows.{textEnd}
 use native.Mathlib.Omega.{arith}
+use lib.ListN.{length}
+use Rattle.field.specs.Text.{textIn}
+use Rattle.source.specs.Address.{kindOf}
+use Rattle.shelf.specs.Shelf.{textWidth, recordOf}
+use Rattle.build.proofs.Laws.{row-of-three, row-of-one}
 use Rattle.build_place.proofs.inner.row_len.Statement.{statement}
 use Rattle.build_place.proofs.inner.row_len.Tie as tie
 
-table-record-requires : tie.Need-table-record-requires
-table-record-requires c κs = search needs
+record-of-requires : tie.Need-record-of-requires
+record-of-requires c κs = search needs
 
-byte-of-requires : tie.Need-byte-of-requires
-byte-of-requires c κs = search needs
+ref-at-requires : tie.Need-ref-at-requires
+ref-at-requires c κs = search needs
+
+add-text-len : tie.Need-add-text-len
+add-text-len c = search needs
 
 text-len-requires : tie.Need-text-len-requires
 text-len-requires c κs = search needs
 
+add-text-len-2 : tie.Need-add-text-len-2
+add-text-len-2 c = search needs
+
+add-text-len-3 : tie.Need-add-text-len-3
+add-text-len-3 c = search needs
+
 text-len-requires-2 : tie.Need-text-len-requires-2
 text-len-requires-2 c κs = search needs
+
+add-text-len-4 : tie.Need-add-text-len-4
+add-text-len-4 c = search needs
+
+add-text-len-5 : tie.Need-add-text-len-5
+add-text-len-5 c = search needs
 
 text-len-requires-3 : tie.Need-text-len-requires-3
 text-len-requires-3 c κs = search needs
@@ -38,18 +53,38 @@ add-result-3 c = search needs
 
 returns : tie.Need-returns
 returns c =
-    let k = c .before .before .before .before in
-    let r = k .before in
-    let a = r .before .before .args in
-    let type = sym (ap (λ rec. getD rec 0 0) (r .table-record .ensures)) ∙ (sym (k .byte-of .ensures) ∙ c .before .before .before .if1 .taken) in
-    let whole = row-of-three (a .table .now) (a .i) type in
-    let t₁ = c .before .before .text-len .ensures .0 ∙ ap (λ (rec : List ℕ). suc (length (textIn rec 69 99))) (r .table-record .ensures) in
-    let t₂ = c .before .text-len2 .ensures .0 ∙ ap (λ (rec : List ℕ). suc (length (textIn rec 99 134))) (r .table-record .ensures) in
-    let t₃ = c .text-len3 .ensures .0 ∙ ap (λ (rec : List ℕ). suc (length (textIn rec 134 169))) (r .table-record .ensures) in
-    (omega (arith, whole, t₁, t₂, t₃), omega (arith, c .text-len3 .ensures, c .before .text-len2 .ensures, c .before .before .text-len .ensures))
+    let t₂ = c .before .before .before in
+    let t₁ = t₂ .before .before .before in
+    let at-if = t₁ .before .before in
+    let ref = at-if .before .ref-at .ensures in
+    let rec = at-if .before .before .record-of in
+    let a = at-if .before .before .before .before .args in
+    let kind = sym (ap kindOf (ref .0)) ∙ at-if .if1 .taken in
+    let own = recordOf (a .s) (a .file .now) (a .i) in
+    let size : (from to : ℕ) → length (textIn (rec .result .now) from to) ≡ length (textIn own from to) =
+    λ from to. ap (λ (r : List ℕ). length (textIn r from to)) (rec .ensures) in
+    let l = a .s .locality in
+    let town = t₁ .text-len .ensures in
+    let dependent = t₂ .text-len2 .ensures in
+    let double = c .text-len3 .ensures in (
+      omega (
+        arith,
+        row-of-three (a .s) (a .file .now) (a .i) kind,
+        town .0,
+        size l (l + 30),
+        dependent .0,
+        size (l + 30) (l + 65),
+        double .0,
+        size (l + 65) (l + 100),
+      ),
+      omega (arith, town .1, dependent .1, double .1),
+    )
 
-text-end-requires : tie.Need-text-end-requires
-text-end-requires c κs = search needs
+text-width-requires : tie.Need-text-width-requires
+text-width-requires c κs = search needs
+
+add-text-len-6 : tie.Need-add-text-len-6
+add-text-len-6 c = search needs
 
 text-len-requires-4 : tie.Need-text-len-requires-4
 text-len-requires-4 c κs = search needs
@@ -59,32 +94,40 @@ add-result-4 c = search needs
 
 returns-2 : tie.Need-returns-2
 returns-2 c =
-    let e = c .before .text-end in
-    let k = c .before .before .before in
-    let r = k .before in
-    let a = r .before .before .args in
-    let type = k .byte-of .ensures ∙ ap (λ (rec : List ℕ). getD rec 0 0) (r .table-record .ensures) in
-    let whole = row-of-one (a .table .now) (a .i) (λ z. c .before .before .if1 .left (type ∙ z)) in
-    let end = e .ensures .0 ∙ ap textEnd type in
-    let t = c .text-len4 .ensures .0
-    ∙ (ap (λ (rec : List ℕ). suc (length (textIn rec 24 (e .result)))) (r .table-record .ensures)
-    ∙ ap (λ (n : ℕ). suc (length (textIn (recordAt 169 (a .table .now) (a .i)) 24 n))) end) in
-    (omega (arith, whole, t), omega (arith, c .text-len4 .ensures .1, e .ensures .1))
+    let width = c .before .before .text-width in
+    let at-if = c .before .before .before in
+    let ref = at-if .before .ref-at .ensures in
+    let rec = at-if .before .before .record-of in
+    let a = at-if .before .before .before .before .args in
+    let kind = ap kindOf (ref .0) in
+    let whole = row-of-one (a .s) (a .file .now) (a .i) (λ z. at-if .if1 .left (kind ∙ z)) in
+    let size =
+    ap (λ (r : List ℕ). suc (length (textIn r (a .s .text) (a .s .text + width .result)))) (rec .ensures) in
+    let wide =
+    ap (λ (n : ℕ). suc (length (textIn (recordOf (a .s) (a .file .now) (a .i)) (a .s .text) (a .s .text + n))))
+    (width .ensures .0 ∙ ap textWidth kind) in
+    (omega (arith, whole, c .text-len4 .ensures .0, size, wide), omega (arith, c .text-len4 .ensures .1, width .ensures .1))
 
 pub row-len-spec : {M : Type 1} → statement M
 row-len-spec =
     tie.close
     (tie.spec
-    table-record-requires
-    byte-of-requires
+    record-of-requires
+    ref-at-requires
+    add-text-len
     text-len-requires
+    add-text-len-2
+    add-text-len-3
     text-len-requires-2
+    add-text-len-4
+    add-text-len-5
     text-len-requires-3
     add-result
     add-result-2
     add-result-3
     returns
-    text-end-requires
+    text-width-requires
+    add-text-len-6
     text-len-requires-4
     add-result-4
     returns-2)

@@ -1,9 +1,9 @@
 -- `build_place::inner::text_len` meets its contract. Assumes nothing.
 use borrow.Author.Needs.{needs}
-use mathlib.Core.Path.{_≡_, refl, sym, ap, _∙_}
+use mathlib.Core.Path.{ap}
 use lib.ListN.{length}
-use Rattle.field.proofs.Fronts.{text-in-bound}
 use native.Mathlib.Omega.{arith}
+use Rattle.field.proofs.Fronts.{text-in-bound}
 use Rattle.build_place.proofs.inner.text_len.Statement.{statement}
 use Rattle.build_place.proofs.inner.text_len.Tie as tie
 

@@ -1,44 +1,109 @@
--- `build_points::inner::keys_at` meets its contract. Assumes nothing.
+-- `build_points::inner::keys_at` meets its contract. The invariant: the offsets of the keys before `i` stand,
+-- those from it on are left. Assumes nothing.
 use borrow.Author.Needs.{needs}
+use Prim.Native.Nat.{_+_, _-_, _≤_}
+use mathlib.Core.Path.{_≡_, refl, ap, _∙_}
 use native.Mathlib.Omega.{arith}
-use Rattle.label.proofs.Puts.{put-then}
+use lib.ListN.{length, drop, getD}
+use Rattle.pack.specs.Numbers.{bytesOf}
+use Rattle.label.proofs.Puts.{put-as}
+use Rattle.label.proofs.Going.{Going, going-start, going-as, going-room, going-step, going-end}
+use Rattle.build.specs.Bytes.{keyOffset, keyOffsets}
+use Rattle.build_points.proofs.Point.{offsets-step, offsets-end}
 use Rattle.build_points.proofs.inner.keys_at.Statement.{statement}
 use Rattle.build_points.proofs.inner.keys_at.Tie as tie
 
-cast-key-at : tie.Need-cast-key-at
-cast-key-at c = search needs
+abbrev Inv-loop : tie.InvT-loop
+Inv-loop starts at out₀ keys rows end₀ i₀ out end i =
+    (i ≤ 7)
+    × (length out ≡ length out₀)
+    × Going (keyOffsets starts keys rows) (keyOffsets starts (drop i keys) (drop i rows)) out₀ at end out
 
-key-at-requires : tie.Need-key-at-requires
-key-at-requires c κs = search needs
+abbrev μ-loop : tie.MeasureT-loop
+μ-loop starts at out₀ keys rows end₀ i₀ out end i = 7 - i
 
-cast-key-at-2 : tie.Need-cast-key-at-2
-cast-key-at-2 c = search needs
+loop-holds : tie.Need-loop-holds Inv-loop μ-loop
+loop-holds c =
+    let a = c .before .before .args in
+    (omega arith, refl, going-start (keyOffsets (a .starts .now) (a .t2) (a .t3)) (a .out .now) (a .at))
 
-key-at-requires-2 : tie.Need-key-at-requires-2
-key-at-requires-2 c κs = search needs
+mul-key-offset : tie.Need-mul-key-offset Inv-loop μ-loop
+mul-key-offset c = search needs
 
-later-at-requires : tie.Need-later-at-requires
-later-at-requires c κs = search needs
+array-read-key-offset : tie.Need-array-read-key-offset Inv-loop μ-loop
+array-read-key-offset c = search needs
 
-same-length : tie.Need-same-length
+mul-key-offset-2 : tie.Need-mul-key-offset-2 Inv-loop μ-loop
+mul-key-offset-2 c = search needs
+
+array-read-key-offset-2 : tie.Need-array-read-key-offset-2 Inv-loop μ-loop
+array-read-key-offset-2 c = search needs
+
+key-offset-requires : tie.Need-key-offset-requires Inv-loop μ-loop
+key-offset-requires c κs = search needs
+
+word-at-requires : tie.Need-word-at-requires Inv-loop μ-loop
+word-at-requires c κs =
+    let l = c .before .before .before in
+    let s = l .before .before .before in
+    let a = s .args in
+    let i = l .loop .i in
+    let k : length (a .t2) ≡ 7 = s .good .1 .0 .1 .0 .1 in
+    let r : length (a .t3) ≡ 7 = s .good .1 .1 .0 .1 .0 .1 in
+    let step = offsets-step (a .starts .now) (a .t2) (a .t3) i (omega arith) (omega arith) in
+    going-room (bytesOf 4 (keyOffset (a .starts .now) (getD (a .t2) i 0) (getD (a .t3) i 0)))
+    (keyOffsets (a .starts .now) (drop (i + 1) (a .t2)) (drop (i + 1) (a .t3))) (going-as step (l .loop .inv .2)) (s .pre)
+
+add-i : tie.Need-add-i Inv-loop μ-loop
+add-i c = search needs
+
+loop-less : tie.Need-loop-less Inv-loop μ-loop
+loop-less c = search needs
+
+loop-again : tie.Need-loop-again Inv-loop μ-loop
+loop-again c =
+    let word = c .before .before in
+    let offset = word .before .before .key-offset in
+    let l = word .before .before .before .before in
+    let s = l .before .before .before in
+    let a = s .args in
+    let i = l .loop .i in
+    let k : length (a .t2) ≡ 7 = s .good .1 .0 .1 .0 .1 in
+    let r : length (a .t3) ≡ 7 = s .good .1 .1 .0 .1 .0 .1 in
+    let step = offsets-step (a .starts .now) (a .t2) (a .t3) i (omega arith) (omega arith) in (
+      omega arith,
+      word .word-at .kept .1 .1 .0 ∙ l .loop .inv .1,
+      going-step (keyOffsets (a .starts .now) (drop (i + 1) (a .t2)) (drop (i + 1) (a .t3)))
+          (going-as step (l .loop .inv .2)) (put-as (ap (bytesOf 4) (offset .ensures)) (word .word-at .ensures)) (s .pre),
+    )
+
+same-length : tie.Need-same-length Inv-loop μ-loop
 same-length c = search needs
 
-returns : tie.Need-returns
+returns : tie.Need-returns Inv-loop μ-loop
 returns c =
-    let c₃ = c .before .before in
-    let c₂ = c₃ .before .before .before .before in
-    let c₁ = c₂ .before .before .before .before in
-    let h = c₁ .before .before .before .before .before .before .before .pre .0 in
-    put-then (put-then (c₁ .key-at .ensures) (c₂ .key-at2 .ensures) (omega (arith, h))) (c₃ .later-at .ensures) h
+    let l = c .before in
+    let s = l .before .before .before in
+    let a = s .args in
+    let k : length (a .t2) ≡ 7 = s .good .1 .0 .1 .0 .1 in
+    let end : l .loop .i ≡ length (a .t2) = omega arith in
+    going-end (going-as (offsets-end (a .starts .now) (a .t2) (a .t3) (l .loop .i) end) (l .loop .inv .2))
 
 pub keys-at-spec : {M : Type 1} → statement M
 keys-at-spec =
     tie.close
     (tie.spec
-    cast-key-at
-    key-at-requires
-    cast-key-at-2
-    key-at-requires-2
-    later-at-requires
+    Inv-loop
+    μ-loop
+    loop-holds
+    mul-key-offset
+    array-read-key-offset
+    mul-key-offset-2
+    array-read-key-offset-2
+    key-offset-requires
+    word-at-requires
+    add-i
+    loop-less
+    loop-again
     same-length
     returns)

@@ -1,48 +1,54 @@
 -- `build_points::inner::plain_at` meets its contract. Assumes nothing.
 use borrow.Author.Needs.{needs}
-use mathlib.Core.List.{_++_}
+use mathlib.Core.Path.{ap}
+use mathlib.Core.List.{List, [], _∷_}
+use Prim.Native.Nat.{ℕ, _+_}
 use Rattle.field.specs.Text.{part}
-use Rattle.label.proofs.Puts.{room-first}
-use Rattle.build_bytes.specs.Emit.{numbersIn}
-use Rattle.label.proofs.Going.{room-second, room-third, put-three}
+use Rattle.label.proofs.Puts.{put-as}
+use Rattle.label.proofs.Going.{put-three}
+use Rattle.pack.specs.Layout.{markOf}
 use Rattle.build_points.proofs.inner.plain_at.Statement.{statement}
 use Rattle.build_points.proofs.inner.plain_at.Tie as tie
 
-part-at-requires : tie.Need-part-at-requires
-part-at-requires c κs =
-    let s = c .before .before .before in
-    let rec = s .args .rec .now in
-    room-first (part rec 14 21) (part rec 23 24 ++ numbersIn rec) (s .args .out .now) (s .args .at) (s .pre)
-
-part-at-requires-2 : tie.Need-part-at-requires-2
-part-at-requires-2 c κs =
-    let c₁ = c .before .before .before in
-    let s = c₁ .before .before .before .before in
-    let rec = s .args .rec .now in
-    room-second (part rec 23 24) (numbersIn rec) (s .pre) (c₁ .part-at .ensures)
-
 numbers-at-requires : tie.Need-numbers-at-requires
-numbers-at-requires c κs =
-    let c₂ = c .before .before .before in
-    let c₁ = c₂ .before .before .before .before in
-    let s = c₁ .before .before .before .before in
-    let rec = s .args .rec .now in
-    room-third (part rec 23 24) (numbersIn rec) (s .pre) (c₁ .part-at .ensures) (c₂ .part-at2 .ensures)
+numbers-at-requires c κs = search needs
+
+mark-of-requires : tie.Need-mark-of-requires
+mark-of-requires c κs = search needs
+
+byte-at-requires : tie.Need-byte-at-requires
+byte-at-requires c κs = search needs
+
+add-part-at : tie.Need-add-part-at
+add-part-at c = search needs
+
+part-at-requires : tie.Need-part-at-requires
+part-at-requires c κs = search needs
 
 same-length : tie.Need-same-length
 same-length c = search needs
 
 returns : tie.Need-returns
 returns c =
-    let c₃ = c .before .before in
-    let c₂ = c₃ .before .before .before .before in
-    let c₁ = c₂ .before .before .before .before in
-    let s = c₁ .before .before .before .before in
-    let rec = s .args .rec .now in
-    put-three (part rec 23 24) (numbersIn rec) (s .pre) (c₁ .part-at .ensures) (c₂ .part-at2 .ensures)
-    (c₃ .numbers-at .ensures)
+    let box = c .before .before in
+    let mark = box .before .before .before .before .before in
+    let said = mark .before .before in
+    let numbers = said .before .before .before in
+    let s = numbers .before .before .before .before in
+    let a = s .args in
+    let p = a .p in
+    put-three (markOf (p .concatenation) ∷ []) (part (a .own .now) (p .«po_box») (p .«po_box» + 6)) (s .pre .1)
+    (numbers .numbers-at .ensures) (put-as (ap (λ (b : ℕ). b ∷ []) (said .mark-of .ensures)) (mark .byte-at .ensures))
+    (box .part-at .ensures)
 
 pub plain-at-spec : {M : Type 1} → statement M
 plain-at-spec =
     tie.close
-    (tie.spec part-at-requires part-at-requires-2 numbers-at-requires same-length returns)
+    (tie.spec
+    numbers-at-requires
+    mark-of-requires
+    byte-at-requires
+    add-part-at
+    part-at-requires
+    same-length
+    returns)

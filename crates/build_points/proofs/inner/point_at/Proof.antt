@@ -2,67 +2,90 @@
 use borrow.Author.Needs.{needs}
 use mathlib.Core.Path.{ap}
 use mathlib.Core.List.{_++_}
-use Rattle.label.proofs.Puts.{room-first, put-as}
+use Rattle.label.proofs.Puts.{put-as}
+use Rattle.label.proofs.Going.{going-room, going-left, going-last}
 use Rattle.pack.specs.Numbers.{bytesOf}
-use Rattle.build_bytes.specs.Emit.{keyOffsets, organisationOffset, plainIn}
-use Rattle.label.proofs.Going.{room-second, room-third, put-three}
+use Rattle.build.specs.Bytes.{keyOffsets, plainIn}
+use Rattle.build_points.proofs.Point.{postcodeOf, lastOffset, offsetsOf, point-start, after-postcode, after-plain, after-keys}
 use Rattle.build_points.proofs.inner.point_at.Statement.{statement}
 use Rattle.build_points.proofs.inner.point_at.Tie as tie
 
+add-part-at : tie.Need-add-part-at
+add-part-at c = search needs
+
+part-at-requires : tie.Need-part-at-requires
+part-at-requires c κs =
+    let s = c .before .before .before .before .before in
+    let a = s .args in
+    let own = a .own .now in
+    let starts = a .starts .now in
+    let rows = a .found .rows in
+    let g = point-start own starts (a .p) rows (a .row) {out = a .out .now} {at = a .at} (s .pre .1) in
+    going-room (postcodeOf own starts (a .p) rows (a .row))
+    (plainIn own (a .p) ++ offsetsOf own starts (a .p) rows (a .row)) g (s .pre .1)
+
 plain-at-requires : tie.Need-plain-at-requires
 plain-at-requires c κs =
-    let s = c .before .before .before .before .before .before in
+    let postcode = c .before .before .before in
+    let s = postcode .before .before .before .before .before .before in
     let a = s .args in
-    let rec = a .rec .now in
-    let keys = keyOffsets (a .table .now) (a .starts .now) rec in
-    let offset = organisationOffset rec (a .row) in
-    room-first (plainIn rec) (keys ++ bytesOf 4 offset) (a .out .now) (a .at) (s .pre .0)
+    let own = a .own .now in
+    let starts = a .starts .now in
+    let rows = a .found .rows in
+    let g = after-postcode own starts (a .p) rows (a .row) (s .pre .1) (postcode .part-at .ensures) in
+    (s .pre .0, going-room (plainIn own (a .p)) (offsetsOf own starts (a .p) rows (a .row)) g (s .pre .1))
 
 keys-at-requires : tie.Need-keys-at-requires
 keys-at-requires c κs =
-    let c₁ = c .before .before .before in
-    let s = c₁ .before .before .before .before .before .before .before in
+    let plain = c .before .before .before .before .before in
+    let postcode = plain .before .before .before .before in
+    let s = postcode .before .before .before .before .before .before in
     let a = s .args in
-    let rec = a .rec .now in
-    let keys = keyOffsets (a .table .now) (a .starts .now) rec in
-    let offset = organisationOffset rec (a .row) in
-    (room-second keys (bytesOf 4 offset) (s .pre .0) (c₁ .plain-at .ensures), s .pre .1)
+    let own = a .own .now in
+    let starts = a .starts .now in
+    let rows = a .found .rows in
+    let g =
+    after-plain own starts (a .p) rows (a .row) (s .pre .1) (postcode .part-at .ensures) (plain .plain-at .ensures) in
+    going-room (keyOffsets starts (a .p .keys) rows) (lastOffset own starts (a .p) rows (a .row)) g (s .pre .1)
 
 organisation-offset-requires : tie.Need-organisation-offset-requires
 organisation-offset-requires c κs = search needs
 
 word-at-requires : tie.Need-word-at-requires
 word-at-requires c κs =
-    let c₂ = c .before .before .before .before in
-    let c₁ = c₂ .before .before .before .before in
-    let s = c₁ .before .before .before .before .before .before .before in
+    let keys = c .before .before .before .before in
+    let plain = keys .before .before .before .before .before .before in
+    let postcode = plain .before .before .before .before in
+    let s = postcode .before .before .before .before .before .before in
     let a = s .args in
-    let rec = a .rec .now in
-    let keys = keyOffsets (a .table .now) (a .starts .now) rec in
-    let offset = organisationOffset rec (a .row) in
-    room-third keys (bytesOf 4 offset) (s .pre .0) (c₁ .plain-at .ensures) (c₂ .keys-at .ensures)
+    let g =
+    after-keys (a .own .now) (a .starts .now) (a .p) (a .found .rows) (a .row) (s .pre .1) (postcode .part-at .ensures)
+    (plain .plain-at .ensures) (keys .keys-at .ensures) in
+    going-left g (s .pre .1)
 
 same-length : tie.Need-same-length
 same-length c = search needs
 
 returns : tie.Need-returns
 returns c =
-    let c₃ = c .before .before in
-    let o = c₃ .before .before in
-    let c₂ = o .before .before .before in
-    let c₁ = c₂ .before .before .before .before in
-    let s = c₁ .before .before .before .before .before .before .before in
+    let word = c .before .before in
+    let offset = word .before .before .organisation-offset in
+    let keys = word .before .before .before .before .before in
+    let plain = keys .before .before .before .before .before .before in
+    let postcode = plain .before .before .before .before in
+    let s = postcode .before .before .before .before .before .before in
     let a = s .args in
-    let rec = a .rec .now in
-    let keys = keyOffsets (a .table .now) (a .starts .now) rec in
-    let offset = organisationOffset rec (a .row) in
-    let third = put-as (ap (bytesOf 4) (o .organisation-offset .ensures)) (c₃ .word-at .ensures) in
-    put-three keys (bytesOf 4 offset) (s .pre .0) (c₁ .plain-at .ensures) (c₂ .keys-at .ensures) third
+    let g =
+    after-keys (a .own .now) (a .starts .now) (a .p) (a .found .rows) (a .row) (s .pre .1) (postcode .part-at .ensures)
+    (plain .plain-at .ensures) (keys .keys-at .ensures) in
+    going-last g (put-as (ap (bytesOf 4) (offset .ensures)) (word .word-at .ensures)) (s .pre .1)
 
 pub point-at-spec : {M : Type 1} → statement M
 point-at-spec =
     tie.close
     (tie.spec
+    add-part-at
+    part-at-requires
     plain-at-requires
     keys-at-requires
     organisation-offset-requires

@@ -1,73 +1,68 @@
 -- `build_rows::organisations::organisation_at` meets its contract. Assumes nothing.
 use borrow.Author.Needs.{needs}
-use mathlib.Core.Path.{_≡_, sym, ap, _∙_}
-use Rattle.file_record.specs.Parts.{recordAt}
-use Rattle.file.specs.Formats.{needed}
-use Rattle.label.proofs.Puts.{room-as, put-none, put-as}
-use Rattle.build_plan.specs.Places.{followerRow}
-use Rattle.build_bytes.proofs.Places.{organisation-none, organisation-some}
+use Prim.Native.Nat.{_+_}
+use mathlib.Core.List.{_∷_}
+use borrow.Author.Tests.{not-true, not-false}
+use native.Mathlib.Omega.{arith}
+use Rattle.label.proofs.Puts.{room-as, room-after, put-none, put-then, put-as}
+use Rattle.pack.specs.Layout.{textsBytes}
+use Rattle.build.specs.Bytes.{twoTexts}
+use Rattle.build.proofs.Laws.{no-organisation, some-organisation}
 use Rattle.build_rows.proofs.organisations.organisation_at.Statement.{statement}
 use Rattle.build_rows.proofs.organisations.organisation_at.Tie as tie
 
-point-record-requires : tie.Need-point-record-requires
-point-record-requires c κs = search needs
-
-needed-next-requires : tie.Need-needed-next-requires
-needed-next-requires c κs = search needs
-
 returns : tie.Need-returns
 returns c =
-    let c₁ = c .before in
-    let c₂ = c₁ .before in
-    let a = c₂ .before .before .before .args in
-    let none = ap needed (sym (c₂ .point-record .ensures)) ∙ (sym (c₁ .needed-next .ensures) ∙ c .if1 .taken) in
-    put-as (organisation-none (a .points .now) (a .place) none) (put-none (a .out .now) (a .at))
+    let a = c .before .before .before .before .args in
+    put-as (no-organisation (a .others .now) (a .p) (not-true _ (c .if1 .taken))) (put-none (a .out .now) (a .at))
 
-add-point-record : tie.Need-add-point-record
-add-point-record c = search needs
-
-point-record-requires-2 : tie.Need-point-record-requires-2
-point-record-requires-2 c κs = search needs
-
-follower-at-requires : tie.Need-follower-at-requires
-follower-at-requires c κs =
-    let c₁ = c .before in
-    let c₂ = c₁ .before in
-    let c₃ = c₂ .before in
-    let c₄ = c₃ .before in
-    let s = c₄ .before .before .before in
+byte-at-requires : tie.Need-byte-at-requires
+byte-at-requires c κs =
+    let at-if = c .before in
+    let s = at-if .before .before .before .before in
     let a = s .args in
-    let some : needed (recordAt 168 (a .points .now) (a .place)) ≡ 0 → ⊥ =
-    λ e. c₂ .if1 .left (c₃ .needed-next .ensures ∙ (ap needed (c₄ .point-record .ensures) ∙ e)) in
-    room-as (a .out .now) (a .at)
-    (ap followerRow (c₁ .point-record2 .ensures) ∙ organisation-some (a .points .now) (a .place) some)
-    (s .pre .1)
+    let some = some-organisation (a .others .now) (a .p) (not-false _ (at-if .if1 .left)) in
+    omega (arith, room-as (a .out .now) (a .at) some (s .pre .1))
+
+add-two-texts-at : tie.Need-add-two-texts-at
+add-two-texts-at c = search needs
+
+add-two-texts-at-2 : tie.Need-add-two-texts-at-2
+add-two-texts-at-2 c = search needs
+
+two-texts-at-requires : tie.Need-two-texts-at-requires
+two-texts-at-requires c κs =
+    let six = c .before .before .before .before .before in
+    let at-if = six .before .before in
+    let s = at-if .before .before .before .before in
+    let a = s .args in
+    let o = a .p .organisation in
+    let some = some-organisation (a .others .now) (a .p) (not-false _ (at-if .if1 .left)) in
+    let texts = textsBytes (twoTexts (a .others .now) o (o + 60) (o + 120)) in
+    ((omega arith, omega arith), room-after texts (six .byte-at .ensures) (room-as (a .out .now) (a .at) some (s .pre .1)))
 
 same-length : tie.Need-same-length
 same-length c = search needs
 
 returns-2 : tie.Need-returns-2
 returns-2 c =
-    let c₁ = c .before .before in
-    let c₂ = c₁ .before .before in
-    let c₃ = c₂ .before in
-    let c₄ = c₃ .before in
-    let c₅ = c₄ .before in
-    let a = c₅ .before .before .before .args in
-    let some : needed (recordAt 168 (a .points .now) (a .place)) ≡ 0 → ⊥ =
-    λ e. c₃ .if1 .left (c₄ .needed-next .ensures ∙ (ap needed (c₅ .point-record .ensures) ∙ e)) in
-    put-as (ap followerRow (c₂ .point-record2 .ensures) ∙ organisation-some (a .points .now) (a .place) some)
-    (c₁ .follower-at .ensures)
+    let texts = c .before .before in
+    let six = texts .before .before .before .before .before .before in
+    let at-if = six .before .before in
+    let s = at-if .before .before .before .before in
+    let a = s .args in
+    let some = some-organisation (a .others .now) (a .p) (not-false _ (at-if .if1 .left)) in
+    put-as some
+    (put-then (six .byte-at .ensures) (texts .two-texts-at .ensures) (room-as (a .out .now) (a .at) some (s .pre .1)))
 
 pub organisation-at-spec : {M : Type 1} → statement M
 organisation-at-spec =
     tie.close
     (tie.spec
-    point-record-requires
-    needed-next-requires
     returns
-    add-point-record
-    point-record-requires-2
-    follower-at-requires
+    byte-at-requires
+    add-two-texts-at
+    add-two-texts-at-2
+    two-texts-at-requires
     same-length
     returns-2)

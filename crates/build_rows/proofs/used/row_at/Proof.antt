@@ -1,50 +1,65 @@
 -- `build_rows::used::row_at` meets its contract. Assumes nothing.
 use borrow.Author.Needs.{needs}
-use Prim.Native.Nat.{ℕ, _-_}
-use mathlib.Core.Path.{ap, _∙_}
-use mathlib.Core.List.{[], _∷_}
-use Rattle.label.proofs.Puts.{put-then, put-as}
+use native.Mathlib.Omega.{arith}
+use Rattle.source.specs.Address.{kindOf}
+use Rattle.label.proofs.Puts.{room-after, room-as, put-then, put-as}
+use Rattle.pack.specs.Layout.{textsBytes}
+use Rattle.shelf.specs.Shelf.{textsIn}
+use Rattle.shelf.specs.Stock.{stockOf}
+use Rattle.build.proofs.Laws.{row-has-bytes}
+use Rattle.build_rows.proofs.Texts.{row-is}
 use Rattle.build_rows.proofs.used.row_at.Statement.{statement}
 use Rattle.build_rows.proofs.used.row_at.Tie as tie
 
-byte-of-requires : tie.Need-byte-of-requires
-byte-of-requires c κs = search needs
-
-cast-above : tie.Need-cast-above
-cast-above c = search needs
-
-above-requires : tie.Need-above-requires
-above-requires c κs = search needs
+ref-at-requires : tie.Need-ref-at-requires
+ref-at-requires c κs = search needs
 
 cast-byte-at : tie.Need-cast-byte-at
 cast-byte-at c = search needs
 
 byte-at-requires : tie.Need-byte-at-requires
-byte-at-requires c κs = search needs
+byte-at-requires c κs =
+    let s = c .before .before .before .before in
+    let a = s .args in
+    omega (arith, s .pre .1, row-has-bytes (stockOf (a .s) (a .file .now)) (a .i))
+
+record-of-requires : tie.Need-record-of-requires
+record-of-requires c κs = search needs
 
 texts-at-requires : tie.Need-texts-at-requires
-texts-at-requires c κs = search needs
+texts-at-requires c κs =
+    let rec = c .before .record-of in
+    let kind = c .before .before .before .before in
+    let ref = kind .before .before .ref-at in
+    let s = kind .before .before .before .before .before in
+    let a = s .args in
+    let same = row-is (a .s) (a .file .now) (rec .result .now) (a .i) (ref .result) (ref .ensures .0) (rec .ensures) in
+    let texts = textsBytes (textsIn (a .s) (kindOf (ref .result)) (rec .result .now)) in
+    (s .pre .0, room-after texts (kind .byte-at .ensures) (room-as (a .out .now) (a .at) same (s .pre .1)))
 
 same-length : tie.Need-same-length
 same-length c = search needs
 
 returns : tie.Need-returns
 returns c =
-    let c₂ = c .before .before in
-    let c₁ = c₂ .before .before .before .before in
-    let k = c₁ .before .before in
-    let type = k .above .ensures .0 ∙ ap (λ (n : ℕ). n - 48) (k .before .byte-of .ensures) in
-    put-then (put-as (ap (λ (n : ℕ). n ∷ []) type) (c₁ .byte-at .ensures)) (c₂ .texts-at .ensures) (k .before .before .before .before .pre)
+    let texts = c .before .before in
+    let rec = texts .before .before .record-of in
+    let kind = texts .before .before .before .before .before in
+    let ref = kind .before .before .ref-at in
+    let s = kind .before .before .before .before .before in
+    let a = s .args in
+    let same = row-is (a .s) (a .file .now) (rec .result .now) (a .i) (ref .result) (ref .ensures .0) (rec .ensures) in
+    put-as same
+    (put-then (kind .byte-at .ensures) (texts .texts-at .ensures) (room-as (a .out .now) (a .at) same (s .pre .1)))
 
 pub row-at-spec : {M : Type 1} → statement M
 row-at-spec =
     tie.close
     (tie.spec
-    byte-of-requires
-    cast-above
-    above-requires
+    ref-at-requires
     cast-byte-at
     byte-at-requires
+    record-of-requires
     texts-at-requires
     same-length
     returns)

@@ -1,73 +1,108 @@
 -- `build_rows::used::texts_at` meets its contract. Assumes nothing.
 use borrow.Author.Needs.{needs}
+use Prim.Native.Nat.{_+_}
 use native.Mathlib.Omega.{arith}
-use Rattle.label.proofs.Puts.{room-as, put-as}
-use Rattle.build_bytes.proofs.Texts.{locality-bytes, other-bytes}
+use Rattle.field.specs.Text.{textIn}
+use Rattle.label.proofs.Puts.{room-first, room-after, room-as, put-then, put-as}
+use Rattle.pack.specs.Layout.{textsBytes}
+use Rattle.build.specs.Bytes.{sized, twoTexts}
+use Rattle.build_rows.proofs.Texts.{locality-bytes, other-bytes}
 use Rattle.build_rows.proofs.used.texts_at.Statement.{statement}
 use Rattle.build_rows.proofs.used.texts_at.Tie as tie
 
-byte-of-requires : tie.Need-byte-of-requires
-byte-of-requires c κs = search needs
+add-text-at : tie.Need-add-text-at
+add-text-at c = search needs
 
-locality-at-requires : tie.Need-locality-at-requires
-locality-at-requires c κs =
-    let c₁ = c .before in
-    let c₂ = c₁ .before in
-    let s = c₂ .before .before .before in
-    let same = locality-bytes (s .args .rec .now) (c₂ .byte-of .result) (c₂ .byte-of .ensures) (c₁ .if1 .taken) in
-    room-as (s .args .out .now) (s .args .at) same (s .pre)
+text-at-requires : tie.Need-text-at-requires
+text-at-requires c κs =
+    let at-if = c .before in
+    let s = at-if .before .before .before in
+    let a = s .args in
+    let l = a .s .locality in
+    let same = locality-bytes (a .s) (a .kind) (a .rec .now) (at-if .if1 .taken) in
+    let two = textsBytes (twoTexts (a .rec .now) (l + 30) (l + 65) (l + 100)) in (
+      omega arith,
+      room-first (sized (textIn (a .rec .now) l (l + 30))) two (a .out .now) (a .at)
+          (room-as (a .out .now) (a .at) same (s .pre .1)),
+    )
+
+add-two-texts-at : tie.Need-add-two-texts-at
+add-two-texts-at c = search needs
+
+add-two-texts-at-2 : tie.Need-add-two-texts-at-2
+add-two-texts-at-2 c = search needs
+
+add-two-texts-at-3 : tie.Need-add-two-texts-at-3
+add-two-texts-at-3 c = search needs
+
+two-texts-at-requires : tie.Need-two-texts-at-requires
+two-texts-at-requires c κs =
+    let town = c .before .before .before in
+    let at-if = town .before .before in
+    let s = at-if .before .before .before in
+    let a = s .args in
+    let l = a .s .locality in
+    let same = locality-bytes (a .s) (a .kind) (a .rec .now) (at-if .if1 .taken) in
+    let two = textsBytes (twoTexts (a .rec .now) (l + 30) (l + 65) (l + 100)) in
+    ((omega arith, omega arith), room-after two (town .text-at .ensures) (room-as (a .out .now) (a .at) same (s .pre .1)))
 
 same-length : tie.Need-same-length
 same-length c = search needs
 
 returns : tie.Need-returns
 returns c =
-    let c₁ = c .before .before in
-    let c₂ = c₁ .before .before in
-    let c₃ = c₂ .before in
-    let s = c₃ .before .before .before in
-    put-as (locality-bytes (s .args .rec .now) (c₃ .byte-of .result) (c₃ .byte-of .ensures) (c₂ .if1 .taken))
-    (c₁ .locality-at .ensures)
+    let two = c .before .before in
+    let town = two .before .before .before .before in
+    let at-if = town .before .before in
+    let s = at-if .before .before .before in
+    let a = s .args in
+    let same = locality-bytes (a .s) (a .kind) (a .rec .now) (at-if .if1 .taken) in
+    put-as same
+    (put-then (town .text-at .ensures) (two .two-texts-at .ensures) (room-as (a .out .now) (a .at) same (s .pre .1)))
 
-text-end-requires : tie.Need-text-end-requires
-text-end-requires c κs = search needs
+text-width-requires : tie.Need-text-width-requires
+text-width-requires c κs = search needs
 
-text-at-requires : tie.Need-text-at-requires
-text-at-requires c κs =
-    let c₁ = c .before in
-    let c₂ = c₁ .before in
-    let c₃ = c₂ .before in
-    let s = c₃ .before .before .before in
-    let end = c₁ .text-end in
-    let kind = c₃ .byte-of in
-    let same =
-    other-bytes (s .args .rec .now) (kind .result) (end .result) (kind .ensures) (c₂ .if1 .left) (end .ensures .0) in
-    (omega (arith, end .ensures .1 .1), room-as (s .args .out .now) (s .args .at) same (s .pre))
+add-text-at-2 : tie.Need-add-text-at-2
+add-text-at-2 c = search needs
+
+text-at-requires-2 : tie.Need-text-at-requires-2
+text-at-requires-2 c κs =
+    let width = c .before .before in
+    let at-if = width .before in
+    let s = at-if .before .before .before in
+    let a = s .args in
+    let w = width .text-width in
+    let same = other-bytes (a .s) (a .kind) (a .rec .now) (w .result) (at-if .if1 .left) (w .ensures .0) in
+    (omega (arith, w .ensures .1), room-as (a .out .now) (a .at) same (s .pre .1))
 
 same-length-2 : tie.Need-same-length-2
 same-length-2 c = search needs
 
 returns-2 : tie.Need-returns-2
 returns-2 c =
-    let c₁ = c .before .before in
-    let c₂ = c₁ .before .before in
-    let c₃ = c₂ .before in
-    let c₄ = c₃ .before in
-    let s = c₄ .before .before .before in
-    let end = c₂ .text-end in
-    let kind = c₄ .byte-of in
-    put-as (other-bytes (s .args .rec .now) (kind .result) (end .result) (kind .ensures) (c₃ .if1 .left) (end .ensures .0))
-    (c₁ .text-at .ensures)
+    let text = c .before .before in
+    let width = text .before .before .before in
+    let at-if = width .before in
+    let a = at-if .before .before .before .args in
+    let w = width .text-width in
+    put-as (other-bytes (a .s) (a .kind) (a .rec .now) (w .result) (at-if .if1 .left) (w .ensures .0))
+    (text .text-at2 .ensures)
 
 pub texts-at-spec : {M : Type 1} → statement M
 texts-at-spec =
     tie.close
     (tie.spec
-    byte-of-requires
-    locality-at-requires
+    add-text-at
+    text-at-requires
+    add-two-texts-at
+    add-two-texts-at-2
+    add-two-texts-at-3
+    two-texts-at-requires
     same-length
     returns
-    text-end-requires
-    text-at-requires
+    text-width-requires
+    add-text-at-2
+    text-at-requires-2
     same-length-2
     returns-2)

@@ -1,9 +1,9 @@
 -- `build_rows::used::used_at` meets its contract. Assumes nothing.
 use borrow.Author.Needs.{needs}
-use mathlib.Core.Path.{_≡_, sym, _∙_}
-use lib.ListN.{getD}
+use mathlib.Core.Path.{sym, _∙_}
 use Rattle.label.proofs.Puts.{room-as, put-none, put-as}
-use Rattle.build_bytes.proofs.Places.{used-none, used-some}
+use Rattle.shelf.specs.Stock.{stockOf}
+use Rattle.build.proofs.Laws.{used-none, used-some}
 use Rattle.build_rows.proofs.used.used_at.Statement.{statement}
 use Rattle.build_rows.proofs.used.used_at.Tie as tie
 
@@ -12,48 +12,35 @@ start-of-requires c κs = search needs
 
 returns : tie.Need-returns
 returns c =
-    let c₁ = c .before in
-    let a = c₁ .before .before .before .before .args in
-    put-as (used-none (a .table .now) (a .starts .now) (a .i) (sym (c₁ .start-of .ensures) ∙ c .if1 .taken))
-    (put-none (a .out .now) (a .at))
-
-table-record-requires : tie.Need-table-record-requires
-table-record-requires c κs = search needs
+    let start = c .before in
+    let a = start .before .before .before .before .args in
+    let none = sym (start .start-of .ensures) ∙ c .if1 .taken in
+    put-as (used-none (stockOf (a .s) (a .file .now)) (a .starts .now) (a .i) none) (put-none (a .out .now) (a .at))
 
 row-at-requires : tie.Need-row-at-requires
 row-at-requires c κs =
-    let r = c .before in
-    let c₁ = r .before in
-    let c₂ = c₁ .before in
-    let s = c₂ .before .before .before .before in
+    let at-if = c .before in
+    let start = at-if .before in
+    let s = start .before .before .before .before in
     let a = s .args in
-    let some : getD (a .starts .now) (a .i) 0 ≡ 0 → ⊥ = λ e. c₁ .if1 .left (c₂ .start-of .ensures ∙ e) in
     let same =
-    used-some (a .table .now) (a .starts .now) (r .table-record .result .now) (a .i) some (r .table-record .ensures) in
-    room-as (a .out .now) (a .at) same (s .pre)
+    used-some (stockOf (a .s) (a .file .now)) (a .starts .now) (a .i)
+    (λ e. at-if .if1 .left (start .start-of .ensures ∙ e)) in
+    (s .pre .0, room-as (a .out .now) (a .at) same (s .pre .1))
 
 same-length : tie.Need-same-length
 same-length c = search needs
 
 returns-2 : tie.Need-returns-2
 returns-2 c =
-    let c₁ = c .before .before in
-    let r = c₁ .before .before in
-    let c₂ = r .before in
-    let c₃ = c₂ .before in
-    let a = c₃ .before .before .before .before .args in
-    let some : getD (a .starts .now) (a .i) 0 ≡ 0 → ⊥ = λ e. c₂ .if1 .left (c₃ .start-of .ensures ∙ e) in
+    let row = c .before .before in
+    let at-if = row .before .before in
+    let start = at-if .before in
+    let a = start .before .before .before .before .args in
     put-as
-    (used-some (a .table .now) (a .starts .now) (r .table-record .result .now) (a .i) some (r .table-record .ensures))
-    (c₁ .row-at .ensures)
+    (used-some (stockOf (a .s) (a .file .now)) (a .starts .now) (a .i)
+    (λ e. at-if .if1 .left (start .start-of .ensures ∙ e)))
+    (row .row-at .ensures)
 
 pub used-at-spec : {M : Type 1} → statement M
-used-at-spec =
-    tie.close
-    (tie.spec
-    start-of-requires
-    returns
-    table-record-requires
-    row-at-requires
-    same-length
-    returns-2)
+used-at-spec = tie.close (tie.spec start-of-requires returns row-at-requires same-length returns-2)

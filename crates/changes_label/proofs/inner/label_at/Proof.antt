@@ -1,12 +1,33 @@
 -- `changes_label::inner::label_at` meets its contract. Assumes nothing.
 use borrow.Author.Needs.{needs}
-use mathlib.Core.Path.{_≡_, refl, sym, ap, _∙_}
-use mathlib.Core.List.{[]}
+use Prim.Native.Nat.{ℕ, suc, _/_, _<_}
+use mathlib.Core.Path.{_≡_, sym, ap₂, _∙_}
+use mathlib.Core.List.{List}
 use native.Mathlib.Omega.{arith}
-use Rattle.changes_meaning.proofs.Meant.{resolved-fine, resolved-bad}
+use lib.ListN.{length}
+use Rattle.source.specs.declared.DeliveryPoint.{DeliveryPoint}
+use Rattle.source.specs.Delivery.{askedOf, rowsFor, refusalIn}
+use Rattle.shelf.specs.declared.Shelf.{Shelf}
+use Rattle.shelf.specs.Search.{found}
+use Rattle.source_spans.specs.Spans.{elementsBy}
+use Rattle.changes_source.specs.Rows.{tableShelf}
+use Rattle.changes_source.proofs.Table.{table-fits}
+use Rattle.changes_source.specs.Delivery.{deliveryAt}
+use Rattle.changes_meaning.proofs.Says.{within-at}
+use Rattle.changes_meaning.proofs.Meant.{rowsAt, resolved-fine, resolved-bad}
 use Rattle.changes_label.proofs.Laws.{no-place, bad-place, fine-place}
 use Rattle.changes_label.proofs.inner.label_at.Statement.{statement}
 use Rattle.changes_label.proofs.inner.label_at.Tie as tie
+
+-- what is read and looked up with equals
+rows-as : (s : Shelf) (p : DeliveryPoint) (table points : List ℕ) (i : ℕ) → s ≡ tableShelf → p ≡ deliveryAt points i
+    → rowsFor (found s table) (askedOf p) ≡ rowsAt table points i
+rows-as s p table points i e f = ap₂ (λ (z : Shelf) (q : DeliveryPoint). rowsFor (found z table) (askedOf q)) e f
+
+elements-as : {s z : Shelf} {p q : DeliveryPoint} {rows others : List ℕ} (table points : List ℕ) → s ≡ z → p ≡ q
+    → rows ≡ others
+    → elementsBy s table points p rows ≡ elementsBy z table points q others
+elements-as table points e f g = cc
 
 returns : tie.Need-returns
 returns c =
@@ -14,8 +35,49 @@ returns c =
     let says = no-place (a .table .now) (a .points .now) (a .place) (a .out .now) (c .if1 .taken) in
     (sym (says .answer-is), sym (says .memory-is))
 
-point-record-requires : tie.Need-point-record-requires
-point-record-requires c κs = search needs
+-- once the rows are looked up
+module _ (judged : tie.After-refusal-in) where
+  abbrev looked : tie.After-rows-of
+  looked = judged .before
+
+  abbrev read : tie.After-delivery-at
+  read = looked .before .before
+
+  abbrev some-place : tie.Else1
+  some-place = read .before .before
+
+  abbrev start : tie.Start
+  start = some-place .before .before .before .before
+
+  abbrev table : List ℕ
+  table = start .args .table .now
+
+  abbrev points : List ℕ
+  points = start .args .points .now
+
+  abbrev place : ℕ
+  place = start .args .place
+
+  high : suc place < length points / 168
+  high = omega (arith, start .pre .high (some-place .if1 .left))
+
+  rows-are : looked .rows-of .result .rows ≡ rowsAt table points place
+  rows-are =
+      looked .rows-of .ensures
+      ∙ rows-as (read .before .table-shelf .result) (read .delivery-at .result) table points place
+      (read .before .table-shelf .ensures) (read .delivery-at .ensures)
+
+  verdict-is : judged .refusal-in .result ≡ refusalIn (deliveryAt points place) (rowsAt table points place)
+  verdict-is = judged .refusal-in .ensures ∙ ap₂ refusalIn (read .delivery-at .ensures) rows-are
+
+table-shelf-requires : tie.Need-table-shelf-requires
+table-shelf-requires c κs = search needs
+
+delivery-at-requires : tie.Need-delivery-at-requires
+delivery-at-requires c κs = search needs
+
+rows-of-requires : tie.Need-rows-of-requires
+rows-of-requires c κs = rw (c .before .before .table-shelf .ensures) table-fits
 
 refusal-in-requires : tie.Need-refusal-in-requires
 refusal-in-requires c κs = search needs
@@ -24,7 +86,12 @@ enum-told : tie.Need-enum-told
 enum-told c = search needs
 
 spans-of-requires : tie.Need-spans-of-requires
-spans-of-requires c κs = search needs
+spans-of-requires c κs =
+    let judged = c .before .before in
+    let r = read judged in (
+      rw (r .before .table-shelf .ensures) table-fits,
+      rw (r .delivery-at .ensures) (within-at (points judged) (place judged) (high judged)),
+    )
 
 print-label-requires : tie.Need-print-label-requires
 print-label-requires c κs = search needs
@@ -39,33 +106,33 @@ returns-2 : tie.Need-returns-2
 returns-2 c =
     let p = c .before .before in
     let sp = p .before .before in
-    let t = sp .before in
-    let k = t .before .before in
-    let r = k .before in
-    let some = r .before .if1 .left in
-    let s = r .before .before .before .before .before in
-    let a = s .args in
-    let found = rw (r .point-record .ensures) at (sym (k .refusal-in .ensures) ∙ t .enum-told .given .1) in
+    let told = sp .before in
+    let judged = told .before .before in
+    let a = start judged .args in
+    let some = some-place judged .if1 .left in
+    let fine = sym (verdict-is judged) ∙ told .enum-told .given .1 in
     let resolved =
-    resolved-fine (a .table .now) (a .points .now) (s .pre .of-table) (s .pre .of-points) (a .place) (s .pre .low some)
-    (s .pre .high some) (s .pre .a-view some) 0 found in
-    let says = fine-place (a .table .now) (a .points .now) (a .place) (a .out .now) some _ resolved in
-    let printed = rw (sp .spans-of .ensures) at (p .print-label .ensures) in
+    resolved-fine (table judged) (points judged) (start judged .pre .of-table) (place judged)
+    (start judged .pre .high some) 0 fine in
+    let says = fine-place (table judged) (points judged) (place judged) (a .out .now) some _ resolved in
+    let r = read judged in
+    let spans =
+    sp .spans-of .ensures
+    ∙ elements-as (table judged) (points judged) (r .before .table-shelf .ensures) (r .delivery-at .ensures) (rows-are judged) in
+    let printed = rw spans at (p .print-label .ensures) in
     (printed .0 ∙ sym (says .answer-is), printed .1 ∙ sym (says .memory-is))
 
 returns-3 : tie.Need-returns-3
 returns-3 c =
-    let k = c .before .before .before in
-    let r = k .before in
-    let some = r .before .if1 .left in
-    let s = r .before .before .before .before .before in
-    let a = s .args in
+    let judged = c .before .before .before in
+    let a = start judged .args in
+    let some = some-place judged .if1 .left in
     let why = c .before .reason .given .0 .0 in
-    let found = rw (r .point-record .ensures) at (sym (k .refusal-in .ensures) ∙ c .before .reason .given .1) in
+    let bad = sym (verdict-is judged) ∙ c .before .reason .given .1 in
     let resolved =
-    resolved-bad (a .table .now) (a .points .now) (s .pre .of-table) (s .pre .of-points) (a .place) (s .pre .low some)
-    (s .pre .high some) (s .pre .a-view some) 0 why found in
-    let says = bad-place (a .table .now) (a .points .now) (a .place) (a .out .now) some why resolved in
+    resolved-bad (table judged) (points judged) (start judged .pre .of-table) (place judged)
+    (start judged .pre .high some) 0 why bad in
+    let says = bad-place (table judged) (points judged) (place judged) (a .out .now) some why resolved in
     (sym (says .answer-is), sym (says .memory-is))
 
 pub label-at-spec : {M : Type 1} → statement M
@@ -73,7 +140,9 @@ label-at-spec =
     tie.close
     (tie.spec
     returns
-    point-record-requires
+    table-shelf-requires
+    delivery-at-requires
+    rows-of-requires
     refusal-in-requires
     enum-told
     spans-of-requires

@@ -2,7 +2,8 @@
 use borrow.Author.Needs.{needs}
 use mathlib.Core.Path.{ap}
 use native.Mathlib.Omega.{arith}
-use Rattle.pack_label.proofs.SpanLaws.{inward-bytes, all-stand}
+use Rattle.pack_label.proofs.SpanLaws.{inward-bytes}
+use Rattle.label.proofs.Stand.{all-stand}
 use lib.Dec.{eqb, lit≤}
 use Rattle.pack.specs.Points.{elementsFrom}
 use Rattle.pack_label.proofs.spans.spans_at.Statement.{statement}

@@ -1,0 +1,79 @@
+-- The bytes of a pack as a builder writes them, from the starts of the rows and the delivery points.
+-- Assumes nothing.
+use Prim.Native.Nat.{ℕ, _+_, _-_}
+use mathlib.Core.Bool.{cond}
+use mathlib.Core.List.{List, [], _∷_, _++_}
+use lib.ListN.{length, getD}
+use Rattle.field.specs.Text.{part, textIn}
+use Rattle.source.specs.Address.{present}
+use Rattle.source.specs.declared.DeliveryPoint.{DeliveryPoint}
+use Rattle.shelf.specs.Stock.{Stock}
+use Rattle.pack.specs.Numbers.{bytesOf}
+use Rattle.pack.specs.Names.{absent, newest}
+use Rattle.pack.specs.Layout.{markOf, trailerBytes}
+use Rattle.build.specs.Plan.{Packed, rowsOf, organisationRow, organisationRows, organisationCount}
+use Rattle.build.specs.Rows.{isMarked, rowBytesAt, allCount, rowsFrom}
+
+-- "each a length byte and its bytes"
+abbrev pub sized : List ℕ → List ℕ
+sized t = length t ∷ t
+
+-- two texts, of which the second begins where the first ends
+abbrev pub twoTexts : List ℕ → (start middle end : ℕ) → List (List ℕ)
+twoTexts rec start middle end = textIn rec start middle ∷ textIn rec middle end ∷ []
+
+-- the offset of the row that a key finds; a row that is packed has its start, plus 1
+abbrev pub keyOffset : List ℕ → (key row : ℕ) → ℕ
+keyOffset starts key row = cond (present key) (getD starts row 0 - 1) absent
+
+-- "eight row offsets of 4", those of the keys
+abbrev pub keyOffsets : List ℕ → (keys rows : List ℕ) → List ℕ
+keyOffsets starts [] rows = []
+keyOffsets starts (k ∷ ks) [] = []
+keyOffsets starts (k ∷ ks) (r ∷ rs) = bytesOf 4 (keyOffset starts k r) ++ keyOffsets starts ks rs
+
+-- and the organisation's, whose row would stand at `at`
+abbrev pub organisationOffset : DeliveryPoint → ℕ → ℕ
+organisationOffset p at = cond (p .organised) at absent
+
+-- "postcode type 1, address key 4, organisation key 4, building number 2, concatenation 1, PO box 6"
+abbrev pub numbersIn : DeliveryPoint → List ℕ
+numbersIn p =
+    p .«postcode_type» ∷ (bytesOf 4 (p .«address_key») ++ (bytesOf 4 (p .«organisation_key») ++ bytesOf 2 (p .number)))
+
+abbrev pub plainIn : List ℕ → DeliveryPoint → List ℕ
+plainIn own p = numbersIn p ++ (markOf (p .concatenation) ∷ part own (p .«po_box») (p .«po_box» + 6))
+
+-- a point, behind "postcode 7": its organisation's row stands at `at` if it has one
+unfoldable pub pointIn : (own starts : List ℕ) → DeliveryPoint → (rows : List ℕ) → ℕ → List ℕ
+pointIn own starts p rows at =
+    part own (p .postcode) (p .postcode + 7)
+    ++ (plainIn own p ++ (keyOffsets starts (p .keys) rows ++ bytesOf 4 (organisationOffset p at)))
+
+-- the points of these, the organisations' rows standing from `at` on
+abbrev pub pointsIn : Stock → (own others starts : List ℕ) → ℕ → List Packed → List ℕ
+pointsIn st own others starts at [] = []
+pointsIn st own others starts at (d ∷ ds) =
+    pointIn own starts (d .point) (rowsOf st (d .point)) at
+    ++ pointsIn st own others starts (at + length (organisationRow others (d .point))) ds
+
+-- a row that has a start
+abbrev pub usedAt : Stock → List ℕ → ℕ → List ℕ
+usedAt st starts i = cond (isMarked starts i) (rowBytesAt st i) []
+
+-- the rows that have a start
+abbrev pub usedRows : Stock → List ℕ → List ℕ
+usedRows st starts = rowsFrom st starts (st .last - 1) 1
+
+-- the last fields of a trailer: "outward 4, pack length 4, edition 1"
+abbrev pub trailerEnd : List ℕ → ℕ → List ℕ
+trailerEnd code bytes = code ++ (bytesOf 4 bytes ++ (newest ∷ []))
+
+-- the whole pack for a code
+unfoldable pub packIn : Stock → (own others starts : List ℕ) → List Packed → List ℕ → List ℕ
+packIn st own others starts ds code =
+    usedRows st starts
+    ++ (organisationRows others ds
+    ++ (pointsIn st own others starts (length (usedRows st starts)) ds
+    ++ trailerBytes newest (allCount st starts + organisationCount ds)
+    (length (usedRows st starts) + length (organisationRows others ds)) (length ds) code))

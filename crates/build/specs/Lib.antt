@@ -1,0 +1,5 @@
+pub mod Plan
+pub mod Rows
+pub mod Placed
+pub mod Bytes
+pub mod Ready

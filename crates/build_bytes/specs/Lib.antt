@@ -1,2 +1,0 @@
-pub mod Emit
-pub mod Ready

@@ -1,9 +1,0 @@
-pub mod Numbers
-pub mod Packed
-pub mod Texts
-pub mod Rows
-pub mod Refused
-pub mod Follower
-pub mod Addresses
-pub mod Size
-pub mod Sound

@@ -1,0 +1,2 @@
+// The trailer of a pack, written into a lent buffer that is known to be long enough.
+pub mod inner;

@@ -1,0 +1,121 @@
+-- `changes_build::cut` meets its contract. Assumes nothing.
+use borrow.Author.Needs.{needs}
+use mathlib.Core.Path.{_≡_, refl, sym, subst, _∙_}
+use mathlib.Core.List.{List}
+use native.Mathlib.Omega.{arith}
+use Rattle.changes_source.proofs.Table.{table-fits}
+use Rattle.shelf.specs.declared.Shelf.{Shelf}
+use Rattle.shelf.specs.Search.{Filled}
+use Rattle.changes_build.specs.Views.{Known}
+use Rattle.changes_build.proofs.Laws.{fresh-long, fresh-marked, none-bad, one-bad}
+use Rattle.changes_build.proofs.cut.Statement.{statement}
+use Rattle.changes_build.proofs.cut.Tie as tie
+
+-- once the numbers of the table's records are known
+module _ (f : tie.After-fill-refs) where
+  abbrev t : tie.After-table-shelf
+  t = f .before .before
+
+  abbrev s : tie.Start
+  s = t .before .before .before .before .before
+
+  known : Known (s .args .table .now) (f .fill-refs .last .1 .1 .0) (s .args .points .now)
+  known =
+      record {
+        of-table = s .pre .of-table;
+        of-points = s .pre .of-points;
+        filled = subst (λ (z : Shelf). Filled z (s .args .table .now) (f .fill-refs .last .1 .1 .0)) (t .table-shelf .ensures)
+            (f .fill-refs .ensures);
+      }
+
+table-shelf-requires : tie.Need-table-shelf-requires
+table-shelf-requires c κs = search needs
+
+slice-aggregate-fill-refs : tie.Need-slice-aggregate-fill-refs
+slice-aggregate-fill-refs c = search needs
+
+fill-refs-requires : tie.Need-fill-refs-requires
+fill-refs-requires c κs =
+    let t = c .before in
+    let s = t .before .before .before .before .before in
+    rw (t .table-shelf .ensures)
+    (table-fits, fresh-long 20000 (s .args .table .now) (s .pre .of-table) (omega arith))
+
+slice-aggregate-mark-views : tie.Need-slice-aggregate-mark-views
+slice-aggregate-mark-views c = search needs
+
+slice-aggregate-mark-views-2 : tie.Need-slice-aggregate-mark-views-2
+slice-aggregate-mark-views-2 c = search needs
+
+mark-views-requires : tie.Need-mark-views-requires
+mark-views-requires c κs =
+    let f = c .before .before .before in
+    (known f, fresh-long 20000 (s f .args .table .now) (s f .pre .of-table) (omega arith))
+
+enum-told : tie.Need-enum-told
+enum-told c = search needs
+
+slice-aggregate-write-if-room : tie.Need-slice-aggregate-write-if-room
+slice-aggregate-write-if-room c = search needs
+
+slice-aggregate-write-if-room-2 : tie.Need-slice-aggregate-write-if-room-2
+slice-aggregate-write-if-room-2 c = search needs
+
+write-if-room-requires : tie.Need-write-if-room-requires
+write-if-room-requires c κs =
+    let m = c .before .before .before .before .before .before in
+    let f = m .before .before .before .before in
+    let a = s f .args in
+    let told = c .before .before .before .enum-told .given .1 in (
+      known f,
+      fresh-marked 20000 (a .table .now) (a .points .now) (a .code .now) _ refl (s f .pre)
+          (sym (m .mark-views .ensures .said) ∙ told) (m .mark-views .ensures .marks-all told),
+    )
+
+enum-known-reason : tie.Need-enum-known-reason
+enum-known-reason c = search needs
+
+same-length : tie.Need-same-length
+same-length c = search needs
+
+returns : tie.Need-returns
+returns c =
+    let w = c .before .before .before in
+    let m = w .before .before .before .before .before .before .before in
+    let b = s (m .before .before .before .before) in
+    let a = b .args in
+    let told = w .before .before .before .before .enum-told .given .1 in
+    let says =
+    none-bad (a .table .now) (a .points .now) (a .code .now) (a .out .now) (b .pre)
+    (sym (m .mark-views .ensures .said) ∙ told) in
+    (w .write-if-room .ensures .0 ∙ sym (says .answer-is), w .write-if-room .ensures .1 ∙ sym (says .memory-is))
+
+returns-2 : tie.Need-returns-2
+returns-2 c =
+    let k = c .before in
+    let m = k .before .before .before in
+    let b = s (m .before .before .before .before) in
+    let a = b .args in
+    let says =
+    one-bad (a .table .now) (a .points .now) (a .code .now) (a .out .now) (b .pre) (k .reason .given .0 .0)
+    (sym (m .mark-views .ensures .said) ∙ k .reason .given .1) in
+    (sym (says .answer-is), sym (says .memory-is))
+
+pub cut-spec : {M : Type 1} → statement M
+cut-spec =
+    tie.close
+    (tie.spec
+    table-shelf-requires
+    slice-aggregate-fill-refs
+    fill-refs-requires
+    slice-aggregate-mark-views
+    slice-aggregate-mark-views-2
+    mark-views-requires
+    enum-told
+    slice-aggregate-write-if-room
+    slice-aggregate-write-if-room-2
+    write-if-room-requires
+    enum-known-reason
+    same-length
+    returns
+    returns-2)

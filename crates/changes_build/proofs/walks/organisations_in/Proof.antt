@@ -1,0 +1,131 @@
+-- `changes_build::walks::organisations_in` meets its contract. The invariant: `at` is wanted or behind all, the views from it on are
+-- left to sum up, and no more rows are counted than places passed. Assumes nothing.
+use borrow.Author.Needs.{needs}
+use mathlib.Core.Path.{_≡_, ap, _∙_}
+use mathlib.Core.Bool.{cond, not}
+use Prim.Native.Nat.{ℕ, _+_, _*_, _-_, _≤_}
+use native.Mathlib.Omega.{arith}
+use lib.Dec.{eqb}
+use lib.ListN.{length}
+use Rattle.changes_views.specs.Views.{nextWanted}
+use Rattle.changes_views.proofs.Laws.{next-range, next-next}
+use Rattle.source.specs.declared.DeliveryPoint.{DeliveryPoint}
+use Rattle.changes_source.specs.Delivery.{deliveryAt}
+use Rattle.build.specs.Plan.{organisationRow}
+use Rattle.build.proofs.Walks.{Summing, summing-start, summing-as, summing-on, summing-end, organised-by-bytes}
+use Rattle.changes_build.specs.Views.{packedIn}
+use Rattle.changes_build.proofs.Packed.{packedFrom, packed-start, packed-step, packed-end, view-within}
+use Rattle.changes_build.proofs.walks.organisations_in.Statement.{statement}
+use Rattle.changes_build.proofs.walks.organisations_in.Tie as tie
+
+abbrev Inv-loop : tie.InvT-loop
+Inv-loop points code last rows₀ bytes₀ at₀ rows bytes at =
+    (nextWanted code points at ≡ at)
+    × Summing points (packedIn points code) (packedFrom points code at) rows bytes
+    × (rows ≤ at)
+    × (bytes ≤ 123 * at)
+
+abbrev μ-loop : tie.MeasureT-loop
+μ-loop points code last rows₀ bytes₀ at₀ rows bytes at = last - at
+
+last-of-requires : tie.Need-last-of-requires Inv-loop μ-loop
+last-of-requires c κs = search needs
+
+next-wanted-requires : tie.Need-next-wanted-requires Inv-loop μ-loop
+next-wanted-requires c κs = search needs
+
+loop-holds : tie.Need-loop-holds Inv-loop μ-loop
+loop-holds c =
+    let a = c .before .before .before .before .args in
+    let points = a .points .now in
+    let code = a .code .now in
+    rw (c .next-wanted .ensures) (
+      next-next code points 1,
+      summing-as (packed-start points code) (summing-start points (packedIn points code)),
+      omega arith,
+      omega arith,
+    )
+
+delivery-at-requires : tie.Need-delivery-at-requires Inv-loop μ-loop
+delivery-at-requires c κs = search needs
+
+organisation-len-requires : tie.Need-organisation-len-requires Inv-loop μ-loop
+organisation-len-requires c κs =
+    let l = c .before .before in
+    let f = l .before .before in
+    let points = f .before .before .before .args .points .now in
+    rw (c .delivery-at .ensures) (view-within points (l .loop .at) (omega (arith, f .last-of .ensures)) .organisation)
+
+one-if-requires : tie.Need-one-if-requires Inv-loop μ-loop
+one-if-requires c κs = search needs
+
+add-rows : tie.Need-add-rows Inv-loop μ-loop
+add-rows c = search needs
+
+add-bytes : tie.Need-add-bytes Inv-loop μ-loop
+add-bytes c = search needs
+
+add-next-wanted : tie.Need-add-next-wanted Inv-loop μ-loop
+add-next-wanted c = search needs
+
+next-wanted-requires-2 : tie.Need-next-wanted-requires-2 Inv-loop μ-loop
+next-wanted-requires-2 c κs = search needs
+
+loop-less : tie.Need-loop-less Inv-loop μ-loop
+loop-less c =
+    let l = c .before .before .before .before .before in
+    let a = l .before .before .before .before .before .args in
+    omega (arith, c .next-wanted2 .ensures, next-range (a .code .now) (a .points .now) (l .loop .at + 1) .0)
+
+loop-again : tie.Need-loop-again Inv-loop μ-loop
+loop-again c =
+    let o = c .before in
+    let n = o .before in
+    let d = n .before in
+    let l = d .before .before in
+    let f = l .before .before in
+    let a = f .before .before .before .args in
+    let points = a .points .now in
+    let code = a .code .now in
+    let i = l .loop .at in
+    let step = packed-step points code i (l .loop .inv .0) (omega (arith, f .last-of .ensures)) in
+    let len = n .organisation-len .ensures .0
+    ∙ ap (λ (p : DeliveryPoint). length (organisationRow points p)) (d .delivery-at .ensures) in
+    let one = o .one-if .ensures .0
+    ∙ (ap (λ (k : ℕ). cond (not (eqb k 0)) 1 0) len ∙ organised-by-bytes points (deliveryAt points i)) in
+    let range = next-range code points (i + 1) .0 in
+    rw (c .next-wanted2 .ensures) (
+      next-next code points (i + 1),
+      summing-on (summing-as step (l .loop .inv .1)) one len,
+      omega (arith, l .loop .inv .2, range, o .one-if .ensures .1),
+      omega (arith, l .loop .inv .3, range, n .organisation-len .ensures .1),
+    )
+
+returns : tie.Need-returns Inv-loop μ-loop
+returns c =
+    let l = c .before in
+    let f = l .before .before in
+    let a = f .before .before .before .args in
+    summing-end
+    (summing-as (packed-end (a .points .now) (a .code .now) (l .loop .at) (omega (arith, f .last-of .ensures)))
+    (l .loop .inv .1))
+
+pub organisations-in-spec : {M : Type 1} → statement M
+organisations-in-spec =
+    tie.close
+    (tie.spec
+    Inv-loop
+    μ-loop
+    last-of-requires
+    next-wanted-requires
+    loop-holds
+    delivery-at-requires
+    organisation-len-requires
+    one-if-requires
+    add-rows
+    add-bytes
+    add-next-wanted
+    next-wanted-requires-2
+    loop-less
+    loop-again
+    returns)

@@ -1,4 +1,0 @@
-pub mod Bisect
-pub mod Force
-pub mod Keys
-pub mod Last

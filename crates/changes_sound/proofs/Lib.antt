@@ -1,0 +1,8 @@
+pub mod Numbers
+pub mod Live
+pub mod Texts
+pub mod Rows
+pub mod Follower
+pub mod Addresses
+pub mod Size
+pub mod Sound

@@ -1,0 +1,33 @@
+-- Which views of a pair of files are packed for a code, by their places in the point file.
+-- Assumes nothing.
+use Prim.Native.Nat.{ℕ, _≤_, _<_}
+use mathlib.Core.Path.{_≡_}
+use mathlib.Core.Bool.{true}
+use mathlib.Core.List.{List, [], _∷_}
+use Rattle.file_record.specs.Parts.{recordAt}
+use Rattle.changes_views.specs.Views.{lastOf, wanted, viewNumber}
+use Rattle.source.specs.Address.{Address}
+use Rattle.changes_source.specs.Addresses.{addressAt, addressesIn, kept}
+use Rattle.pack.specs.Cutting.{inCode}
+
+-- "the live views of that outward code in file order"
+abbrev pub liveIn : (points code : List ℕ) → List Address
+liveIn points code = inCode code (kept (addressesIn points))
+
+-- the view at a place, with its number
+abbrev pub viewAt : List ℕ → ℕ → Address
+viewAt points place = addressAt points (viewNumber points place) place
+
+abbrev pub viewsAt : List ℕ → List ℕ → List Address
+viewsAt points [] = []
+viewsAt points (place ∷ places) = viewAt points place ∷ viewsAt points places
+
+-- a place between header and trailer at which a wanted record stands
+pub record WantedPlace (code points : List ℕ) (place : ℕ) : Type 0 where
+  pub low : 1 ≤ place
+  pub high : place < lastOf points
+  pub is-wanted : wanted code (recordAt 168 points place) ≡ true
+
+abbrev pub WantedPlaces : List ℕ → List ℕ → List ℕ → Type 0
+WantedPlaces code points [] = Unit {0}
+WantedPlaces code points (place ∷ places) = WantedPlace code points place × WantedPlaces code points places

@@ -1,0 +1,130 @@
+-- `changes_source::delivery_at` meets its contract. Assumes nothing.
+use borrow.Author.Needs.{needs}
+use Prim.Native.Nat.{_+_, _<_}
+use mathlib.Core.Path.{refl}
+use native.Mathlib.Omega.{arith}
+use Rattle.field.proofs.Texts.{part-bound}
+use Rattle.field.proofs.Fronts.{value-small, four-digits}
+use Rattle.changes_source.specs.Delivery.{deliveryAt}
+use Rattle.changes_source.proofs.Keys.{start-within}
+use Rattle.changes_source.proofs.delivery_at.Statement.{statement}
+use Rattle.changes_source.proofs.delivery_at.Tie as tie
+
+-- a place in the file, and what is added to it, fit
+module _ (s : tie.After-start-at) where
+  at-fits : s .start-at .result + 210 < 18_446_744_073_709_551_616
+  at-fits =
+      let start = s .before .before .before in
+      omega (arith, s .start-at .ensures, start-within (start .args .points .now) (start .args .i), start .good .0 .1)
+
+point-record-requires : tie.Need-point-record-requires
+point-record-requires c κs = search needs
+
+start-at-requires : tie.Need-start-at-requires
+start-at-requires c κs = search needs
+
+part-of-requires : tie.Need-part-of-requires
+part-of-requires c κs = search needs
+
+part-of-requires-2 : tie.Need-part-of-requires-2
+part-of-requires-2 c κs = search needs
+
+part-of-requires-3 : tie.Need-part-of-requires-3
+part-of-requires-3 c κs = search needs
+
+keys-in-requires : tie.Need-keys-in-requires
+keys-in-requires c κs = search needs
+
+value-of-requires : tie.Need-value-of-requires
+value-of-requires c κs = search needs
+
+cast-t10 : tie.Need-cast-t10
+cast-t10 c =
+    let p = c .before .before .before .before in
+    let bound = part-bound (p .before .before .point-record .result .now) 82 86 in
+    omega (arith, c .value-of .ensures, four-digits (p .part-of .result .now) (rw (p .part-of .ensures) bound))
+
+value-of-requires-2 : tie.Need-value-of-requires-2
+value-of-requires-2 c κs = search needs
+
+cast-t12 : tie.Need-cast-t12
+cast-t12 c =
+    let p = c .before .before .before .before in
+    omega (arith, c .value-of2 .ensures, value-small (p .part-of2 .result .now))
+
+value-of-requires-3 : tie.Need-value-of-requires-3
+value-of-requires-3 c κs = search needs
+
+cast-t14 : tie.Need-cast-t14
+cast-t14 c =
+    let p = c .before .before .before .before in
+    omega (arith, c .value-of3 .ensures, value-small (p .part-of3 .result .now))
+
+byte-of-requires : tie.Need-byte-of-requires
+byte-of-requires c κs = search needs
+
+byte-of-requires-2 : tie.Need-byte-of-requires-2
+byte-of-requires-2 c κs = search needs
+
+add-t18 : tie.Need-add-t18
+add-t18 c = omega (arith, at-fits (c .before .before .before .before .before .before .before .before .before))
+
+add-t19 : tie.Need-add-t19
+add-t19 c = omega (arith, at-fits (c .before .before .before .before .before .before .before .before .before))
+
+add-t20 : tie.Need-add-t20
+add-t20 c = omega (arith, at-fits (c .before .before .before .before .before .before .before .before .before))
+
+needed-next-requires : tie.Need-needed-next-requires
+needed-next-requires c κs = search needs
+
+add-t23 : tie.Need-add-t23
+add-t23 c =
+    omega (arith, at-fits (c .before .before .before .before .before .before .before .before .before .before))
+
+returns : tie.Need-returns
+unfolding deliveryAt
+returns c =
+    let v3 = c .before .before .before in
+    let v1 = v3 .before .before in
+    let p3 = v1 .before .before in
+    let p1 = p3 .before .before in
+    rw (
+      c .needed-next .ensures,
+      c .before .byte-of2 .ensures,
+      c .before .before .byte-of .ensures,
+      v3 .value-of3 .ensures,
+      v3 .before .value-of2 .ensures,
+      v1 .value-of .ensures,
+      v1 .before .keys-in .ensures,
+      p3 .part-of3 .ensures,
+      p3 .before .part-of2 .ensures,
+      p1 .part-of .ensures,
+      p1 .before .start-at .ensures,
+      p1 .before .before .point-record .ensures,
+    ) refl
+
+pub delivery-at-spec : {M : Type 1} → statement M
+delivery-at-spec =
+    tie.close
+    (tie.spec
+    point-record-requires
+    start-at-requires
+    part-of-requires
+    part-of-requires-2
+    part-of-requires-3
+    keys-in-requires
+    value-of-requires
+    cast-t10
+    value-of-requires-2
+    cast-t12
+    value-of-requires-3
+    cast-t14
+    byte-of-requires
+    byte-of-requires-2
+    add-t18
+    add-t19
+    add-t20
+    needed-next-requires
+    add-t23
+    returns)

@@ -1,0 +1,5 @@
+pub mod Bisect
+pub mod Search
+pub mod Force
+pub mod Last
+pub mod Stock

@@ -1,0 +1,42 @@
+-- The rows of a source as a builder sees them: numbered, each standing for a number and having texts, whichever shelves they
+-- stand on.
+-- Assumes nothing.
+use Prim.Native.Nat.{ℕ, suc, _≤_, _<_}
+use mathlib.Core.Path.{_≡_}
+use mathlib.Core.Bool.{cond}
+use mathlib.Core.List.{List}
+use mathlib.Core.Option.{Option, none, some}
+use lib.Dec.{eqb}
+use Rattle.source.specs.Address.{Lookup, ref}
+use Rattle.shelf.specs.declared.Shelf.{Shelf}
+use Rattle.shelf.specs.Shelf.{refAt, lastOf, textsAt, rowOf}
+
+pub record Stock : Type 0 where
+  -- rows are those from 1 on below this
+  pub last : ℕ
+  pub stands-for : ℕ → ℕ
+  pub texts : ℕ → List (List ℕ)
+  -- the row in force for a number, 0 where none is
+  pub row : ℕ → ℕ
+
+abbrev pub stockOf : Shelf → List ℕ → Stock
+stockOf s file =
+    record { last = lastOf s file; stands-for = refAt s file; texts = textsAt s file; row = rowOf s file }
+
+-- what a kind and a key find: the texts of the row in force for them
+abbrev pub textsOrNone : Stock → ℕ → Option (List (List ℕ))
+textsOrNone st row = cond (eqb row 0) none (some (st .texts row))
+
+unfoldable pub lookIn : Stock → Lookup
+lookIn st kind key = textsOrNone st (st .row (ref kind key))
+
+-- what a builder rests on
+pub record Good (st : Stock) : Type 0 where
+  -- rows of types 1 to 5
+  pub low : (i : ℕ) → 1 ≤ i → i < st .last → 0 < st .stands-for i
+  pub high : (i : ℕ) → 1 ≤ i → i < st .last → st .stands-for i < 600_000_000
+  -- a row in force is the last that stands for its number, and those behind it stand for more
+  pub rise : (i j : ℕ) → 1 ≤ i → i < j → j < st .last → st .row (st .stands-for i) ≡ i
+      → st .stands-for i < st .stands-for j
+  -- a number finds a row that stands for it
+  pub found : (r p : ℕ) → st .row r ≡ suc p → (suc p < st .last) × (st .stands-for (suc p) ≡ r)

@@ -1,0 +1,75 @@
+-- `shelf_find::inner::rows_by` meets its contract. The invariant: the keys before i have their rows. Assumes nothing.
+use borrow.Author.Needs.{needs}
+use Prim.Native.Nat.{_-_}
+use mathlib.Core.Path.{refl}
+use Rattle.shelf.specs.Search.{found}
+use Rattle.shelf_find.proofs.Rows.{RowsTo, rows-none, rows-next, rows-all}
+use Rattle.shelf_find.proofs.inner.rows_by.Statement.{statement}
+use Rattle.shelf_find.proofs.inner.rows_by.Tie as tie
+
+abbrev Inv-loop : tie.InvT-loop
+Inv-loop file s refs keys rows₀ i₀ rows i = RowsTo (found s file) keys rows i
+
+abbrev μ-loop : tie.MeasureT-loop
+μ-loop file s refs keys rows₀ i₀ rows i = 7 - i
+
+loop-holds : tie.Need-loop-holds Inv-loop μ-loop
+loop-holds c =
+    let a = c .before .before .args in rows-none (found (a .s) (a .file .now)) (a .t4) _ refl
+
+array-read-ref-for : tie.Need-array-read-ref-for Inv-loop μ-loop
+array-read-ref-for c = search needs
+
+mul-ref-for : tie.Need-mul-ref-for Inv-loop μ-loop
+mul-ref-for c = search needs
+
+array-read-ref-for-2 : tie.Need-array-read-ref-for-2 Inv-loop μ-loop
+array-read-ref-for-2 c = search needs
+
+ref-for-requires : tie.Need-ref-for-requires Inv-loop μ-loop
+ref-for-requires c κs = search needs
+
+mul-rows : tie.Need-mul-rows Inv-loop μ-loop
+mul-rows c = search needs
+
+array-write-rows : tie.Need-array-write-rows Inv-loop μ-loop
+array-write-rows c = search needs
+
+add-i : tie.Need-add-i Inv-loop μ-loop
+add-i c = search needs
+
+loop-less : tie.Need-loop-less Inv-loop μ-loop
+loop-less c = search needs
+
+loop-again : tie.Need-loop-again Inv-loop μ-loop
+loop-again c =
+    let l = c .before .before in
+    let a = l .before .before .before .args in
+    rows-next (found (a .s) (a .file .now)) (a .t4) (l .loop .rows) (l .loop .i) (l .loop .inv) (c .ref-for .result)
+    (c .before .loop-test .taken) (c .ref-for .ensures)
+
+returns : tie.Need-returns Inv-loop μ-loop
+returns c =
+    let l = c .before in
+    let start = l .before .before .before in
+    let a = start .args in
+    rows-all (found (a .s) (a .file .now)) (a .t4) (l .loop .rows) (l .loop .i) (l .loop .inv) (start .good .1 .1 .1 .0 .1 .0 .1)
+    (c .loop-test .left)
+
+pub rows-by-spec : {M : Type 1} → statement M
+rows-by-spec =
+    tie.close
+    (tie.spec
+    Inv-loop
+    μ-loop
+    loop-holds
+    array-read-ref-for
+    mul-ref-for
+    array-read-ref-for-2
+    ref-for-requires
+    mul-rows
+    array-write-rows
+    add-i
+    loop-less
+    loop-again
+    returns)

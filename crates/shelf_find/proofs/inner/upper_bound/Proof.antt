@@ -1,0 +1,81 @@
+-- `shelf_find::inner::upper_bound` meets its contract. The invariant: what is left to search gives the same place. Assumes
+-- nothing.
+use borrow.Author.Needs.{needs}
+use Prim.Native.Nat.{_-_}
+use Rattle.shelf.specs.Shelf.{refAt, lastOf}
+use Rattle.shelf.proofs.Search.{Left, left-all, left-low, left-high, left-none}
+use Rattle.shelf_find.proofs.inner.upper_bound.Statement.{statement}
+use Rattle.shelf_find.proofs.inner.upper_bound.Tie as tie
+
+abbrev Inv-loop : tie.InvT-loop
+Inv-loop file s r low₀ high₀ low high = Left (refAt s file) (lastOf s file) r low high
+
+abbrev μ-loop : tie.MeasureT-loop
+μ-loop file s r low₀ high₀ low high = high - low
+
+last-of-requires : tie.Need-last-of-requires Inv-loop μ-loop
+last-of-requires c κs = search needs
+
+loop-holds : tie.Need-loop-holds Inv-loop μ-loop
+loop-holds c =
+    let a = c .before .before .args in
+    rw (c .last-of .ensures) (left-all (refAt (a .s) (a .file .now)) (a .r) (lastOf (a .s) (a .file .now)))
+
+sub-middle : tie.Need-sub-middle Inv-loop μ-loop
+sub-middle c = search needs
+
+add-middle : tie.Need-add-middle Inv-loop μ-loop
+add-middle c = search needs
+
+ref-at-requires : tie.Need-ref-at-requires Inv-loop μ-loop
+ref-at-requires c κs = search needs
+
+loop-less : tie.Need-loop-less Inv-loop μ-loop
+loop-less c = search needs
+
+loop-again : tie.Need-loop-again Inv-loop μ-loop
+loop-again c =
+    let k = c .before in
+    let l = k .before .before in
+    let a = l .before .before .before .args in
+    left-low (refAt (a .s) (a .file .now)) (a .r) (lastOf (a .s) (a .file .now)) (l .loop .low) (l .loop .high)
+    (l .loop .inv) (k .before .loop-test .taken) (rw (k .ref-at .ensures .0) at (c .if1 .taken))
+
+add-low : tie.Need-add-low Inv-loop μ-loop
+add-low c = search needs
+
+loop-less-2 : tie.Need-loop-less-2 Inv-loop μ-loop
+loop-less-2 c = search needs
+
+loop-again-2 : tie.Need-loop-again-2 Inv-loop μ-loop
+loop-again-2 c =
+    let k = c .before in
+    let l = k .before .before in
+    let a = l .before .before .before .args in
+    left-high (refAt (a .s) (a .file .now)) (a .r) (lastOf (a .s) (a .file .now)) (l .loop .low) (l .loop .high)
+    (l .loop .inv) (k .before .loop-test .taken) (rw (k .ref-at .ensures .0) at (c .if1 .left))
+
+returns : tie.Need-returns Inv-loop μ-loop
+returns c =
+    let l = c .before in
+    let a = l .before .before .before .args in
+    left-none (refAt (a .s) (a .file .now)) (a .r) (lastOf (a .s) (a .file .now)) (l .loop .low) (l .loop .high)
+    (l .loop .inv) (c .loop-test .left)
+
+pub upper-bound-spec : {M : Type 1} → statement M
+upper-bound-spec =
+    tie.close
+    (tie.spec
+    Inv-loop
+    μ-loop
+    last-of-requires
+    loop-holds
+    sub-middle
+    add-middle
+    ref-at-requires
+    loop-less
+    loop-again
+    add-low
+    loop-less-2
+    loop-again-2
+    returns)

@@ -1,0 +1,2 @@
+// Records of a shelf, and their numbers.
+pub mod inner;

@@ -1,0 +1,42 @@
+-- `source_keys::missing_in` meets its contract. Assumes nothing.
+use borrow.Author.Needs.{needs}
+use mathlib.Core.Path.{_≡_, refl, sym, ap, _∙_}
+use borrow.Author.Tests.{eq-eqb, ne-eqb}
+use Rattle.source.specs.Delivery.{missingIn}
+use Rattle.source_keys.proofs.missing_in.Statement.{statement}
+use Rattle.source_keys.proofs.missing_in.Tie as tie
+
+array-read-if1 : tie.Need-array-read-if1
+array-read-if1 c = search needs
+
+returns : tie.Need-returns
+unfolding missingIn
+returns c = simp (eq-eqb _ 0 (c .if1 .taken))
+
+first-lacking-requires : tie.Need-first-lacking-requires
+first-lacking-requires c κs = search needs
+
+first-rule-requires : tie.Need-first-rule-requires
+first-rule-requires c κs = search needs
+
+first-rule-requires-2 : tie.Need-first-rule-requires-2
+first-rule-requires-2 c κs = search needs
+
+returns-2 : tie.Need-returns-2
+unfolding missingIn
+returns-2 c =
+    let c₁ = c .before in
+    let c₂ = c₁ .before in
+    rw (c .first-rule2 .ensures, c₁ .first-rule .ensures, c₂ .first-lacking .ensures)
+    (simp (ne-eqb _ 0 (c₂ .before .if1 .left)))
+
+pub missing-in-spec : {M : Type 1} → statement M
+missing-in-spec =
+    tie.close
+    (tie.spec
+    array-read-if1
+    returns
+    first-lacking-requires
+    first-rule-requires
+    first-rule-requires-2
+    returns-2)
