@@ -13,12 +13,11 @@ use lib.ListN.{length, getD, set, length-append, length-set}
 use lib.Seq.{getD-set-same, getD-set-other}
 use Rattle.field.specs.Text.{textIn}
 use Rattle.source.specs.Address.{kindOf}
-use Rattle.source.specs.declared.DeliveryPoint.{DeliveryPoint}
 use Rattle.shelf.specs.declared.Shelf.{Shelf}
 use Rattle.shelf.specs.Shelf.{textWidth, recordOf, refAt, textsAt}
 use Rattle.shelf.specs.Stock.{Stock, stockOf}
 use Rattle.pack.specs.Layout.{textsBytes}
-use Rattle.build.specs.Plan.{organisationRow}
+use Rattle.build.specs.Plan.{organisationBytes}
 use Rattle.build.specs.Rows.{rowBytesAt, isMarked, sizeAt, bytesTo, countTo, rowsFrom}
 use Rattle.build.specs.Placed.{startOf, started}
 use Rattle.build.specs.Bytes.{twoTexts, usedAt}
@@ -148,23 +147,21 @@ rows-step st starts i h = rw (let k : st .last - i ≡ suc (st .last - suc i) = 
 pub rows-end : (st : Stock) (starts : List ℕ) (i : ℕ) → st .last ≤ i → rowsLeft st starts i ≡ []
 rows-end st starts i h = rw (let k : st .last - i ≡ 0 = omega arith in k)
 
--- the organisation's row of a delivery point
-module _ (others : List ℕ) (p : DeliveryPoint) where
-  pub no-organisation : p .organised ≡ false → [] ≡ organisationRow others p
-  unfolding organisationRow
+-- the row of an organisation whose texts stand at a place, if it is there
+module _ (others : List ℕ) (there : Bool) (at : ℕ) where
+  pub no-organisation : there ≡ false → [] ≡ organisationBytes others there at
+  unfolding organisationBytes
   no-organisation e = simp e
 
-  pub some-organisation : p .organised ≡ true
-      → 6 ∷ textsBytes (twoTexts others (p .organisation) (p .organisation + 60) (p .organisation + 120))
-      ≡ organisationRow others p
-  unfolding organisationRow
+  pub some-organisation : there ≡ true
+      → 6 ∷ textsBytes (twoTexts others at (at + 60) (at + 120)) ≡ organisationBytes others there at
+  unfolding organisationBytes
   some-organisation e = simp e
 
-  pub an-organisation : p .organised ≡ true
-      → length (organisationRow others p)
-      ≡ 1 + suc (length (textIn others (p .organisation) (p .organisation + 60)))
-      + suc (length (textIn others (p .organisation + 60) (p .organisation + 120)))
+  pub an-organisation : there ≡ true
+      → length (organisationBytes others there at)
+      ≡ 1 + suc (length (textIn others at (at + 60))) + suc (length (textIn others (at + 60) (at + 120)))
   an-organisation e =
-      let a = textIn others (p .organisation) (p .organisation + 60) in
-      let b = textIn others (p .organisation + 60) (p .organisation + 120) in
+      let a = textIn others at (at + 60) in
+      let b = textIn others (at + 60) (at + 120) in
       omega (arith, ap length (some-organisation e), length-append a (textsBytes (b ∷ [])), length-append b [])

@@ -79,18 +79,6 @@ module _ {others : List ℕ} {all : List Packed} {rows bytes : ℕ} where
       → (rows ≡ organisationCount all) × (bytes ≡ length (organisationRows others all))
   summing-end m = (omega (arith, m .count), omega (arith, m .size))
 
--- an organisation is there where its row has bytes
-pub organised-by-bytes : (others : List ℕ) (p : DeliveryPoint)
-    → _≡_ {A = ℕ} (cond (not (eqb (length (organisationRow others p)) 0)) 1 0) (cond (p .organised) 1 0)
-organised-by-bytes others p = by-test (p .organised) refl
-  where
-    by-test : (t : Bool) → p .organised ≡ t
-        → _≡_ {A = ℕ} (cond (not (eqb (length (organisationRow others p)) 0)) 1 0) (cond t 1 0)
-    by-test true e =
-        let some = an-organisation others p e in
-        simp (ne-eqb (length (organisationRow others p)) 0 (λ z. omega (arith, some, z)))
-    by-test false e = rw (sym (no-organisation others p e))
-
 -- writing: room for the next one, and what is left behind it
 module _ {whole o x : List ℕ} {s i : ℕ} (d : Packed) (ds : List Packed) (h : s + length whole ≤ length o) where
   module _ (others : List ℕ) (g : Going whole (organisationRows others (d ∷ ds)) o s i x) where

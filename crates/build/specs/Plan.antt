@@ -58,15 +58,12 @@ markAll st [] marks = marks
 markAll st (d ∷ ds) marks = markAll st ds (markRows (rowsOf st (d .point)) marks)
 
 -- "one row of type 6 (organisation, department) for each packed view with a follower": that of a delivery point, if any
-unfoldable pub organisationRow : List ℕ → DeliveryPoint → List ℕ
-organisationRow others p =
-    cond (p .organised)
-    (6
-    ∷ textsBytes
-    (textIn others (p .organisation) (p .organisation + 60)
-    ∷ textIn others (p .organisation + 60) (p .organisation + 120)
-    ∷ []))
-    []
+unfoldable pub organisationBytes : List ℕ → (there : Bool) → (at : ℕ) → List ℕ
+organisationBytes others there at =
+    cond there (6 ∷ textsBytes (textIn others at (at + 60) ∷ textIn others (at + 60) (at + 120) ∷ [])) []
+
+abbrev pub organisationRow : List ℕ → DeliveryPoint → List ℕ
+organisationRow others p = organisationBytes others (p .organised) (p .organisation)
 
 abbrev pub organisationRows : List ℕ → List Packed → List ℕ
 organisationRows others [] = []

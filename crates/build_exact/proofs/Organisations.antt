@@ -11,7 +11,7 @@ use Rattle.source.specs.Address.{Organisation, none-needed, named, lacking, Add
 use Rattle.pack.specs.Numbers.{bytesOf}
 use Rattle.pack.specs.Names.{absent}
 use Rattle.pack.specs.Layout.{Entry, entry, organisationEntry, organisationEntries, textsBytes, entryBytes, entriesBytes, organisationRef, offsetOf, refBytes}
-use Rattle.build.specs.Plan.{Packed, organisationRow, organisationRows, organisationCount}
+use Rattle.build.specs.Plan.{Packed, organisationBytes, organisationRow, organisationRows, organisationCount}
 use Rattle.build.specs.Bytes.{organisationOffset}
 use Rattle.build_exact.specs.Started.{PackedSays, AllSay, none-says, one-says, Rising}
 
@@ -30,7 +30,7 @@ organisationBy organised lack name department = cond organised (named name depar
 module _ {own others : List ℕ} {d : Packed} {a : Address} (s : PackedSays own others d a) where
   row-is : d .view < 100_000_000
       → entriesBytes (organisationEntry (a .view) (a .organisation)) ≡ organisationRow others (d .point)
-  unfolding organisationRow
+  unfolding organisationBytes
   row-is small =
       ap (λ (o : Organisation). entriesBytes (organisationEntry (a .view) o)) (sym (s .says .organisation))
       ∙ by-tests (d .point .organised) (d .point .lacking) _ _

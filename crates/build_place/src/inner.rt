@@ -1,6 +1,5 @@
 // The places of the rows of a shelf: the caller knows that its fields lie within its records, and how many there are.
 use shelf::Shelf;
-use source::DeliveryPoint;
 ghost use mathlib.Core.Path.{_≡_};
 ghost use mathlib.Core.Bool.{cond};
 ghost use Prim.Native.Nat.{suc, _+_, _-_, _≤_, _<_};
@@ -8,7 +7,7 @@ ghost use lib.ListN.{length};
 ghost use Rattle.field.specs.Text.{textIn};
 ghost use Rattle.shelf.specs.Shelf.{Fit, lastOf, textWidth};
 ghost use Rattle.shelf.specs.Stock.{stockOf};
-ghost use Rattle.build.specs.Plan.{organisationRow};
+ghost use Rattle.build.specs.Plan.{organisationBytes};
 ghost use Rattle.build.specs.Rows.{rowBytesAt, sizeAt, allBytes, allCount};
 ghost use Rattle.build.specs.Placed.{started, Placed};
 
@@ -94,15 +93,15 @@ pub fn place_rows(file: &[u8], s: Shelf, marks: &mut [u32]) -> Sums
     Sums { rows, bytes }
 }
 
-// The bytes of an organisation's row: 0 where there is none, otherwise its name 60 and department 60 stand at a place.
-pub fn organisation_len(others: &[u8], p: DeliveryPoint) -> usize
-    requires { ⌜ p .organisation + 120 ≤ length (now others) ⌝ }
-    ensures { λ r. ⌜ (r ≡ length (organisationRow (now (others .entry)) p)) × (r ≤ 123) ⌝ }
+// The bytes of an organisation's row: 0 where it is not there, otherwise its name 60 and department 60 stand at a place.
+pub fn organisation_len(others: &[u8], there: bool, at: usize) -> usize
+    requires { ⌜ at + 120 ≤ length (now others) ⌝ }
+    ensures { λ r. ⌜ (r ≡ length (organisationBytes (now (others .entry)) there at)) × (r ≤ 123) ⌝ }
 {
-    if !p.organised {
+    if !there {
         return 0;
     }
-    let name = text_len(others, p.organisation, p.organisation + 60);
-    let department = text_len(others, p.organisation + 60, p.organisation + 120);
+    let name = text_len(others, at, at + 60);
+    let department = text_len(others, at + 60, at + 120);
     1 + name + department
 }

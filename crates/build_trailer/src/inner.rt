@@ -31,7 +31,8 @@ pub fn trailer_at(
     out: &mut [u8],
 ) -> usize
     requires { ⌜ TrailerFits rows start count (now code) at (now out) ⌝ }
-    ensures { λ r. ⌜ Put (trailerBytes newest rows start count (now (code .entry))) (now (out .entry)) at r (now (out .exit)) ⌝ }
+    ensures { λ r. ⌜ Put (trailerBytes newest rows start count (now (code .entry)))
+        (now (out .entry)) at r (now (out .exit)) ⌝ }
 {
     let bytes = start + NewestPack::POINT * count + NewestPack::TRAILER;
     let i = word_at(rows, at, out);

@@ -1,7 +1,10 @@
 // The walks over the views of a code: each reads a view as a delivery point and hands it on.
 use build_place::inner::Sums;
 use build_place::inner::one_if;
+use build_place::inner::organisation_len;
 use changes_source::delivery_at;
+use changes_source::organisation_place;
+use changes_source::organised_at;
 use changes_source::table_shelf;
 use changes_views::last_of;
 use changes_views::next_wanted;
@@ -59,9 +62,9 @@ pub fn organisations_in(points: &[u8], code: &[u8]) -> Sums
     let mut bytes = 0;
     let mut at = next_wanted(points, code, 1);
     while at < last {
-        let len = build_place::inner::organisation_len(points, delivery_at(points, at));
-        rows += one_if(len != 0);
-        bytes += len;
+        let there = organised_at(points, at);
+        rows += one_if(there);
+        bytes += organisation_len(points, there, organisation_place(points, at));
         at = next_wanted(points, code, at + 1);
     }
     Sums { rows, bytes }
@@ -77,7 +80,9 @@ pub fn organisations_at(points: &[u8], code: &[u8], at: usize, out: &mut [u8]) -
     let mut end = at;
     let mut place = next_wanted(points, code, 1);
     while place < last {
-        end = build_rows::inner::organisation_at(points, delivery_at(points, place), end, out);
+        let there = organised_at(points, place);
+        let texts = organisation_place(points, place);
+        end = build_rows::inner::organisation_at(points, there, texts, end, out);
         place = next_wanted(points, code, place + 1);
     }
     end
@@ -112,7 +117,7 @@ pub fn points_at(
         let keys = p.keys;
         let found = rows_by(table, s, refs, keys);
         end = build_points::inner::point_at(points, starts, p, found, row, end, out);
-        row += build_place::inner::organisation_len(points, p);
+        row += organisation_len(points, p.organised, p.organisation);
         place = next_wanted(points, code, place + 1);
     }
     end

@@ -42,7 +42,9 @@ pub fn label_in_code<'a>(
     k: usize,
     out: &mut [u8],
 ) -> Answer
-    ensures { λ r. ⌜ (r ≡ codeAnswer (now (table .entry)) (now (points .entry)) (now (code .entry)) k (now (out .entry))) × (now (out .exit) ≡ codeMemory (now (table .entry)) (now (points .entry)) (now (code .entry)) k (now (out .entry))) ⌝ }
+    ensures { λ r. ⌜ (r ≡ codeAnswer (now (table .entry)) (now (points .entry)) (now (code .entry)) k (now (out .entry)))
+        × (now (out .exit) ≡ codeMemory (now (table .entry)) (now (points .entry)) (now (code .entry)) k
+        (now (out .entry))) ⌝ }
 {
     match check_pair(table, points) {
         Answer::Value(_) => {

@@ -1,5 +1,6 @@
 // What a pair of files says: the table file as a shelf, and a view of the point file as a delivery point.
 use file_record::Locality;
+use file_record::Organisation;
 use file_record::Point;
 use file_record::Table;
 use file_record::View;
@@ -19,6 +20,9 @@ const KEY_PLACES: [usize; 7] = [
     View::BUILDING,
     View::SUB_BUILDING,
 ];
+
+// Where the texts of its follower start, counted from a view's own start.
+const FOLLOWER_TEXTS: usize = Point::WIDTH + Organisation::NAME;
 
 // How a table file is read.
 pub fn table_shelf() -> Shelf
@@ -60,6 +64,20 @@ fn start_at(points: &[u8], i: usize) -> usize
     }
 }
 
+// Whether the view at a place of a point file has an organisation.
+pub fn organised_at(points: &[u8], i: usize) -> bool
+    ensures { λ r. ⌜ r ≡ (deliveryAt (now (points .entry)) i) .organised ⌝ }
+{
+    file::needed_next(file_record::point_record(points, i)) != 0
+}
+
+// Where the texts of its organisation stand: in the record behind it.
+pub fn organisation_place(points: &[u8], i: usize) -> usize
+    ensures { λ r. ⌜ r ≡ (deliveryAt (now (points .entry)) i) .organisation ⌝ }
+{
+    start_at(points, i) + FOLLOWER_TEXTS
+}
+
 // What is known of the view at a place of a point file.
 pub fn delivery_at(points: &[u8], i: usize) -> DeliveryPoint
     ensures { λ r. ⌜ r ≡ deliveryAt (now (points .entry)) i ⌝ }
@@ -81,8 +99,7 @@ pub fn delivery_at(points: &[u8], i: usize) -> DeliveryPoint
         suffix: at + Point::SUFFIX,
         po_box: at + View::PO_BOX,
         organised: file::needed_next(rec) != 0,
-        // of the record behind it
-        organisation: at + 210,
+        organisation: at + FOLLOWER_TEXTS,
         lacking: false,
     }
 }

@@ -10,8 +10,8 @@ use Rattle.build_place.proofs.inner.organisation_len.Tie as tie
 
 returns : tie.Need-returns
 returns c =
-    let a = c .before .before .before .args in
-    (ap length (no-organisation (a .others .now) (a .p) (not-true _ (c .if1 .taken))), omega arith)
+    let a = c .before .before .args in
+    (ap length (no-organisation (a .others .now) (a .there) (a .at) (not-true _ (c .if1 .taken))), omega arith)
 
 add-text-len : tie.Need-add-text-len
 add-text-len c = search needs
@@ -36,10 +36,10 @@ add-result-2 c = search needs
 
 returns-2 : tie.Need-returns-2
 returns-2 c =
-    let name = c .before .before .before in
-    let at-if = name .before .before in
-    let a = at-if .before .before .before .args in
-    let whole = an-organisation (a .others .now) (a .p) (not-false _ (at-if .if1 .left)) in
+    let name = c .before in
+    let at-if = name .before in
+    let a = at-if .before .before .args in
+    let whole = an-organisation (a .others .now) (a .there) (a .at) (not-false _ (at-if .if1 .left)) in
     let n = name .text-len .ensures in
     let d = c .text-len2 .ensures in
     (omega (arith, whole, n .0, d .0), omega (arith, n .1, d .1))

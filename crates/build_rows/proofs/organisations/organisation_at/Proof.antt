@@ -13,15 +13,15 @@ use Rattle.build_rows.proofs.organisations.organisation_at.Tie as tie
 
 returns : tie.Need-returns
 returns c =
-    let a = c .before .before .before .before .args in
-    put-as (no-organisation (a .others .now) (a .p) (not-true _ (c .if1 .taken))) (put-none (a .out .now) (a .at))
+    let a = c .before .before .before .args in
+    put-as (no-organisation (a .others .now) (a .there) (a .texts) (not-true _ (c .if1 .taken))) (put-none (a .out .now) (a .at))
 
 byte-at-requires : tie.Need-byte-at-requires
 byte-at-requires c κs =
     let at-if = c .before in
-    let s = at-if .before .before .before .before in
+    let s = at-if .before .before .before in
     let a = s .args in
-    let some = some-organisation (a .others .now) (a .p) (not-false _ (at-if .if1 .left)) in
+    let some = some-organisation (a .others .now) (a .there) (a .texts) (not-false _ (at-if .if1 .left)) in
     omega (arith, room-as (a .out .now) (a .at) some (s .pre .1))
 
 add-two-texts-at : tie.Need-add-two-texts-at
@@ -32,12 +32,12 @@ add-two-texts-at-2 c = search needs
 
 two-texts-at-requires : tie.Need-two-texts-at-requires
 two-texts-at-requires c κs =
-    let six = c .before .before .before .before .before in
+    let six = c .before .before .before in
     let at-if = six .before .before in
-    let s = at-if .before .before .before .before in
+    let s = at-if .before .before .before in
     let a = s .args in
-    let o = a .p .organisation in
-    let some = some-organisation (a .others .now) (a .p) (not-false _ (at-if .if1 .left)) in
+    let o = a .texts in
+    let some = some-organisation (a .others .now) (a .there) (a .texts) (not-false _ (at-if .if1 .left)) in
     let texts = textsBytes (twoTexts (a .others .now) o (o + 60) (o + 120)) in
     ((omega arith, omega arith), room-after texts (six .byte-at .ensures) (room-as (a .out .now) (a .at) some (s .pre .1)))
 
@@ -47,11 +47,11 @@ same-length c = search needs
 returns-2 : tie.Need-returns-2
 returns-2 c =
     let texts = c .before .before in
-    let six = texts .before .before .before .before .before .before in
+    let six = texts .before .before .before .before in
     let at-if = six .before .before in
-    let s = at-if .before .before .before .before in
+    let s = at-if .before .before .before in
     let a = s .args in
-    let some = some-organisation (a .others .now) (a .p) (not-false _ (at-if .if1 .left)) in
+    let some = some-organisation (a .others .now) (a .there) (a .texts) (not-false _ (at-if .if1 .left)) in
     put-as some
     (put-then (six .byte-at .ensures) (texts .two-texts-at .ensures) (room-as (a .out .now) (a .at) some (s .pre .1)))
 

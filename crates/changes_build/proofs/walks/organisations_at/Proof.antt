@@ -2,15 +2,14 @@
 -- views from it on are left to write. Assumes nothing.
 use borrow.Author.Needs.{needs}
 use Prim.Native.Nat.{_+_, _-_, _<_}
-use mathlib.Core.Path.{_≡_, refl, ap, _∙_}
+use mathlib.Core.Path.{_≡_, refl, ap, ap₂, _∙_}
 use native.Mathlib.Omega.{arith}
 use lib.ListN.{length}
 use Rattle.changes_views.specs.Views.{lastOf, nextWanted}
 use Rattle.changes_views.proofs.Laws.{next-next, next-range}
-use Rattle.source.specs.declared.DeliveryPoint.{DeliveryPoint}
 use Rattle.label.proofs.Puts.{put-as}
 use Rattle.label.proofs.Going.{Going, going-start, going-as, going-end}
-use Rattle.build.specs.Plan.{organisationRow, organisationRows}
+use Rattle.build.specs.Plan.{organisationBytes, organisationRows}
 use Rattle.build.proofs.Walks.{organisation-room, organisation-on}
 use Rattle.changes_build.specs.Views.{packedAt, packedIn}
 use Rattle.changes_build.proofs.Packed.{packedFrom, packed-start, packed-step, packed-end, view-within}
@@ -45,12 +44,16 @@ loop-holds c =
           (going-start (organisationRows points (packedIn points code)) (a .out .now) (a .at)),
     )
 
-delivery-at-requires : tie.Need-delivery-at-requires Inv-loop μ-loop
-delivery-at-requires c κs = search needs
+organised-at-requires : tie.Need-organised-at-requires Inv-loop μ-loop
+organised-at-requires c κs = search needs
+
+organisation-place-requires : tie.Need-organisation-place-requires Inv-loop μ-loop
+organisation-place-requires c κs = search needs
 
 organisation-at-requires : tie.Need-organisation-at-requires Inv-loop μ-loop
 organisation-at-requires c κs =
-    let d = c .before in
+    let t = c .before in
+    let d = t .before in
     let l = d .before .before in
     let f = l .before .before in
     let s = f .before .before .before .before in
@@ -60,7 +63,7 @@ organisation-at-requires c κs =
     let high : i < lastOf points = omega (arith, f .last-of .ensures) in
     let step = packed-step points code i (l .loop .inv .1) high in
     let rest = packedFrom points code (nextWanted code points (i + 1)) in
-    rw (d .delivery-at .ensures) (
+    rw (d .organised-at .ensures, t .organisation-place .ensures) (
       view-within points i high .organisation,
       organisation-room (packedAt points i) rest (s .pre) points
           (going-as (ap (organisationRows points) step) (l .loop .inv .2)),
@@ -74,14 +77,15 @@ next-wanted-requires-2 c κs = search needs
 
 loop-less : tie.Need-loop-less Inv-loop μ-loop
 loop-less c =
-    let l = c .before .before .before .before .before .before .before in
+    let l = c .before .before .before .before .before .before .before .before in
     let a = l .before .before .before .before .before .before .args in
     omega (arith, c .next-wanted2 .ensures, next-range (a .code .now) (a .points .now) (l .loop .place + 1) .0)
 
 loop-again : tie.Need-loop-again Inv-loop μ-loop
 loop-again c =
     let w = c .before .before .before in
-    let d = w .before .before in
+    let t = w .before .before in
+    let d = t .before in
     let l = d .before .before in
     let f = l .before .before in
     let s = f .before .before .before .before in
@@ -91,11 +95,12 @@ loop-again c =
     let step = packed-step points code i (l .loop .inv .1) (omega (arith, f .last-of .ensures)) in
     let rest = packedFrom points code (nextWanted code points (i + 1)) in
     rw (c .next-wanted2 .ensures) (
-      w .organisation-at .kept .1 .1 .1 .0 ∙ l .loop .inv .0,
+      w .organisation-at .kept .1 .1 .1 .1 .0 ∙ l .loop .inv .0,
       next-next code points (i + 1),
       organisation-on (packedAt points i) rest (s .pre) points
           (going-as (ap (organisationRows points) step) (l .loop .inv .2))
-          (put-as (ap (organisationRow points) (d .delivery-at .ensures)) (w .organisation-at .ensures)),
+          (put-as (ap₂ (organisationBytes points) (d .organised-at .ensures) (t .organisation-place .ensures))
+          (w .organisation-at .ensures)),
     )
 
 same-length : tie.Need-same-length Inv-loop μ-loop
@@ -118,7 +123,8 @@ organisations-at-spec =
     last-of-requires
     next-wanted-requires
     loop-holds
-    delivery-at-requires
+    organised-at-requires
+    organisation-place-requires
     organisation-at-requires
     add-next-wanted
     next-wanted-requires-2

@@ -1,18 +1,15 @@
 -- `changes_build::walks::organisations_in` meets its contract. The invariant: `at` is wanted or behind all, the views from it on are
 -- left to sum up, and no more rows are counted than places passed. Assumes nothing.
 use borrow.Author.Needs.{needs}
-use mathlib.Core.Path.{_≡_, ap, _∙_}
-use mathlib.Core.Bool.{cond, not}
+use mathlib.Core.Path.{_≡_, ap, ap₂, _∙_}
+use mathlib.Core.Bool.{Bool, cond}
 use Prim.Native.Nat.{ℕ, _+_, _*_, _-_, _≤_}
 use native.Mathlib.Omega.{arith}
-use lib.Dec.{eqb}
 use lib.ListN.{length}
 use Rattle.changes_views.specs.Views.{nextWanted}
 use Rattle.changes_views.proofs.Laws.{next-range, next-next}
-use Rattle.source.specs.declared.DeliveryPoint.{DeliveryPoint}
-use Rattle.changes_source.specs.Delivery.{deliveryAt}
-use Rattle.build.specs.Plan.{organisationRow}
-use Rattle.build.proofs.Walks.{Summing, summing-start, summing-as, summing-on, summing-end, organised-by-bytes}
+use Rattle.build.specs.Plan.{organisationBytes}
+use Rattle.build.proofs.Walks.{Summing, summing-start, summing-as, summing-on, summing-end}
 use Rattle.changes_build.specs.Views.{packedIn}
 use Rattle.changes_build.proofs.Packed.{packedFrom, packed-start, packed-step, packed-end, view-within}
 use Rattle.changes_build.proofs.walks.organisations_in.Statement.{statement}
@@ -46,21 +43,25 @@ loop-holds c =
       omega arith,
     )
 
-delivery-at-requires : tie.Need-delivery-at-requires Inv-loop μ-loop
-delivery-at-requires c κs = search needs
-
-organisation-len-requires : tie.Need-organisation-len-requires Inv-loop μ-loop
-organisation-len-requires c κs =
-    let l = c .before .before in
-    let f = l .before .before in
-    let points = f .before .before .before .args .points .now in
-    rw (c .delivery-at .ensures) (view-within points (l .loop .at) (omega (arith, f .last-of .ensures)) .organisation)
+organised-at-requires : tie.Need-organised-at-requires Inv-loop μ-loop
+organised-at-requires c κs = search needs
 
 one-if-requires : tie.Need-one-if-requires Inv-loop μ-loop
 one-if-requires c κs = search needs
 
 add-rows : tie.Need-add-rows Inv-loop μ-loop
 add-rows c = search needs
+
+organisation-place-requires : tie.Need-organisation-place-requires Inv-loop μ-loop
+organisation-place-requires c κs = search needs
+
+organisation-len-requires : tie.Need-organisation-len-requires Inv-loop μ-loop
+organisation-len-requires c κs =
+    let l = c .before .before .before .before in
+    let f = l .before .before in
+    let points = f .before .before .before .args .points .now in
+    rw (c .organisation-place .ensures)
+    (view-within points (l .loop .at) (omega (arith, f .last-of .ensures)) .organisation)
 
 add-bytes : tie.Need-add-bytes Inv-loop μ-loop
 add-bytes c = search needs
@@ -73,15 +74,16 @@ next-wanted-requires-2 c κs = search needs
 
 loop-less : tie.Need-loop-less Inv-loop μ-loop
 loop-less c =
-    let l = c .before .before .before .before .before in
+    let l = c .before .before .before .before .before .before in
     let a = l .before .before .before .before .before .args in
     omega (arith, c .next-wanted2 .ensures, next-range (a .code .now) (a .points .now) (l .loop .at + 1) .0)
 
 loop-again : tie.Need-loop-again Inv-loop μ-loop
 loop-again c =
-    let o = c .before in
-    let n = o .before in
-    let d = n .before in
+    let n = c .before in
+    let t = n .before in
+    let o = t .before in
+    let d = o .before in
     let l = d .before .before in
     let f = l .before .before in
     let a = f .before .before .before .args in
@@ -90,9 +92,8 @@ loop-again c =
     let i = l .loop .at in
     let step = packed-step points code i (l .loop .inv .0) (omega (arith, f .last-of .ensures)) in
     let len = n .organisation-len .ensures .0
-    ∙ ap (λ (p : DeliveryPoint). length (organisationRow points p)) (d .delivery-at .ensures) in
-    let one = o .one-if .ensures .0
-    ∙ (ap (λ (k : ℕ). cond (not (eqb k 0)) 1 0) len ∙ organised-by-bytes points (deliveryAt points i)) in
+    ∙ ap length (ap₂ (organisationBytes points) (d .organised-at .ensures) (t .organisation-place .ensures)) in
+    let one = o .one-if .ensures .0 ∙ ap (λ (t : Bool). cond t 1 0) (d .organised-at .ensures) in
     let range = next-range code points (i + 1) .0 in
     rw (c .next-wanted2 .ensures) (
       next-next code points (i + 1),
@@ -119,10 +120,11 @@ organisations-in-spec =
     last-of-requires
     next-wanted-requires
     loop-holds
-    delivery-at-requires
-    organisation-len-requires
+    organised-at-requires
     one-if-requires
     add-rows
+    organisation-place-requires
+    organisation-len-requires
     add-bytes
     add-next-wanted
     next-wanted-requires-2
