@@ -10,7 +10,8 @@ ghost use Rattle.build.specs.Plan.{organisationBytes};
 pub fn organisation_at(others: &[u8], there: bool, texts: usize, at: usize, out: &mut [u8]) -> usize
     requires { ⌜ texts + 120 ≤ length (now others) ⌝ }
     requires { ⌜ at + length (organisationBytes (now others) there texts) ≤ length (now out) ⌝ }
-    ensures { λ r. ⌜ Put (organisationBytes (now (others .entry)) there texts) (now (out .entry)) at r (now (out .exit)) ⌝ }
+    ensures { λ r. ⌜ Put (organisationBytes (now (others .entry)) there texts)
+        (now (out .entry)) at r (now (out .exit)) ⌝ }
 {
     if !there {
         return at;
