@@ -345,12 +345,14 @@ const OF_FILES: [&str; 16] = [
     "table_record",
 ];
 
-/// Whether a word of a crate, or a part of a path, is such a name, a kind of record or a crate of `changes`.
+/// Whether a word of a crate, or a part of a path, is such a name, a kind of record, the page that names the places of
+/// its fields, or a crate of `changes`.
 fn knows_a_file(word: &str) -> bool {
     let kind = word.strip_prefix("file_record::");
     kind.is_some_and(|kind| kind.starts_with(char::is_uppercase))
+        || word.contains("file_record.specs.Names")
         || word
-            .split(':')
+            .split([':', '.', '·'])
             .any(|part| OF_FILES.contains(&part) || part.starts_with("changes_"))
 }
 
@@ -375,9 +377,9 @@ fn places_with_a_file(name: &str) -> Vec<String> {
 }
 
 #[test]
-fn label_and_pack_know_no_file() {
+fn label_pack_and_build_know_no_file() {
     let is_above = |name: &&String| {
-        let above = ["label", "pack"];
+        let above = ["label", "pack", "build"];
         above.iter().any(|start| name.starts_with(start))
     };
     let names = crate_names();

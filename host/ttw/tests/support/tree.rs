@@ -215,7 +215,7 @@ pub fn declared(name: &str) -> Vec<String> {
 pub fn words_of(file: &Path) -> Vec<(usize, String)> {
     let text = fs::read_to_string(file).expect("a file of a crate");
     let words = |(line, text): (usize, &str)| {
-        let words = text.split(|c: char| !c.is_alphanumeric() && !"_:".contains(c));
+        let words = text.split(|c: char| !c.is_alphanumeric() && !"_:.·".contains(c));
         let words: Vec<_> = words.map(|word| (line + 1, word.to_string())).collect();
         words
     };
