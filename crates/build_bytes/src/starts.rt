@@ -10,7 +10,7 @@ pub fn above(a: usize, b: usize) -> usize
     if a < b { 0 } else { a - b }
 }
 
-// The start that a record has, plus 1; 0 where it has none.
+// The start that a row has, plus 1; 0 where it has none.
 pub fn start_of(starts: &[u32], i: usize) -> usize
     ensures { λ r. ⌜ r ≡ getD (now (starts .entry)) i 0 ⌝ }
 {

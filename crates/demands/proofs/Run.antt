@@ -1,5 +1,5 @@
 -- Document 01's run, computed from the definitions: its two files give the 129 bytes of the pack for AB1. (The label of
--- view 1 and the refusal of view 2 are computed in `report`, `Worked.one-run`.)
+-- view 1 and the refusal of view 2 are computed in `report_worked`, `Worked.one-run`.)
 -- Assumes nothing.
 use mathlib.Core.Path.{_≡_, refl}
 use lib.ListN.{replicate}
