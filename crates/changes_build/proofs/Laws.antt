@@ -2,16 +2,13 @@
 -- Assumes nothing.
 use Prim.Native.Nat.{ℕ, zero, suc, _+_, _*_, _-_, _/_, _≤_, _<_}
 use mathlib.Core.Path.{_≡_, refl, sym, ap, subst, _∙_}
-use mathlib.Core.List.{List, _++_}
+use mathlib.Core.List.{List}
 use native.Mathlib.Omega.{arith}
-use borrow.Author.Tests.{eq-eqb, ne-eqb, le-leb, lt-leb}
-use lib.ListN.{length, getD, drop, replicate, length-replicate}
+use lib.ListN.{length, getD, replicate, length-replicate}
 use Rattle.field_outward.specs.Outward.{outwardFault}
-use Rattle.refusal.specs.declared.Reason.{Reason}
-use Rattle.refusal.specs.declared.Reason.the-variants.{Room, BadCode}
-use Rattle.refusal.specs.declared.Answer.the-variants.{Value, Refused}
-use Rattle.refusal.specs.declared.Verdict.the-variants.{Fine, Bad}
-use Rattle.file.specs.Check.{checked}
+use Rattle.refusal.specs.declared.Answer.the-variants.{Value}
+use Rattle.refusal.specs.declared.Verdict.{Verdict}
+use Rattle.refusal.specs.declared.Verdict.the-variants.{Fine}
 use Rattle.file.specs.Formats.{tableFormat, pointFormat}
 use Rattle.file.proofs.Laws.{at-least-two, within-limit}
 use Rattle.file.proofs.Accepted.{Accepted}
@@ -19,10 +16,10 @@ use Rattle.changes_views.specs.Views.{wantedIn, wantedCount}
 use Rattle.changes_source.specs.Rows.{tableShelf, tableStock, tableLookup}
 use Rattle.changes_source.proofs.Table.{table-good}
 use Rattle.shelf.specs.Shelf.{lastOf}
-use Rattle.label.specs.Label.{roomAnswer, roomMemory}
-use Rattle.pack.specs.Cutting.{firstBad, cutAnswer, cutMemory}
-use Rattle.changes_sound.specs.Live.{liveIn}
-use Rattle.changes_sound.proofs.Live.{code-length}
+use Rattle.pack.specs.Cutting.{firstBad, cutWith, cutOutcome}
+use Rattle.changes_pair.specs.Live.{liveIn}
+use Rattle.changes_pair.specs.Pair.{pairOf}
+use Rattle.changes_pair.proofs.Live.{code-length}
 use Rattle.changes_sound.proofs.Size.{pack-small}
 use Rattle.build.specs.Plan.{firstRefused, markAll, organisationRows, organisationCount}
 use Rattle.build.specs.Rows.{allBytes, allCount}
@@ -33,11 +30,9 @@ use Rattle.build_exact.proofs.Marked.{all-length, count-same}
 use Rattle.build_exact.proofs.Pack.{pack-is}
 use Rattle.build_exact.proofs.Refused.{refused-same}
 use Rattle.build_exact.proofs.Size.{pack-size, rows-few, organisations-few}
-use Rattle.changes_list.specs.Listing.{after}
-use Rattle.changes_label.specs.Pair.{pairAnswer, pairMemory}
-use Rattle.changes_label.proofs.Laws.{Says, pair-says, table-accepted, points-accepted}
+use Rattle.changes_label.proofs.Laws.{table-accepted, points-accepted}
 use Rattle.changes_build.specs.Views.{packedIn}
-use Rattle.changes_build.specs.Build.{livePack, codeCut, codeCutMemory, buildAnswer, buildMemory}
+use Rattle.changes_build.specs.Build.{livePack}
 use Rattle.changes_build.specs.Ready.{Judged, Marked}
 use Rattle.changes_build.proofs.Packed.{packed-length}
 use Rattle.changes_build.proofs.Said.{all-say, all-within, numbers-rise}
@@ -123,63 +118,22 @@ module _ (table points code marks starts : List ℕ) (m : Marked table points co
   pub rows-counted : allCount (tableStock table) marks ≡ allCount (tableStock table) starts
   rows-counted = sym (count-same (tableStock table) marks starts p (lastOf tableShelf table - 1) (omega arith))
 
--- a text that fits, and one that does not
-module _ (text out : List ℕ) where
-  pub fits-answer : length text ≤ length out → roomAnswer text out ≡ Value (length text)
-  unfolding roomAnswer
-  fits-answer h = simp (le-leb (length text) (length out) h)
-
-  pub fits-memory : length text ≤ length out → roomMemory text out ≡ text ++ drop (length text) out
-  unfolding roomMemory
-  fits-memory h = simp (le-leb (length text) (length out) h)
-
-  pub short-answer : length out < length text → roomAnswer text out ≡ Refused 0 (Room (length text))
-  unfolding roomAnswer
-  short-answer h = simp (lt-leb (length text) (length out) h)
-
-  pub short-memory : length out < length text → roomMemory text out ≡ out
-  unfolding roomMemory
-  short-memory h = simp (lt-leb (length text) (length out) h)
-
 -- the first refusal of the packed views, or the pack
 module _ (table points code out : List ℕ) (j : Judged table points code) where
   verdict-is : firstBad (tableLookup table) (liveIn points code) ≡ firstRefused (tableStock table) (packedIn points code)
   verdict-is = refused-same (tableStock table) (all-say points code (j .of-code))
 
-  pub none-bad : firstRefused (tableStock table) (packedIn points code) ≡ Fine
-      → Says (roomAnswer (livePack table points code) out) (roomMemory (livePack table points code) out)
-      (cutAnswer (tableLookup table) (liveIn points code) code out)
-      (cutMemory (tableLookup table) (liveIn points code) code out)
-  unfolding cutAnswer cutMemory
-  none-bad e = record { answer-is = simp (verdict-is ∙ e); memory-is = simp (verdict-is ∙ e) }
+  pub cut-as : (v : Verdict) → firstRefused (tableStock table) (packedIn points code) ≡ v
+      → cutOutcome (tableLookup table) (liveIn points code) code out ≡ cutWith v (livePack table points code) out
+  unfolding cutOutcome
+  cut-as v e = ap (λ (v : Verdict). cutWith v (livePack table points code) out) (verdict-is ∙ e)
 
-  pub one-bad : (why : Reason) → firstRefused (tableStock table) (packedIn points code) ≡ Bad why
-      → Says (Refused 0 why) out (cutAnswer (tableLookup table) (liveIn points code) code out)
-      (cutMemory (tableLookup table) (liveIn points code) code out)
-  unfolding cutAnswer cutMemory
-  one-bad why e = record { answer-is = simp (verdict-is ∙ e); memory-is = simp (verdict-is ∙ e) }
-
--- a code is tested where both files are accepted
-module _ (table points code out : List ℕ) (n : ℕ)
-    (e : after (checked tableFormat table) (checked pointFormat points) ≡ Value n) where
-  pub judged : outwardFault code ≡ 0 → Judged table points code
-  judged clean =
-      record { of-table = table-accepted table points n e; of-points = points-accepted table points n e; of-code = clean }
-
-  pub bad-code : (outwardFault code ≡ 0 → ⊥)
-      → Says (Refused 0 BadCode) out (buildAnswer table points code out) (buildMemory table points code out)
-  unfolding buildAnswer buildMemory codeCut codeCutMemory
-  bad-code fault =
-      let test = ne-eqb (outwardFault code) 0 fault in
-      let says = pair-says table points n e (codeCut table points code out) (codeCutMemory table points code out) out in
-      record { answer-is = says .answer-is ∙ simp test; memory-is = says .memory-is ∙ simp test }
-
-  pub good-code : outwardFault code ≡ 0
-      → Says (cutAnswer (tableLookup table) (liveIn points code) code out)
-      (cutMemory (tableLookup table) (liveIn points code) code out) (buildAnswer table points code out)
-      (buildMemory table points code out)
-  unfolding buildAnswer buildMemory codeCut codeCutMemory
-  good-code clean =
-      let test = eq-eqb (outwardFault code) 0 clean in
-      let says = pair-says table points n e (codeCut table points code out) (codeCutMemory table points code out) out in
-      record { answer-is = says .answer-is ∙ simp test; memory-is = says .memory-is ∙ simp test }
+-- where both files are accepted
+pub judged : (table points code : List ℕ) {n : ℕ} → pairOf table points .judged ≡ Value n → outwardFault code ≡ 0
+    → Judged table points code
+judged table points code taken clean =
+    record {
+      of-table = table-accepted table points taken;
+      of-points = points-accepted table points taken;
+      of-code = clean;
+    }

@@ -16,9 +16,9 @@ use Rattle.source.specs.Address.{Address}
 use Rattle.changes_source.specs.Addresses.{addressOf}
 use Rattle.changes_meaning.proofs.Says.{says-at}
 use Rattle.changes_meaning.proofs.Meant.{wanted-view}
-use Rattle.changes_sound.specs.Live.{liveIn, viewsAt, WantedPlaces}
-use Rattle.changes_sound.proofs.Live.{live-views, all-wanted}
-use Rattle.changes_sound.proofs.Numbers.{number-view, number-rises, number-bound}
+use Rattle.changes_pair.specs.Live.{liveIn, viewsAt, WantedPlaces}
+use Rattle.changes_pair.proofs.Live.{live-views, all-wanted}
+use Rattle.changes_pair.proofs.Numbers.{number-view, number-rises, number-bound}
 use Rattle.build_exact.specs.Started.{AllSay, none-says, one-says, Rising}
 use Rattle.build_exact.specs.Within.{AllWithin}
 use Rattle.changes_build.specs.Views.{packedAll, packedIn}

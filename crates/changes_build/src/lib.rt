@@ -8,12 +8,13 @@ use refusal::Answer;
 use refusal::Reason;
 use refusal::Verdict;
 ghost use mathlib.Core.Path.{_≡_};
+ghost use Rattle.refusal.specs.Outcome.{said};
+ghost use Rattle.label.specs.Label.{roomOutcome};
+ghost use Rattle.pack.specs.Cutting.{cutOutcome, packBuilt};
 ghost use Rattle.changes_source.specs.Rows.{tableLookup};
-ghost use Rattle.label.specs.Label.{roomAnswer, roomMemory};
-ghost use Rattle.pack.specs.Layout.{packOf};
-ghost use Rattle.pack.specs.Cutting.{cutAnswer, cutMemory};
-ghost use Rattle.changes_sound.specs.Live.{liveIn};
-ghost use Rattle.changes_build.specs.Build.{livePack, buildAnswer, buildMemory};
+ghost use Rattle.changes_pair.specs.Live.{liveIn};
+ghost use Rattle.changes_pair.specs.Pair.{pairOf};
+ghost use Rattle.changes_build.specs.Build.{livePack};
 ghost use Rattle.changes_build.specs.Ready.{Judged, Marked};
 ghost use Rattle.changes_build.specs.Views.{Known};
 
@@ -31,10 +32,8 @@ fn write_if_room(
 ) -> Answer
     requires { ⌜ Known (now table) (now refs) (now points) ⌝ }
     requires { ⌜ Marked (now table) (now points) (now code) (now starts) ⌝ }
-    ensures said { λ r. ⌜ r ≡ roomAnswer (livePack (now (table .entry)) (now (points .entry)) (now (code .entry)))
-        (now (out .entry)) ⌝ }
-    ensures left { λ r. ⌜ now (out .exit) ≡ roomMemory (livePack (now (table .entry)) (now (points .entry))
-        (now (code .entry))) (now (out .entry)) ⌝ }
+    ensures { λ r. ⌜ said r (now (out .exit)) ≡ roomOutcome
+        (livePack (now (table .entry)) (now (points .entry)) (now (code .entry))) (now (out .entry)) ⌝ }
 {
     let of_table = build_place::inner::place_rows(table, changes_source::table_shelf(), starts);
     let of_points = walks::organisations_in(points, code);
@@ -53,10 +52,8 @@ fn write_if_room(
 // The pack of a code from files that are accepted.
 fn cut(table: &[u8], points: &[u8], code: &[u8], out: &mut [u8]) -> Answer
     requires { ⌜ Judged (now table) (now points) (now code) ⌝ }
-    ensures said { λ r. ⌜ r ≡ cutAnswer (tableLookup (now (table .entry))) (liveIn (now (points .entry))
-        (now (code .entry))) (now (code .entry)) (now (out .entry)) ⌝ }
-    ensures left { λ r. ⌜ now (out .exit) ≡ cutMemory (tableLookup (now (table .entry))) (liveIn (now (points .entry))
-        (now (code .entry))) (now (code .entry)) (now (out .entry)) ⌝ }
+    ensures { λ r. ⌜ said r (now (out .exit)) ≡ cutOutcome (tableLookup (now (table .entry)))
+        (liveIn (now (points .entry)) (now (code .entry))) (now (code .entry)) (now (out .entry)) ⌝ }
 {
     let mut refs = [0u32; RECORDS];
     shelf_find::inner::fill_refs(table, changes_source::table_shelf(), &mut refs);
@@ -69,10 +66,8 @@ fn cut(table: &[u8], points: &[u8], code: &[u8], out: &mut [u8]) -> Answer
 
 // The pack of a code, for any bytes given as files and code.
 pub fn build_pack(table: &[u8], points: &[u8], code: &[u8], out: &mut [u8]) -> Answer
-    ensures said { λ r. ⌜ r ≡ buildAnswer (now (table .entry)) (now (points .entry)) (now (code .entry))
-        (now (out .entry)) ⌝ }
-    ensures left { λ r. ⌜ now (out .exit) ≡ buildMemory (now (table .entry)) (now (points .entry)) (now (code .entry))
-        (now (out .entry)) ⌝ }
+    ensures { λ r. ⌜ said r (now (out .exit))
+        ≡ packBuilt (pairOf (now (table .entry)) (now (points .entry))) (now (code .entry)) (now (out .entry)) ⌝ }
 {
     match changes_label::check_pair(table, points) {
         Answer::Value(_) => {

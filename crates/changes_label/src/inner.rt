@@ -3,13 +3,14 @@ use refusal::Answer;
 use refusal::Reason;
 use refusal::Verdict;
 ghost use mathlib.Core.Path.{_≡_};
-ghost use Rattle.changes_label.specs.Pair.{ViewPlace, placeAnswer, placeMemory};
+ghost use Rattle.refusal.specs.Outcome.{said};
+ghost use Rattle.changes_label.specs.Places.{ViewPlace, placeLabel};
 
 // The label of the view at a place, 0 being no place.
 pub fn label_at<'a>(table: &'a [u8], points: &'a [u8], place: usize, out: &mut [u8]) -> Answer
     requires { ⌜ ViewPlace (now table) (now points) place ⌝ }
-    ensures { λ r. ⌜ (r ≡ placeAnswer (now (table .entry)) (now (points .entry)) place (now (out .entry)))
-        × (now (out .exit) ≡ placeMemory (now (table .entry)) (now (points .entry)) place (now (out .entry))) ⌝ }
+    ensures { λ r. ⌜ said r (now (out .exit))
+        ≡ placeLabel (now (table .entry)) (now (points .entry)) place (now (out .entry)) ⌝ }
 {
     if place == 0 {
         return Answer::Refused {

@@ -5,14 +5,13 @@ use inner::label_at;
 use refusal::Answer;
 use refusal::Reason;
 ghost use mathlib.Core.Path.{_≡_};
-ghost use Rattle.file.specs.Check.{checked};
-ghost use Rattle.file.specs.Formats.{tableFormat, pointFormat};
-ghost use Rattle.changes_list.specs.Listing.{after};
-ghost use Rattle.changes_label.specs.Pair.{viewAnswer, viewMemory, codeAnswer, codeMemory};
+ghost use Rattle.refusal.specs.Outcome.{said};
+ghost use Rattle.ask.specs.Labels.{viewLabel, codeLabel};
+ghost use Rattle.changes_pair.specs.Pair.{pairOf};
 
 // Whether both files are accepted: the number of records of the point file, or the first refusal.
 pub fn check_pair(table: &[u8], points: &[u8]) -> Answer
-    ensures { λ r. ⌜ r ≡ after (checked tableFormat (now (table .entry))) (checked pointFormat (now (points .entry))) ⌝ }
+    ensures { λ r. ⌜ r ≡ (pairOf (now (table .entry)) (now (points .entry))) .judged ⌝ }
 {
     match file_check::check_table(table) {
         Answer::Value(_) => file_check::check_points(points),
@@ -22,8 +21,8 @@ pub fn check_pair(table: &[u8], points: &[u8]) -> Answer
 
 // The label of a view.
 pub fn label_view<'a>(table: &'a [u8], points: &'a [u8], view: usize, out: &mut [u8]) -> Answer
-    ensures { λ r. ⌜ (r ≡ viewAnswer (now (table .entry)) (now (points .entry)) view (now (out .entry)))
-        × (now (out .exit) ≡ viewMemory (now (table .entry)) (now (points .entry)) view (now (out .entry))) ⌝ }
+    ensures { λ r. ⌜ said r (now (out .exit))
+        ≡ viewLabel (pairOf (now (table .entry)) (now (points .entry))) view (now (out .entry)) ⌝ }
 {
     match check_pair(table, points) {
         Answer::Value(_) => {
@@ -42,9 +41,8 @@ pub fn label_in_code<'a>(
     k: usize,
     out: &mut [u8],
 ) -> Answer
-    ensures { λ r. ⌜ (r ≡ codeAnswer (now (table .entry)) (now (points .entry)) (now (code .entry)) k (now (out .entry)))
-        × (now (out .exit) ≡ codeMemory (now (table .entry)) (now (points .entry)) (now (code .entry)) k
-        (now (out .entry))) ⌝ }
+    ensures { λ r. ⌜ said r (now (out .exit))
+        ≡ codeLabel (pairOf (now (table .entry)) (now (points .entry))) (now (code .entry)) k (now (out .entry)) ⌝ }
 {
     match check_pair(table, points) {
         Answer::Value(_) => {

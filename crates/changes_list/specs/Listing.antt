@@ -11,14 +11,10 @@ use Rattle.file_record.specs.Names.Point
 use Rattle.refusal.specs.declared.Reason.the-variants.{NoSuchNumber, BadCode}
 use Rattle.refusal.specs.declared.Answer.{Answer}
 use Rattle.refusal.specs.declared.Answer.the-variants.{Value, Refused}
+use Rattle.refusal.specs.Outcome.{after}
 use Rattle.file.specs.Check.{checked}
 use Rattle.file.specs.Formats.{pointFormat}
 use Rattle.changes_views.specs.Views.{wantedCount, wantedAt}
-
--- a refusal comes first; only a value lets the next question be asked
-abbrev pub after : Answer → Answer → Answer
-after (Value n) next = next
-after (Refused file why) next = Refused file why
 
 -- how many views a point file has
 unfoldable pub viewsAnswer : List ℕ → Answer

@@ -6,7 +6,9 @@ use refusal::Answer;
 use refusal::Reason;
 use run::Series;
 ghost use mathlib.Core.Path.{_≡_};
-ghost use Rattle.changes_runs.specs.Runs.{viewSeries, viewsMemory, codeSeries, codesMemory};
+ghost use Rattle.refusal.specs.Outcome.{said};
+ghost use Rattle.ask.specs.Runs.{viewsRun, codeRun};
+ghost use Rattle.changes_pair.specs.Pair.{pairOf};
 
 // So many labels from a view on.
 pub fn labels_of_views<'a>(
@@ -16,8 +18,8 @@ pub fn labels_of_views<'a>(
     count: usize,
     out: &mut [u8],
 ) -> Series
-    ensures { λ r. ⌜ (r ≡ viewSeries (now (table .entry)) (now (points .entry)) first count (now (out .entry)))
-        × (now (out .exit) ≡ viewsMemory (now (table .entry)) (now (points .entry)) first count (now (out .entry))) ⌝ }
+    ensures { λ r. ⌜ said r (now (out .exit))
+        ≡ viewsRun (pairOf (now (table .entry)) (now (points .entry))) first count (now (out .entry)) ⌝ }
 {
     match changes_label::check_pair(table, points) {
         Answer::Value(_) => run_places(table, points, &points[..0], first, count, out),
@@ -34,9 +36,8 @@ pub fn labels_in_code<'a>(
     count: usize,
     out: &mut [u8],
 ) -> Series
-    ensures { λ r. ⌜ (r ≡ codeSeries (now (table .entry)) (now (points .entry)) (now (code .entry)) first count
-        (now (out .entry))) × (now (out .exit) ≡ codesMemory (now (table .entry)) (now (points .entry))
-        (now (code .entry)) first count (now (out .entry))) ⌝ }
+    ensures { λ r. ⌜ said r (now (out .exit)) ≡ codeRun (pairOf (now (table .entry)) (now (points .entry)))
+        (now (code .entry)) first count (now (out .entry)) ⌝ }
 {
     match changes_label::check_pair(table, points) {
         Answer::Value(_) => {

@@ -2,14 +2,14 @@
 use refusal::Answer;
 use run::Series;
 ghost use mathlib.Core.Path.{_≡_};
-ghost use mathlib.Core.List.{_++_};
 ghost use Prim.Native.Nat.{_≤_};
-ghost use lib.ListN.{length, take, drop};
+ghost use lib.ListN.{length};
+ghost use Rattle.refusal.specs.Outcome.{said};
 ghost use Rattle.file.proofs.Accepted.{Accepted};
-ghost use Rattle.file.specs.Formats.{tableFormat, pointFormat};
+ghost use Rattle.file.specs.Formats.{tableFormat};
 ghost use Rattle.changes_views.specs.Views.{lastOf};
-ghost use Rattle.changes_label.specs.Pair.{placeAnswer, placeMemory, ViewPlace};
-ghost use Rattle.run.specs.Series.{seriesFrom, memoryFrom};
+ghost use Rattle.changes_label.specs.Places.{placeLabel, ViewPlace};
+ghost use Rattle.run.specs.Series.{askedBehind, runFrom};
 ghost use Rattle.changes_runs.specs.Runs.{placesAsked, placeBehind};
 
 // The label of the view at a place, behind so many bytes.
@@ -21,9 +21,8 @@ fn label_behind<'a>(
     out: &mut [u8],
 ) -> Answer
     requires { ⌜ (at ≤ length (now out)) × ViewPlace (now table) (now points) place ⌝ }
-    ensures { λ r. ⌜ (r ≡ placeAnswer (now (table .entry)) (now (points .entry)) place (drop at (now (out .entry))))
-        × (now (out .exit) ≡ take at (now (out .entry)) ++ placeMemory (now (table .entry)) (now (points .entry)) place
-        (drop at (now (out .entry)))) ⌝ }
+    ensures { λ r. ⌜ said r (now (out .exit)) ≡ askedBehind at (now (out .entry))
+        (placeLabel (now (table .entry)) (now (points .entry)) place) ⌝ }
 {
     changes_label::inner::label_at(table, points, place, &mut out[at..])
 }
@@ -50,11 +49,9 @@ pub fn run_places<'a>(
     count: usize,
     out: &mut [u8],
 ) -> Series
-    requires { ⌜ Accepted tableFormat (now table) × Accepted pointFormat (now points) ⌝ }
-    ensures { λ r. ⌜ (r ≡ seriesFrom (placesAsked (now (table .entry)) (now (points .entry))
-        (now (code .entry))) first count (now (out .entry))) × (now (out .exit)
-        ≡ memoryFrom (placesAsked (now (table .entry)) (now (points .entry)) (now (code .entry))) first count
-        (now (out .entry))) ⌝ }
+    requires { ⌜ Accepted tableFormat (now table) ⌝ }
+    ensures { λ r. ⌜ said r (now (out .exit)) ≡ runFrom
+        (placesAsked (now (table .entry)) (now (points .entry)) (now (code .entry))) first count (now (out .entry)) ⌝ }
 {
     let mut place = changes_views::wanted_at(points, code, first);
     let mut at = 0;

@@ -32,9 +32,9 @@ use Rattle.changes_meaning.proofs.Meant.{wanted-view}
 use Rattle.field.proofs.Fronts.{digits-below}
 use Rattle.pack.specs.Cutting.{badOf, firstBad}
 use Rattle.pack.specs.Sound.{AddressSound, AddressesSound}
-use Rattle.changes_sound.specs.Live.{liveIn, viewAt, viewsAt, WantedPlace}
-use Rattle.changes_sound.proofs.Numbers.{number-view, number-rises, number-bound}
-use Rattle.changes_sound.proofs.Live.{wanted-given, code-length, live-views}
+use Rattle.changes_pair.specs.Live.{liveIn, viewAt, viewsAt, WantedPlace}
+use Rattle.changes_pair.proofs.Numbers.{number-view, number-rises, number-bound}
+use Rattle.changes_pair.proofs.Live.{wanted-given, code-length, live-views}
 use Rattle.changes_sound.proofs.Follower.{follower-there, organisation-sound}
 
 -- an address that is not refused breaks none of the rules of refusals 8 and 9

@@ -1,5 +1,3 @@
-pub mod Numbers
-pub mod Live
 pub mod Texts
 pub mod Rows
 pub mod Follower

@@ -27,8 +27,8 @@ use Rattle.field.proofs.Fronts.{text-in-bound}
 use Rattle.pack.specs.Numbers.{bytesOf}
 use Rattle.pack.specs.Layout.{Entry, insert, insertKeys, usedBy, textsOr, tableEntries, organisationEntry, organisationEntries, entriesOf, textsBytes, entriesBytes, refsBytes, refsOf, postcodeOf, plainOf, pointBytes, pointsBytes, trailerBytes, packBytes, packOf}
 use Rattle.pack.specs.Names.{newest}
-use Rattle.changes_sound.specs.Live.{liveIn, viewAt, viewsAt}
-use Rattle.changes_sound.proofs.Live.{code-length, live-views, views-length}
+use Rattle.changes_pair.specs.Live.{liveIn, viewAt, viewsAt}
+use Rattle.changes_pair.proofs.Live.{code-length, live-views, views-length}
 
 -- "each once": a key adds at most one
 insert-bound : (r : ℕ) (rs : List ℕ) → length (insert r rs) ≤ suc (length rs)

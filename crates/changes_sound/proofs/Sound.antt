@@ -10,7 +10,7 @@ use Rattle.file.proofs.Accepted.{Accepted}
 use Rattle.changes_source.specs.Rows.{tableLookup}
 use Rattle.pack.specs.Cutting.{firstBad}
 use Rattle.pack.specs.Sound.{Sound}
-use Rattle.changes_sound.specs.Live.{liveIn}
+use Rattle.changes_pair.specs.Live.{liveIn}
 use Rattle.changes_sound.proofs.Rows.{rows-sound}
 use Rattle.changes_sound.proofs.Addresses.{addresses-sound}
 use Rattle.changes_sound.proofs.Size.{pack-small}

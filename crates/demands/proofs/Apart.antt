@@ -1,37 +1,44 @@
 -- Of a run the refusal's number tells whether a label stopped it (7 to 10) or the whole is refused (none of these).
 -- Assumes nothing.
 use Prim.Native.Nat.{ℕ, zero, suc, _+_, _-_, _≤_}
-use mathlib.Core.Path.{_≡_, refl, sym, ap, _∙_}
+use mathlib.Core.Path.{_≡_, refl}
 use mathlib.Core.Logic.{inl, inr}
 use mathlib.Core.Bool.{Bool, true, false, cond}
-use mathlib.Core.List.{List, []}
-use native.Mathlib.Omega.{arith}
-use lib.Dec.{eqb, leb, lit≤}
-use lib.ListN.{length, drop}
+use mathlib.Core.List.{List}
+use mathlib.Core.Option.{Option, none, some}
+use borrow.Author.Tests.{eqb-true}
+use lib.Dec.{eqb, lit≤}
+use lib.ListN.{drop}
 use Rattle.field_outward.specs.Outward.{outwardFault}
 use Rattle.refusal.specs.Refusal.{number, malformedAt}
 use Rattle.refusal.specs.declared.Reason.{Reason}
-use Rattle.refusal.specs.declared.Reason.the-variants.{Length, Header, Trailer, NotAbove, Follower, NoSuchNumber, Combination, MissingKey, Room, BadPack, BadCode}
+use Rattle.refusal.specs.declared.Reason.the-variants.{Length, Header, Trailer, NotAbove, Follower, NoSuchNumber, Combination, MissingKey, BadPack, BadCode}
 use Rattle.refusal.specs.declared.Answer.{Answer}
 use Rattle.refusal.specs.declared.Answer.the-variants.{Value, Refused}
-use Rattle.source.specs.Address.{Lookup, Address}
-use Rattle.source.specs.Resolve.{forbidden, missing, elementsOf, Resolved, elements, refused, resolve}
 use Rattle.refusal.specs.declared.Verdict.{Verdict}
 use Rattle.refusal.specs.declared.Verdict.the-variants.{Fine, Bad}
-use Rattle.file.specs.Check.{Format, records, whole, at, rises, judged, scan, verdict, answered, checked}
 use Rattle.refusal.specs.Verdict.{orElse}
+use Rattle.refusal.specs.Outcome.{Outcome, said, after, afterwards}
+use Rattle.refusal.proofs.Outcomes.{afterwards-value}
+use Rattle.source.specs.Address.{Lookup, Address}
+use Rattle.source.specs.Resolve.{forbidden, missing, elementsOf, elements, refused, resolve}
+use Rattle.file.specs.Check.{Format, records, whole, at, rises, judged, scan, verdict, answered, checked}
 use Rattle.file.specs.Formats.{tableFormat, pointFormat}
-use Rattle.changes_views.specs.Views.{wantedAt}
-use Rattle.label.specs.Label.{labelOf, roomAnswer, resolvedAnswer}
-use Rattle.pack.specs.Opening.{trailerGood, allRowsGood, allPointsGood, pointCount, opened}
-use Rattle.pack.specs.Points.{isPoint, pointPlace, elementsAt, pointAnswer, packAnswer, afterOpened}
-use Rattle.changes_label.specs.Pair.{resolvedAt, placeAnswer, viewAnswer, codeAnswer}
+use Rattle.label.specs.Label.{labelOf, roomOutcome, resolvedOutcome}
+use Rattle.label.proofs.Room.{Fitting, fits, short, fitting}
 use Rattle.run.specs.declared.Series.{Series}
 use Rattle.run.specs.declared.Series.the-variants.{Unasked, Stopped, Done}
-use Rattle.run.specs.Series.{Asking, behind, goOn, seriesFrom, wholly}
-use Rattle.changes_runs.specs.Runs.{viewsAsked, codeAsked, viewSeries, codeSeries}
-use Rattle.pack_runs.specs.Runs.{packAsked, packSeries}
-use Rattle.demands.specs.Runs.{OfLabel, OfWhole, ToldApart, Run, of-labels, of-code-labels, of-pack-labels, seriesOf}
+use Rattle.run.specs.Series.{Asking, behind, goOn, runFrom}
+use Rattle.ask.specs.Source.{Source, inCode}
+use Rattle.ask.specs.Labels.{kth, labelOutcome, kthLabel, codeFirst, viewLabel, codeLabel}
+use Rattle.ask.specs.Runs.{viewsRun, codeRun}
+use Rattle.ask.proofs.Laws.{by-good-code}
+use Rattle.pack.specs.Opening.{trailerGood, allRowsGood, allPointsGood, pointCount, opened}
+use Rattle.pack.specs.Points.{isPoint, pointPlace, elementsAt, pointLabel, packLabel}
+use Rattle.pack_runs.specs.Runs.{packRun}
+use Rattle.changes_pair.specs.Pair.{pairOf}
+use Rattle.call.specs.Call.{Call, of-table, of-points, of-views, of-letter, of-live, of-label, of-code-label, of-labels, of-code-labels, of-build, of-pack, of-pack-label, of-pack-labels, outcomeOf}
+use Rattle.demands.specs.Apart.{OfLabel, OfWhole, ToldApart, Apart}
 
 -- an answer whose refusal is of a kind
 abbrev Told : (Reason → Type 0) → Answer → Type 0
@@ -104,46 +111,46 @@ opened-of-whole pack = by-tests (trailerGood pack) (allRowsGood pack) (allPoints
     by-tests false u v = inr (lit≤ tt)
 
 -- a label's is 7 to 10
-room-of-label : (text out : List ℕ) → Told OfLabel (roomAnswer text out)
-unfolding roomAnswer
-room-of-label text out = by-test (leb (length text) (length out))
+room-of-label : (text out : List ℕ) → Told OfLabel (roomOutcome text out .answer)
+room-of-label text out = by-case (fitting text out)
   where
-    by-test : (t : Bool) → Told OfLabel (cond t (Value (length text)) (Refused 0 (Room (length text))))
-    by-test true = tt
-    by-test false = (lit≤ tt, lit≤ tt)
+    by-case : Fitting text out → Told OfLabel (roomOutcome text out .answer)
+    by-case (fits h is) = rw is tt
+    by-case (short h is) = rw is (lit≤ tt, lit≤ tt)
 
-resolved-of-label : (look : Lookup) (a : Address) (out : List ℕ) → Told OfLabel (resolvedAnswer (resolve look a) out)
+resolved-of-label : (look : Lookup) (a : Address) (out : List ℕ) → Told OfLabel (resolvedOutcome (resolve look a) out .answer)
 unfolding resolve
 resolved-of-label look a out = by-tests (eqb (forbidden a) 0) (eqb (missing look a) 0)
   where
     by-tests : (t u : Bool)
         → Told OfLabel
-        (resolvedAnswer
+        (resolvedOutcome
         (cond t (cond u (elements (elementsOf look a)) (refused (MissingKey (missing look a) 0)))
         (refused (Combination (forbidden a) 0)))
-        out)
+        out
+        .answer)
     by-tests true true = room-of-label (labelOf (elementsOf look a)) out
     by-tests true false = (lit≤ tt, lit≤ tt)
     by-tests false u = (lit≤ tt, lit≤ tt)
 
-place-of-label : (table points : List ℕ) (place : ℕ) (out : List ℕ) → Told OfLabel (placeAnswer table points place out)
-unfolding placeAnswer
-place-of-label table points place out = by-test (eqb place 0) (resolved-of-label _ _ out)
+kth-of-label : (look : Lookup) (views : List Address) (k : ℕ) (out : List ℕ) → Told OfLabel (kthLabel look views k out .answer)
+unfolding kthLabel
+kth-of-label look views k out = by-case (kth views k)
   where
-    by-test : (t : Bool) → Told OfLabel (resolvedAnswer (resolvedAt table points place) out)
-        → Told OfLabel (cond t (Refused 0 NoSuchNumber) (resolvedAnswer (resolvedAt table points place) out))
-    by-test true h = (lit≤ tt, lit≤ tt)
-    by-test false h = h
+    by-case : (found : Option Address) → Told OfLabel (labelOutcome look found out .answer)
+    by-case none = (lit≤ tt, lit≤ tt)
+    by-case (some a) = resolved-of-label look a out
 
-point-of-label : (pack : List ℕ) (k : ℕ) (out : List ℕ) → Told OfLabel (pointAnswer pack k out)
-unfolding pointAnswer
-point-of-label pack k out =
-    by-test (isPoint pack k) (room-of-label (labelOf (elementsAt pack (pointPlace pack k))) out)
+point-of-label : (pack : List ℕ) (k : ℕ) (out : List ℕ) → Told OfLabel (pointLabel pack k out .answer)
+unfolding pointLabel
+point-of-label pack k out = by-test (isPoint pack k)
   where
-    by-test : (t : Bool) → Told OfLabel (roomAnswer (labelOf (elementsAt pack (pointPlace pack k))) out)
-        → Told OfLabel (cond t (roomAnswer (labelOf (elementsAt pack (pointPlace pack k))) out) (Refused 0 NoSuchNumber))
-    by-test true h = h
-    by-test false h = (lit≤ tt, lit≤ tt)
+    by-test : (t : Bool)
+        → Told OfLabel
+        (cond t (roomOutcome (labelOf (elementsAt pack (pointPlace pack k))) out) (said (Refused 0 NoSuchNumber) out)
+        .answer)
+    by-test true = room-of-label (labelOf (elementsAt pack (pointPlace pack k))) out
+    by-test false = (lit≤ tt, lit≤ tt)
 
 -- labels asked in turn stop by a label's refusal
 behind-apart : (labels bytes : ℕ) (s : Series) → ToldApart s → ToldApart (behind labels bytes s)
@@ -151,62 +158,84 @@ behind-apart labels bytes (Unasked file why) h = h
 behind-apart labels bytes (Stopped l b why) h = h
 behind-apart labels bytes (Done l b) h = tt
 
-series-apart : (a : Asking) → ((k : ℕ) (out : List ℕ) → Told OfLabel (a .answer k out)) → (n k : ℕ) (out : List ℕ)
-    → ToldApart (seriesFrom a k n out)
-series-apart a told zero k out = tt
-series-apart a told (suc n) k out =
-    by-answer (a .answer k out) (told k out) (λ b. series-apart a told n (suc k) (drop b (a .memory k out)))
+run-apart : (a : Asking) → ((k : ℕ) (out : List ℕ) → Told OfLabel (a k out .answer)) → (n k : ℕ) (out : List ℕ)
+    → ToldApart (runFrom a k n out .answer)
+run-apart a labelled zero k out = tt
+run-apart a labelled (suc n) k out =
+    by-answer (a k out .answer) (labelled k out) (λ left. run-apart a labelled n (suc k) left)
   where
-    by-answer : (r : Answer) → Told OfLabel r → ((b : ℕ) → ToldApart (seriesFrom a (suc k) n (drop b (a .memory k out))))
-        → ToldApart (goOn r (λ b. seriesFrom a (suc k) n (drop b (a .memory k out))))
-    by-answer (Value b) h more = behind-apart 1 b (seriesFrom a (suc k) n (drop b (a .memory k out))) (more b)
+    by-answer : (r : Answer) → Told OfLabel r → ((left : List ℕ) → ToldApart (runFrom a (suc k) n left .answer))
+        → ToldApart (goOn r (a k out .memory) (λ left. runFrom a (suc k) n left) .answer)
+    by-answer (Value b) h more = behind-apart 1 b (runFrom a (suc k) n (drop b (a k out .memory)) .answer) (more (drop b (a k out .memory)))
     by-answer (Refused file why) h more = h
 
 -- what is asked behind an answer, where that is a value
-wholly-apart : (r : Answer) (s : Series) → Told OfWhole r → ((n : ℕ) → r ≡ Value n → ToldApart s) → ToldApart (wholly r s)
-wholly-apart (Value n) s h next = next n refl
-wholly-apart (Refused file why) s h next = h
+after-apart : (r : Answer) (out : List ℕ) (o : Outcome Series) → Told OfWhole r
+    → ((n : ℕ) → r ≡ Value n → ToldApart (o .answer))
+    → ToldApart (afterwards Unasked r out o .answer)
+after-apart (Value n) out o h next = next n refl
+after-apart (Refused file why) out o h next = h
 
-module _ (table points : List ℕ) where
-  pair-apart : (s : Series)
-      → ((n m : ℕ) → checked tableFormat table ≡ Value n → checked pointFormat points ≡ Value m → ToldApart s)
-      → ToldApart (wholly (checked tableFormat table) (wholly (checked pointFormat points) s))
-  pair-apart s next =
-      wholly-apart (checked tableFormat table) _ (checked-of-file tableFormat table)
-      (λ n e. wholly-apart (checked pointFormat points) s (checked-of-file pointFormat points) (λ m d. next n m e d))
+code-apart : (code out : List ℕ) (o : Outcome Series) → (outwardFault code ≡ 0 → ToldApart (o .answer))
+    → ToldApart (codeFirst Unasked code out o .answer)
+code-apart code out o next = by-test (eqb (outwardFault code) 0) refl
+  where
+    by-test : (t : Bool) → eqb (outwardFault code) 0 ≡ t → ToldApart (cond t o (said (Unasked 0 BadCode) out) .answer)
+    by-test true e = next (eqb-true (outwardFault code) 0 e)
+    by-test false e = inr (lit≤ tt)
 
-  module _ (n m : ℕ) (e : checked tableFormat table ≡ Value n) (d : checked pointFormat points ≡ Value m) where
-    view-of-label : (k : ℕ) (out : List ℕ) → Told OfLabel (viewAnswer table points k out)
-    unfolding viewAnswer
-    view-of-label k out = rw (e, d) (place-of-label table points (wantedAt [] points k) out)
+-- of a source whose own refusals are of the whole
+module _ (s : Source) (judged : Told OfWhole (s .judged)) (first count : ℕ) (out : List ℕ) where
+  views-apart : ToldApart (viewsRun s first count out .answer)
+  unfolding viewsRun viewLabel
+  views-apart = after-apart (s .judged) out _ judged (λ n taken. run-apart (viewLabel s) (labelled taken) count first out)
+    where
+      labelled : {n : ℕ} → s .judged ≡ Value n → (k : ℕ) (o : List ℕ) → Told OfLabel (viewLabel s k o .answer)
+      labelled taken k o = rw (afterwards-value Refused o _ taken) (kth-of-label (s .look) (s .views) k o)
 
-    code-of-label : (code : List ℕ) → eqb (outwardFault code) 0 ≡ true → (k : ℕ) (out : List ℕ)
-        → Told OfLabel (codeAnswer table points code k out)
-    unfolding codeAnswer
-    code-of-label code good k out = rw (e, d, good) (place-of-label table points (wantedAt code points k) out)
+  codes-apart : (code : List ℕ) → ToldApart (codeRun s code first count out .answer)
+  unfolding codeRun codeLabel
+  codes-apart code =
+      after-apart (s .judged) out _ judged
+      (λ n taken.
+      code-apart code out _ (λ clean. run-apart (codeLabel s code) (labelled taken clean) count first out))
+    where
+      labelled : {n : ℕ} → s .judged ≡ Value n → outwardFault code ≡ 0 → (k : ℕ) (o : List ℕ)
+          → Told OfLabel (codeLabel s code k o .answer)
+      labelled taken clean k o =
+          rw (by-good-code Refused code o _ s taken clean) (kth-of-label (s .look) (inCode code (s .live)) k o)
 
-    code-apart : (code : List ℕ) (count first : ℕ) (out : List ℕ)
-        → ToldApart
-        (cond (eqb (outwardFault code) 0) (seriesFrom (codeAsked table points code) first count out) (Unasked 0 BadCode))
-    code-apart code count first out = by-test (eqb (outwardFault code) 0) refl
-      where
-        by-test : (t : Bool) → eqb (outwardFault code) 0 ≡ t
-            → ToldApart (cond t (seriesFrom (codeAsked table points code) first count out) (Unasked 0 BadCode))
-        by-test true good = series-apart (codeAsked table points code) (code-of-label code good) count first out
-        by-test false bad = inr (lit≤ tt)
+packs-apart : (pack : List ℕ) (first count : ℕ) (out : List ℕ) → ToldApart (packRun pack first count out .answer)
+unfolding packRun packLabel
+packs-apart pack first count out =
+    after-apart (opened pack) out _ (opened-of-whole pack)
+    (λ n e. run-apart (packLabel pack) (labelled e) count first out)
+  where
+    labelled : {n : ℕ} → opened pack ≡ Value n → (k : ℕ) (o : List ℕ) → Told OfLabel (packLabel pack k o .answer)
+    labelled e k o = rw (afterwards-value Refused o _ e) (point-of-label pack k o)
 
-pack-of-label : (pack : List ℕ) (n : ℕ) → opened pack ≡ Value n → (k : ℕ) (out : List ℕ)
-    → Told OfLabel (packAnswer pack k out)
-unfolding packAnswer
-pack-of-label pack n e k out = rw e (point-of-label pack k out)
+pair-of-whole : (table points : List ℕ) → Told OfWhole (pairOf table points .judged)
+pair-of-whole table points =
+    by-first (checked tableFormat table) (checked-of-file tableFormat table) (checked-of-file pointFormat points)
+  where
+    by-first : (first : Answer) → Told OfWhole first → Told OfWhole (checked pointFormat points)
+        → Told OfWhole (after first (checked pointFormat points))
+    by-first (Value n) h second = second
+    by-first (Refused file why) h second = h
 
-pub told-apart : (run : Run) (out : List ℕ) → ToldApart (seriesOf run out)
-unfolding viewSeries codeSeries packSeries
+pub told-apart : (call : Call) (out : List ℕ) → Apart (outcomeOf call out .answer)
+told-apart (of-table table) out = tt
+told-apart (of-points points) out = tt
+told-apart (of-views points) out = tt
+told-apart (of-letter points view) out = tt
+told-apart (of-live points code) out = tt
+told-apart (of-label table points view) out = tt
+told-apart (of-code-label table points code k) out = tt
 told-apart (of-labels table points first count) out =
-    pair-apart table points _
-    (λ n m e d. series-apart (viewsAsked table points) (view-of-label table points n m e d) count first out)
+    views-apart (pairOf table points) (pair-of-whole table points) first count out
 told-apart (of-code-labels table points code first count) out =
-    pair-apart table points _ (λ n m e d. code-apart table points n m e d code count first out)
-told-apart (of-pack-labels pack first count) out =
-    wholly-apart (opened pack) _ (opened-of-whole pack)
-    (λ n e. series-apart (packAsked pack) (pack-of-label pack n e) count first out)
+    codes-apart (pairOf table points) (pair-of-whole table points) first count out code
+told-apart (of-build table points code) out = tt
+told-apart (of-pack pack) out = tt
+told-apart (of-pack-label pack k) out = tt
+told-apart (of-pack-labels pack first count) out = packs-apart pack first count out

@@ -2,7 +2,7 @@ pub mod Listed
 pub mod One
 pub mod Two
 pub mod Three
-pub mod Unused
-pub mod Run
-pub mod Runs
 pub mod Apart
+pub mod Unused
+pub mod Pair
+pub mod Run

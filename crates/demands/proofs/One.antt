@@ -1,126 +1,172 @@
--- Demand 1: every call's contract allows one answer and one content, and a refused call writes nothing.
+-- Demand 1: every call's contract allows one answer and one content of lent memory, and a refused call writes nothing.
 -- Assumes nothing.
 use Prim.Native.Nat.{ℕ}
 use mathlib.Core.Path.{_≡_, refl, sym, ap, _∙_}
 use mathlib.Core.Bool.{Bool, true, false, cond}
-use mathlib.Core.List.{List, _++_}
-use lib.Dec.{eqb, leb}
-use lib.ListN.{length, drop}
+use mathlib.Core.List.{List}
+use mathlib.Core.Option.{Option, none, some}
+use lib.Dec.{eqb}
 use Rattle.field_outward.specs.Outward.{outwardFault}
 use Rattle.refusal.specs.declared.Reason.{Reason}
-use Rattle.refusal.specs.declared.Reason.the-variants.{NoSuchNumber, Room, BadCode}
+use Rattle.refusal.specs.declared.Reason.the-variants.{NoSuchNumber, BadCode}
 use Rattle.refusal.specs.declared.Answer.{Answer}
 use Rattle.refusal.specs.declared.Answer.the-variants.{Value, Refused}
 use Rattle.refusal.specs.declared.Verdict.{Verdict}
 use Rattle.refusal.specs.declared.Verdict.the-variants.{Fine, Bad}
-use Rattle.file.specs.Check.{checked}
-use Rattle.file.specs.Formats.{tableFormat, pointFormat}
-use Rattle.refusal.proofs.Answers.{refused-value}
-use Rattle.source.specs.Resolve.{Resolved, elements, refused}
-use Rattle.label.specs.Label.{labelOf, roomAnswer, roomMemory, resolvedAnswer, resolvedMemory}
-use Rattle.changes_source.specs.Rows.{tableLookup}
+use Rattle.refusal.specs.Outcome.{Outcome, said, afterwards}
+use Rattle.source.specs.Address.{Lookup, Address}
+use Rattle.source.specs.Resolve.{Resolved, elements, refused, resolve}
+use Rattle.label.specs.Label.{labelOf, roomOutcome, resolvedOutcome}
+use Rattle.label.proofs.Room.{Fitting, fits, short, fitting}
+use Rattle.run.specs.declared.Series.{Series}
+use Rattle.run.specs.declared.Series.the-variants.{Unasked, Stopped, Done}
+use Rattle.run.specs.Series.{Asking, runFrom}
+use Rattle.run.proofs.Going.{never-unasked}
+use Rattle.ask.specs.Source.{Source, inCode}
+use Rattle.ask.specs.Labels.{kth, labelOutcome, kthLabel, codeFirst, viewLabel, codeLabel}
+use Rattle.ask.specs.Runs.{viewsRun, codeRun}
 use Rattle.pack.specs.Layout.{packOf}
-use Rattle.pack.specs.Cutting.{firstBad, cutWith, leftWith, cutAnswer, cutMemory}
+use Rattle.pack.specs.Cutting.{firstBad, cutWith, cutOutcome, packBuilt}
 use Rattle.pack.specs.Opening.{opened}
-use Rattle.pack.specs.Points.{isPoint, pointAnswer, pointMemory, afterOpened, packAnswer, packMemory}
-use Rattle.changes_list.specs.Listing.{after}
-use Rattle.changes_sound.specs.Live.{liveIn}
-use Rattle.changes_label.specs.Pair.{resolvedAt, placeAnswer, placeMemory, afterMemory, pairAnswer, pairMemory, viewAnswer, viewMemory, codeAnswer, codeMemory}
-use Rattle.changes_build.specs.Build.{codeCut, codeCutMemory, buildAnswer, buildMemory}
-use Rattle.demands.specs.One.{Allows, Call, of-table, of-points, of-views, of-letter, of-live, of-label, of-code-label, of-build, of-pack, of-pack-label, answerOf, memoryOf}
+use Rattle.pack.specs.Points.{elementsAt, pointPlace, isPoint, pointLabel, packLabel}
+use Rattle.pack_runs.specs.Runs.{packRun}
+use Rattle.changes_pair.specs.Pair.{pairOf}
+use Rattle.call.specs.Call.{Call, of-table, of-points, of-views, of-letter, of-live, of-label, of-code-label, of-labels, of-code-labels, of-build, of-pack, of-pack-label, of-pack-labels, Saying, one, run, Called, outcomeOf, bytesOf, comesTo}
+use Rattle.demands.specs.One.{Allows, IsRefused, IsUnasked, RefusedWhole}
 
 -- "for every input, refusals too, it allows one answer and one content of lent memory"
-pub one-answer : (call : Call) (out : List ℕ) {r s : ℕ} {x y : List ℕ} → Allows (answerOf call out) (memoryOf call out) r x
-    → Allows (answerOf call out) (memoryOf call out) s y
-    → (r ≡ s) × (x ≡ y)
-one-answer call out p q = (p .answer-is ∙ sym (q .answer-is), p .memory-is ∙ sym (q .memory-is))
+pub one-answer : (call : Call) (out : List ℕ) (before : ℕ) {r s : ℕ} {x y : List ℕ} {m n : ℕ}
+    → Allows call out before r x m
+    → Allows call out before s y n
+    → (r ≡ s) × ((x ≡ y) × (m ≡ n))
+one-answer call out before p q =
+    let same = p ∙ sym q in (
+      ap (λ (c : Called). c .number) same,
+      (ap (λ (c : Called). c .memory) same, ap (λ (c : Called). c .bytes) same),
+    )
 
--- an answer and a memory of which the first says whether the second was written
-abbrev Kept : Answer → List ℕ → List ℕ → Type 0
-Kept answer memory out = (file : ℕ) (why : Reason) → answer ≡ Refused file why → memory ≡ out
+-- what is refused leaves the buffer as it was
+abbrev Kept : {A : Type 0} → (A → Type 0) → Outcome A → List ℕ → Type 0
+Kept Refusing o out = Refusing (o .answer) → o .memory ≡ out
 
-no-refusal : (n file : ℕ) (why : Reason) (P : Type 0) → Value n ≡ Refused file why → P
-no-refusal n file why P e = absurd (refused-value file n why (sym e))
+module _ {A : Type 0} (Refusing : A → Type 0) (whole : ℕ → Reason → A) (out : List ℕ) (next : Outcome A)
+    (kept : Kept Refusing next out) where
+  after-kept : (judged : Answer) → Kept Refusing (afterwards whole judged out next) out
+  after-kept (Value n) = kept
+  after-kept (Refused file why) = λ r. refl
 
-room-kept : (text out : List ℕ) → Kept (roomAnswer text out) (roomMemory text out) out
-unfolding roomAnswer roomMemory
-room-kept text out file why e = by-test (leb (length text) (length out)) e
+  code-kept : (code : List ℕ) → Kept Refusing (codeFirst whole code out next) out
+  code-kept code = by-test (eqb (outwardFault code) 0)
+    where
+      by-test : (t : Bool) → Kept Refusing (cond t next (said (whole 0 BadCode) out)) out
+      by-test true = kept
+      by-test false = λ r. refl
+
+room-kept : (text out : List ℕ) → Kept IsRefused (roomOutcome text out) out
+room-kept text out = by-case (fitting text out)
   where
-    by-test : (t : Bool) → cond t (Value (length text)) (Refused 0 (Room (length text))) ≡ Refused file why
-        → cond t (text ++ drop (length text) out) out ≡ out
-    by-test true e = no-refusal (length text) file why _ e
-    by-test false e = refl
+    by-case : Fitting text out → Kept IsRefused (roomOutcome text out) out
+    by-case (fits h is) = λ r. absurd (rw is at r)
+    by-case (short h is) = λ r. ap (λ (o : Outcome Answer). o .memory) is
 
-resolved-kept : (r : Resolved) (out : List ℕ) → Kept (resolvedAnswer r out) (resolvedMemory r out) out
+resolved-kept : (r : Resolved) (out : List ℕ) → Kept IsRefused (resolvedOutcome r out) out
 resolved-kept (elements e) out = room-kept (labelOf e) out
-resolved-kept (refused why) out = λ f w e. refl
+resolved-kept (refused why) out = λ r. refl
 
-place-kept : (table points : List ℕ) (place : ℕ) (out : List ℕ)
-    → Kept (placeAnswer table points place out) (placeMemory table points place out) out
-unfolding placeAnswer placeMemory
-place-kept table points place out file why e = by-test (eqb place 0) e
+kth-kept : (look : Lookup) (views : List Address) (k : ℕ) (out : List ℕ) → Kept IsRefused (kthLabel look views k out) out
+unfolding kthLabel
+kth-kept look views k out = by-case (kth views k)
+  where
+    by-case : (found : Option Address) → Kept IsRefused (labelOutcome look found out) out
+    by-case none = λ r. refl
+    by-case (some a) = resolved-kept (resolve look a) out
+
+cut-kept : (v : Verdict) (pack out : List ℕ) → Kept IsRefused (cutWith v pack out) out
+cut-kept Fine pack out = room-kept pack out
+cut-kept (Bad why) pack out = λ r. refl
+
+point-kept : (pack : List ℕ) (k : ℕ) (out : List ℕ) → Kept IsRefused (pointLabel pack k out) out
+unfolding pointLabel
+point-kept pack k out = by-test (isPoint pack k)
   where
     by-test : (t : Bool)
-        → cond t (Refused 0 NoSuchNumber) (resolvedAnswer (resolvedAt table points place) out) ≡ Refused file why
-        → cond t out (resolvedMemory (resolvedAt table points place) out) ≡ out
-    by-test true e = refl
-    by-test false e = resolved-kept (resolvedAt table points place) out file why e
+        → Kept IsRefused
+        (cond t (roomOutcome (labelOf (elementsAt pack (pointPlace pack k))) out) (said (Refused 0 NoSuchNumber) out))
+        out
+    by-test true = room-kept (labelOf (elementsAt pack (pointPlace pack k))) out
+    by-test false = λ r. refl
 
--- what comes behind both files
-pair-kept : (table points : List ℕ) (next : Answer) (written out : List ℕ) → Kept next written out
-    → Kept (pairAnswer table points next) (pairMemory table points written out) out
-pair-kept table points next written out kept file why =
-    by-answers (checked tableFormat table) (checked pointFormat points)
+run-kept : (ask : Asking) (first count : ℕ) (out : List ℕ) → Kept IsUnasked (runFrom ask first count out) out
+run-kept ask first count out = by-case (runFrom ask first count out .answer) refl
   where
-    by-answers : (first second : Answer) → after first (after second next) ≡ Refused file why
-        → afterMemory first (afterMemory second written out) out ≡ out
-    by-answers (Value n) (Value m) e = kept file why e
-    by-answers (Value n) (Refused f w) e = refl
-    by-answers (Refused f w) second e = refl
+    by-case : (s : Series) → runFrom ask first count out .answer ≡ s → IsUnasked s
+        → runFrom ask first count out .memory ≡ out
+    by-case (Unasked file why) e r = absurd (never-unasked ask count first out file why e)
+    by-case (Stopped labels bytes why) e r = absurd r
+    by-case (Done labels bytes) e r = absurd r
 
-code-kept : (code : List ℕ) (next : Answer) (written out : List ℕ) → Kept next written out
-    → Kept (cond (eqb (outwardFault code) 0) next (Refused 0 BadCode)) (cond (eqb (outwardFault code) 0) written out) out
-code-kept code next written out kept file why = by-test (eqb (outwardFault code) 0)
+-- of a source
+module _ (s : Source) (out : List ℕ) where
+  view-kept : (view : ℕ) → Kept IsRefused (viewLabel s view out) out
+  unfolding viewLabel
+  view-kept view = after-kept IsRefused Refused out _ (kth-kept (s .look) (s .views) view out) (s .judged)
+
+  views-kept : (first count : ℕ) → Kept IsUnasked (viewsRun s first count out) out
+  unfolding viewsRun
+  views-kept first count = after-kept IsUnasked Unasked out _ (run-kept (viewLabel s) first count out) (s .judged)
+
+  module _ (code : List ℕ) where
+    code-label-kept : (k : ℕ) → Kept IsRefused (codeLabel s code k out) out
+    unfolding codeLabel
+    code-label-kept k =
+        after-kept IsRefused Refused out _ (code-kept IsRefused Refused out _ (kth-kept (s .look) _ k out) code) (s .judged)
+
+    code-run-kept : (first count : ℕ) → Kept IsUnasked (codeRun s code first count out) out
+    unfolding codeRun
+    code-run-kept first count =
+        after-kept IsUnasked Unasked out _
+        (code-kept IsUnasked Unasked out _ (run-kept (codeLabel s code) first count out) code) (s .judged)
+
+    build-kept : Kept IsRefused (packBuilt s code out) out
+    unfolding packBuilt cutOutcome
+    build-kept =
+        after-kept IsRefused Refused out _
+        (code-kept IsRefused Refused out _
+        (cut-kept (firstBad (s .look) (inCode code (s .live))) (packOf (s .look) (inCode code (s .live)) code) out) code)
+        (s .judged)
+
+-- of a pack
+pack-label-kept : (pack : List ℕ) (k : ℕ) (out : List ℕ) → Kept IsRefused (packLabel pack k out) out
+unfolding packLabel
+pack-label-kept pack k out = after-kept IsRefused Refused out _ (point-kept pack k out) (opened pack)
+
+pack-run-kept : (pack : List ℕ) (first count : ℕ) (out : List ℕ) → Kept IsUnasked (packRun pack first count out) out
+unfolding packRun
+pack-run-kept pack first count out =
+    after-kept IsUnasked Unasked out _ (run-kept (packLabel pack) first count out) (opened pack)
+
+kept : (call : Call) (out : List ℕ) → Kept RefusedWhole (outcomeOf call out) out
+kept (of-table table) out = λ r. refl
+kept (of-points points) out = λ r. refl
+kept (of-views points) out = λ r. refl
+kept (of-letter points view) out = λ r. refl
+kept (of-live points code) out = λ r. refl
+kept (of-label table points view) out = view-kept (pairOf table points) out view
+kept (of-code-label table points code k) out = code-label-kept (pairOf table points) out code k
+kept (of-labels table points first count) out = views-kept (pairOf table points) out first count
+kept (of-code-labels table points code first count) out = code-run-kept (pairOf table points) out code first count
+kept (of-build table points code) out = build-kept (pairOf table points) out code
+kept (of-pack pack) out = λ r. refl
+kept (of-pack-label pack k) out = pack-label-kept pack k out
+kept (of-pack-labels pack first count) out = pack-run-kept pack first count out
+
+-- "a refused call writes nothing into lent memory": neither the buffer nor a run's bytes
+pub refused-writes-nothing : (call : Call) (out : List ℕ) (before : ℕ) → RefusedWhole (outcomeOf call out .answer)
+    → (comesTo call out before .memory ≡ out) × (comesTo call out before .bytes ≡ before)
+refused-writes-nothing call out before r = (kept call out r, by-saying (outcomeOf call out .answer) r)
   where
-    by-test : (t : Bool) → cond t next (Refused 0 BadCode) ≡ Refused file why → cond t written out ≡ out
-    by-test true e = kept file why e
-    by-test false e = refl
-
-cut-kept : (v : Verdict) (pack out : List ℕ) → Kept (cutWith v pack out) (leftWith v pack out) out
-cut-kept Fine pack out = room-kept pack out
-cut-kept (Bad why) pack out = λ f w e. refl
-
-point-kept : (pack : List ℕ) (k : ℕ) (out : List ℕ) → Kept (packAnswer pack k out) (packMemory pack k out) out
-unfolding packAnswer packMemory pointAnswer pointMemory
-point-kept pack k out file why = by-opened (opened pack)
-  where
-    by-point : (t : Bool) (text : List ℕ) → cond t (roomAnswer text out) (Refused 0 NoSuchNumber) ≡ Refused file why
-        → cond t (roomMemory text out) out ≡ out
-    by-point true text e = room-kept text out file why e
-    by-point false text e = refl
-
-    by-opened : (a : Answer) → afterOpened a (pointAnswer pack k out) (λ r. r) ≡ Refused file why
-        → afterOpened a (pointMemory pack k out) (λ r. out) ≡ out
-    by-opened (Value n) e = by-point (isPoint pack k) _ e
-    by-opened (Refused f w) e = refl
-
--- "a refused call writes nothing into lent memory"
-pub refused-writes-nothing : (call : Call) (out : List ℕ) (file : ℕ) (why : Reason) → answerOf call out ≡ Refused file why
-    → memoryOf call out ≡ out
-unfolding viewAnswer viewMemory codeAnswer codeMemory buildAnswer buildMemory codeCut codeCutMemory cutAnswer cutMemory
-refused-writes-nothing (of-table table) out file why e = refl
-refused-writes-nothing (of-points points) out file why e = refl
-refused-writes-nothing (of-views points) out file why e = refl
-refused-writes-nothing (of-letter points view) out file why e = refl
-refused-writes-nothing (of-live points code) out file why e = refl
-refused-writes-nothing (of-label table points view) out file why e =
-    pair-kept table points _ _ out (place-kept table points _ out) file why e
-refused-writes-nothing (of-code-label table points code k) out file why e =
-    pair-kept table points _ _ out (code-kept code _ _ out (place-kept table points _ out)) file why e
-refused-writes-nothing (of-build table points code) out file why e =
-    let views = liveIn points code in
-    let pack = packOf (tableLookup table) views code in
-    pair-kept table points _ _ out (code-kept code _ _ out (cut-kept (firstBad (tableLookup table) views) pack out)) file
-    why e
-refused-writes-nothing (of-pack pack) out file why e = refl
-refused-writes-nothing (of-pack-label pack k) out file why e = point-kept pack k out file why e
+    by-saying : (s : Saying) → RefusedWhole s → bytesOf s before ≡ before
+    by-saying (one answer) r = refl
+    by-saying (run (Unasked file why)) r = refl
+    by-saying (run (Stopped labels bytes why)) r = absurd r
+    by-saying (run (Done labels bytes)) r = absurd r

@@ -4,28 +4,25 @@
 use mathlib.Core.Path.{_≡_, refl}
 use lib.ListN.{replicate}
 use Rattle.refusal.specs.declared.Answer.the-variants.{Value}
+use Rattle.refusal.specs.Outcome.{said}
 use Rattle.changes_source.specs.Addresses.{addressesIn}
-use Rattle.label.specs.Label.{roomAnswer, roomMemory}
+use Rattle.label.specs.Label.{roomOutcome}
 use Rattle.pack.specs.Layout.{entriesOf, packBytes, packOf}
-use Rattle.pack.specs.Cutting.{cutAnswer, cutMemory}
+use Rattle.pack.specs.Cutting.{cutOutcome, packBuilt}
 use Rattle.pack.proofs.Worked.{code, worked}
 use Rattle.report_worked.proofs.Worked.{table, respelt, points, run-computes}
-use Rattle.changes_build.specs.Build.{codeCut, codeCutMemory, buildAnswer, buildMemory}
+use Rattle.changes_pair.specs.Pair.{pairOf}
 
 -- what a pack is computed from
 computes : Unit {0}
-unfolding run-computes addressesIn roomAnswer roomMemory entriesOf packBytes packOf cutAnswer cutMemory codeCut codeCutMemory buildAnswer buildMemory
+unfolding run-computes addressesIn roomOutcome entriesOf packBytes packOf cutOutcome packBuilt
 computes = tt
 
-pub the-pack : buildMemory table points code (replicate 129 0) ≡ worked
+pub the-pack : packBuilt (pairOf table points) code (replicate 129 0) ≡ said (Value 129) worked
 unfolding computes
 the-pack = refl
 
-pub its-answer : buildAnswer table points code (replicate 129 0) ≡ Value 129
-unfolding computes
-its-answer = refl
-
 -- document 02, No. 3: with the building respelt, its last spelling stands there once and the first not at all
-pub respelt-pack : buildMemory respelt points code (replicate 129 0) ≡ worked
+pub respelt-pack : packBuilt (pairOf respelt points) code (replicate 129 0) ≡ said (Value 129) worked
 unfolding computes
 respelt-pack = refl

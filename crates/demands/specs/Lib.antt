@@ -1,5 +1,5 @@
 pub mod Listed
 pub mod One
 pub mod Three
+pub mod Apart
 pub mod Unused
-pub mod Runs

@@ -1,15 +1,9 @@
--- Laws of the whole label: its four groups of lines by their bytes, and the answer and the memory of printing it.
+-- Laws of the whole label: its four groups of lines by their bytes.
 -- Assumes nothing.
-use Prim.Native.Nat.{ℕ, _+_, _≤_, _<_}
+use Prim.Native.Nat.{ℕ}
 use mathlib.Core.Path.{_≡_, refl, sym, ap, _∙_}
-use mathlib.Core.Bool.{true, false}
+use mathlib.Core.Bool.{true}
 use mathlib.Core.List.{List, [], _∷_, _++_, append-assoc}
-use native.Mathlib.Omega.{arith}
-use borrow.Author.Tests.{le-leb, lt-leb}
-use lib.Dec.{leb}
-use lib.ListN.{length, drop}
-use Rattle.refusal.specs.declared.Reason.the-variants.{Room}
-use Rattle.refusal.specs.declared.Answer.the-variants.{Value, Refused}
 use Rattle.source.specs.Address.{Elements}
 use Rattle.label.specs.declared.Spans.{Spans}
 use Rattle.label.specs.declared.shape.Shape.{Shape}
@@ -17,7 +11,7 @@ use Rattle.label.specs.declared.shape.Shape.the-variants.{Bare, NameLine
 use Rattle.label.specs.declared.shape.Lines.{Lines}
 use Rattle.label.specs.declared.shape.Front.{Front}
 use Rattle.label.specs.Lines.{line, boxLine, spaced, fronted, places, premisesOf, linesOf}
-use Rattle.label.specs.Label.{ended, labelOf, roomAnswer, roomMemory}
+use Rattle.label.specs.Label.{ended, labelOf}
 use Rattle.label.specs.Spans.{textIn2, elementsIn}
 use Rattle.label.specs.Put.{frontText, behindFront, headLines, rowLines}
 use Rattle.label.specs.Rows.{shapeIn, linesFor, frontFor}
@@ -78,18 +72,3 @@ module _ (a b : List ℕ) (e : Spans) (sh : Shape) (l : Lines) (f : Front)
         row-front a b e sh is-shape,
       )
       (groups (elementsIn a b e))
-
--- the answer and the memory where there is no room, and where there is
-pub room-refused : (t o : List ℕ) (n : ℕ) → n ≡ length t → length o < n
-    → (Refused 0 (Room n) ≡ roomAnswer t o) × (o ≡ roomMemory t o)
-unfolding roomAnswer roomMemory
-room-refused t o n p h =
-    let s : leb (length t) (length o) ≡ false = lt-leb (length t) (length o) (omega arith) in
-    (simp (s, p), simp s)
-
-pub room-written : (t o y : List ℕ) (r : ℕ) → length t ≤ length o → r ≡ length t → y ≡ t ++ drop (length t) o
-    → (Value r ≡ roomAnswer t o) × (y ≡ roomMemory t o)
-unfolding roomAnswer roomMemory
-room-written t o y r h p e =
-    let s : leb (length t) (length o) ≡ true = le-leb (length t) (length o) h in
-    (simp (s, p), simp s e)

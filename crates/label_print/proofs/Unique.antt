@@ -1,32 +1,23 @@
--- The contract of `print_label` allows one answer and one content of the lent buffer, and what it leaves untouched.
+-- What `print_label` leaves untouched.
 -- Assumes nothing.
-use mathlib.Core.Path.{_≡_, sym, _∙_}
+use mathlib.Core.Path.{_≡_, ap, _∙_}
 use mathlib.Core.List.{List}
 use Prim.Native.Nat.{ℕ, zero, suc, _-_, _≤_}
 use native.Mathlib.Nat.{sub-zero, zero-sub, suc-sub-suc}
 use native.Mathlib.Omega.{arith}
-use borrow.Author.Tests.{le-leb}
 use lib.ListN.{length, drop, replicate, length-replicate}
 use lib.Seq.{drop-append-seam}
 use Rattle.refusal.specs.declared.Answer.{Answer}
-use Rattle.label.specs.declared.Spans.{Spans}
-use Rattle.label.specs.Label.{labelOf, roomAnswer, roomMemory}
-use Rattle.label.specs.Spans.{elementsIn}
-
--- what the contract allows, clause by clause
-pub record Allowed (a b : List ℕ) (e : Spans) (out : List ℕ) (r : Answer) (exit : List ℕ) : Type 0 where
-  pub answer : r ≡ roomAnswer (labelOf (elementsIn a b e)) out
-  pub memory : exit ≡ roomMemory (labelOf (elementsIn a b e)) out
-
-pub one-answer : {a b out y z : List ℕ} {e : Spans} {r s : Answer} → Allowed a b e out r y → Allowed a b e out s z
-    → (r ≡ s) × (y ≡ z)
-one-answer p q = (p .answer ∙ sym (q .answer), p .memory ∙ sym (q .memory))
+use Rattle.refusal.specs.Outcome.{Outcome}
+use Rattle.label.specs.Label.{roomOutcome}
+use Rattle.label.proofs.Room.{room-fits}
 
 -- bytes behind the text stay as they were
 pub tail-kept : (text out : List ℕ) → length text ≤ length out
-    → drop (length text) (roomMemory text out) ≡ drop (length text) out
-unfolding roomMemory
-tail-kept text out h = rw (le-leb (length text) (length out) h) (drop-append-seam text (drop (length text) out))
+    → drop (length text) (roomOutcome text out .memory) ≡ drop (length text) out
+tail-kept text out h =
+    ap (λ (o : Outcome Answer). drop (length text) (o .memory)) (room-fits text out h)
+    ∙ drop-append-seam text (drop (length text) out)
 
 abbrev pub zeros : ℕ → List ℕ
 zeros n = replicate n 0
@@ -38,7 +29,7 @@ drop-zeros (suc n) (suc m) = drop-zeros n m ∙ rw (suc-sub-suc m n)
 
 -- "A fresh label buffer is 499 zero bytes": what the label leaves untouched is still zero
 pub fresh-tail : (text : List ℕ) → length text ≤ 499
-    → drop (length text) (roomMemory text (zeros 499)) ≡ zeros (499 - length text)
+    → drop (length text) (roomOutcome text (zeros 499) .memory) ≡ zeros (499 - length text)
 fresh-tail text h = tail-kept text (zeros 499) (fits h) ∙ drop-zeros (length text) 499
   where
     size : (n : ℕ) → length (zeros n) ≡ n

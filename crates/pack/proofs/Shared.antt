@@ -13,11 +13,11 @@ use Rattle.refusal.specs.declared.Answer.the-variants.{Value, Refused}
 use Rattle.source.specs.Address.{Organisation, none-needed, named, Address}
 use Rattle.source.proofs.Worked.{quarry, lane, tables}
 use Rattle.label.specs.Lines.{numberText, linesOf}
-use Rattle.label.specs.Label.{labelOf, roomAnswer}
+use Rattle.label.specs.Label.{labelOf, roomOutcome}
 use Rattle.pack.specs.Numbers.{numberAt}
 use Rattle.pack.specs.Layout.{entriesOf, packBytes, packOf}
 use Rattle.pack.specs.Opening.{trailerGood, textGood, rowGood, offsetGood, allRowsGood, plainGood, allowedMix, organisationGood, partsGood, allPointsGood, opened}
-use Rattle.pack.specs.Points.{elementsFrom, pointAnswer, packAnswer}
+use Rattle.pack.specs.Points.{elementsFrom, pointLabel, packLabel}
 use Rattle.pack.proofs.Worked.{code, nowhere, rows}
 
 -- a view of AB1 9ZZ in locality 1, with the same name and descriptor for both of its thoroughfares
@@ -85,8 +85,8 @@ it-opens = refl
 
 -- what its numbers are answered, into no buffer: "files and pack alike answer 7"
 abbrev asked : List Answer
-asked = packAnswer both 0 [] ∷ packAnswer both 1 [] ∷ packAnswer both 2 [] ∷ packAnswer both 3 [] ∷ []
+asked = packLabel both 0 [] .answer ∷ packLabel both 1 [] .answer ∷ packLabel both 2 [] .answer ∷ packLabel both 3 [] .answer ∷ []
 
 pub answers : asked ≡ Refused 0 NoSuchNumber ∷ Refused 0 (Room 76) ∷ Refused 0 (Room 23) ∷ Refused 0 NoSuchNumber ∷ []
-unfolding numberAt outwardFault class allowed trailerGood textGood rowGood offsetGood allRowsGood plainGood allowedMix organisationGood partsGood allPointsGood opened inwardFault inwardLetter textFault packAnswer pointAnswer elementsFrom textIn labelOf linesOf numberText numericLike roomAnswer
+unfolding numberAt outwardFault class allowed trailerGood textGood rowGood offsetGood allRowsGood plainGood allowedMix organisationGood partsGood allPointsGood opened inwardFault inwardLetter textFault packLabel pointLabel elementsFrom textIn labelOf linesOf numberText numericLike roomOutcome
 answers = refl

@@ -8,9 +8,10 @@ use lib.ListN.{getD}
 use Rattle.field.specs.Text.{textIn, part}
 use Rattle.refusal.specs.declared.Reason.the-variants.{NoSuchNumber}
 use Rattle.refusal.specs.declared.Answer.{Answer}
-use Rattle.refusal.specs.declared.Answer.the-variants.{Value, Refused}
+use Rattle.refusal.specs.declared.Answer.the-variants.{Refused}
+use Rattle.refusal.specs.Outcome.{Outcome, said, afterwards}
 use Rattle.source.specs.Address.{Elements}
-use Rattle.label.specs.Label.{labelOf, roomAnswer, roomMemory}
+use Rattle.label.specs.Label.{labelOf, roomOutcome}
 use Rattle.pack.specs.Names.{inwardAt, postcodeWidth, concatenationAt, boxAt, offsetsAt, pointWidth, absent}
 use Rattle.pack.specs.Opening.{edition, pointsStart, pointCount, rowArea, rowText, restOf, offsetOfPoint, buildingNumber, opened}
 
@@ -53,20 +54,11 @@ pointPlace pack k = pointsStart pack + pointWidth (edition pack) * (k - 1)
 abbrev pub isPoint : List ℕ → ℕ → Bool
 isPoint pack k = leb 1 k && leb k (pointCount pack)
 
-unfoldable pub pointAnswer : List ℕ → ℕ → List ℕ → Answer
-pointAnswer pack k out =
-    cond (isPoint pack k) (roomAnswer (labelOf (elementsAt pack (pointPlace pack k))) out) (Refused 0 NoSuchNumber)
+-- the label of a point, of a pack that is opened
+unfoldable pub pointLabel : List ℕ → ℕ → List ℕ → Outcome Answer
+pointLabel pack k out =
+    cond (isPoint pack k) (roomOutcome (labelOf (elementsAt pack (pointPlace pack k))) out) (said (Refused 0 NoSuchNumber) out)
 
-unfoldable pub pointMemory : List ℕ → ℕ → List ℕ → List ℕ
-pointMemory pack k out = cond (isPoint pack k) (roomMemory (labelOf (elementsAt pack (pointPlace pack k))) out) out
-
--- an accepted pack first
-abbrev pub afterOpened : {A : Type 0} → Answer → A → (Answer → A) → A
-afterOpened (Value n) next otherwise = next
-afterOpened (Refused file why) next otherwise = otherwise (Refused file why)
-
-unfoldable pub packAnswer : List ℕ → ℕ → List ℕ → Answer
-packAnswer pack k out = afterOpened (opened pack) (pointAnswer pack k out) (λ r. r)
-
-unfoldable pub packMemory : List ℕ → ℕ → List ℕ → List ℕ
-packMemory pack k out = afterOpened (opened pack) (pointMemory pack k out) (λ r. out)
+-- of any bytes: "Labels from a pack: 11, 7, 10"
+unfoldable pub packLabel : List ℕ → ℕ → List ℕ → Outcome Answer
+packLabel pack k out = afterwards Refused (opened pack) out (pointLabel pack k out)

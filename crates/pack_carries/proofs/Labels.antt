@@ -13,9 +13,10 @@ use Rattle.source.specs.Address.{Lookup, Address}
 use Rattle.source.specs.Resolve.{elementsOf, elements, resolve}
 use Rattle.pack.specs.Layout.{packOf}
 use Rattle.pack.specs.Opening.{pointCount}
-use Rattle.pack.specs.Points.{elementsAt, pointPlace, isPoint, pointAnswer, pointMemory, packAnswer, packMemory}
+use Rattle.pack.specs.Points.{elementsAt, pointPlace, isPoint, pointLabel, packLabel}
 use Rattle.pack.specs.Sound.{AddressSound, AddressesSound, Sound}
-use Rattle.pack_carries.specs.Kth.{kth, kthAnswer, kthMemory}
+use Rattle.ask.specs.Labels.{kth, kthLabel}
+use Rattle.ask.proofs.Kth.{kth-zero, kth-none}
 use Rattle.pack_carries.proofs.Carried.{pack-says, pack-opens, pack-elements}
 
 -- a sound address is refused nothing
@@ -23,15 +24,6 @@ pub resolved-sound : (look : Lookup) (code : List ℕ) (a : Address) → Address
     → resolve look a ≡ elements (elementsOf look a)
 unfolding resolve
 resolved-sound look code a g = rw (g .mix, g .rows)
-
-pub kth-zero : (addresses : List Address) → kth addresses 0 ≡ none
-kth-zero [] = refl
-kth-zero (a ∷ more) = refl
-
-pub kth-none : (addresses : List Address) (j : ℕ) → length addresses ≤ j → kth addresses (suc j) ≡ none
-kth-none [] j h = refl
-kth-none (a ∷ more) zero h = absurd (omega arith)
-kth-none (a ∷ more) (suc j) h = kth-none more j (omega arith)
 
 -- the k-th of sound addresses is one of them
 record IsKth (look : Lookup) (code : List ℕ) (addresses : List Address) (j : ℕ) : Type 0 where
@@ -84,18 +76,10 @@ module _ (look : Lookup) (addresses : List Address) (code : List ℕ) (g : Sound
           (kth-none addresses j (omega (arith, leb-false (suc j) (pointCount pack) e, count)))
 
   -- every number asks the pack and the source alike
-  pub pack-labels : (k : ℕ) (out : List ℕ) → packAnswer pack k out ≡ kthAnswer look addresses k out
-  unfolding packAnswer pointAnswer kthAnswer
+  pub pack-labels : (k : ℕ) (out : List ℕ) → packLabel pack k out ≡ kthLabel look addresses k out
+  unfolding packLabel pointLabel kthLabel
   pack-labels k out = rw (pack-opens look addresses code g) (by-case (point-at k))
     where
-      by-case : PointOf look addresses pack k → pointAnswer pack k out ≡ kthAnswer look addresses k out
-      by-case (neither p q) = rw (p, q)
-      by-case (each a p q e) = rw (p, q, e)
-
-  pub pack-memories : (k : ℕ) (out : List ℕ) → packMemory pack k out ≡ kthMemory look addresses k out
-  unfolding packMemory pointMemory kthMemory
-  pack-memories k out = rw (pack-opens look addresses code g) (by-case (point-at k))
-    where
-      by-case : PointOf look addresses pack k → pointMemory pack k out ≡ kthMemory look addresses k out
+      by-case : PointOf look addresses pack k → pointLabel pack k out ≡ kthLabel look addresses k out
       by-case (neither p q) = rw (p, q)
       by-case (each a p q e) = rw (p, q, e)

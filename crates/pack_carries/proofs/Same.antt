@@ -10,7 +10,7 @@ use lib.Dec.{eqb}
 use Rattle.field.specs.Test.{elem}
 use Rattle.field.proofs.Tests.{and-left, and-right}
 use Rattle.source.specs.Address.{Lookup, Address, present, Asked, keysOf, ref, kindOf, keyOf}
-use Rattle.source.specs.Same.{Agree}
+use Rattle.source.specs.Same.{AllOf, Agree, AllAgree}
 use Rattle.pack.specs.Layout.{usedBy, textsOr, entry, tableEntries, organisationEntries, entriesOf, packBytes, packOf}
 use Rattle.pack.specs.Names.{newest}
 use Rattle.pack.specs.Sound.{KeysFit, AddressesSound}
@@ -21,19 +21,13 @@ use Rattle.pack_carries.proofs.Rows.{or-true}
 
 -- each key of each address has eight digits
 abbrev pub AllFit : List Address → Type 0
-AllFit [] = Unit {0}
-AllFit (a ∷ more) = KeysFit (keysOf a) × AllFit more
+AllFit = AllOf (λ a. KeysFit (keysOf a))
 
 pub sound-fit : (look : Lookup) (code : List ℕ) (low : ℕ) (addresses : List Address)
     → AddressesSound look code low addresses
     → AllFit addresses
 sound-fit look code low [] g = tt
 sound-fit look code low (a ∷ more) g = (g .1 .0 .keys, sound-fit look code (a .view) more (g .1 .1))
-
--- two look-ups agree on each key of each address
-abbrev pub AllAgree : Lookup → Lookup → List Address → Type 0
-AllAgree look other [] = Unit {0}
-AllAgree look other (a ∷ more) = Agree look other (keysOf a) × AllAgree look other more
 
 module _ (look other : Lookup) where
   -- they find the same for a number

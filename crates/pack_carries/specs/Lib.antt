@@ -1,3 +1,2 @@
 pub mod Used
-pub mod Kth
 pub mod Rows

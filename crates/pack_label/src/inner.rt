@@ -7,17 +7,17 @@ use refusal::Answer;
 use refusal::Reason;
 ghost use mathlib.Core.Path.{_≡_};
 ghost use Prim.Native.Nat.{_≤_};
-ghost use Rattle.label.specs.Label.{labelOf, roomAnswer, roomMemory};
+ghost use Rattle.refusal.specs.Outcome.{said};
+ghost use Rattle.label.specs.Label.{labelOf, roomOutcome};
 ghost use Rattle.pack.specs.Opening.{pointCount};
-ghost use Rattle.pack.specs.Points.{elementsAt, pointPlace, pointAnswer, pointMemory};
+ghost use Rattle.pack.specs.Points.{elementsAt, pointPlace, pointLabel};
 ghost use Rattle.pack_points.specs.Ready.{Sized};
 
 // The label of point k of a pack that has so many.
 fn point_label<'a>(pack: &'a [u8], k: usize, out: &mut [u8]) -> Answer
     requires { ⌜ Sized (now pack) × ((1 ≤ k) × (k ≤ pointCount (now pack))) ⌝ }
-    ensures { λ r. ⌜ (r ≡ roomAnswer (labelOf (elementsAt (now (pack .entry)) (pointPlace (now (pack .entry)) k)))
-        (now (out .entry))) × (now (out .exit) ≡ roomMemory (labelOf
-        (elementsAt (now (pack .entry)) (pointPlace (now (pack .entry)) k))) (now (out .entry))) ⌝ }
+    ensures { λ r. ⌜ said r (now (out .exit)) ≡ roomOutcome
+        (labelOf (elementsAt (now (pack .entry)) (pointPlace (now (pack .entry)) k))) (now (out .entry)) ⌝ }
 {
     let layout = layout_in(pack);
     let start = trailer_number(pack, layout, PackTrailer::START);
@@ -29,8 +29,7 @@ fn point_label<'a>(pack: &'a [u8], k: usize, out: &mut [u8]) -> Answer
 // The label of point k, counted from 1, of a pack that has so many points.
 pub fn label_at<'a>(pack: &'a [u8], count: usize, k: usize, out: &mut [u8]) -> Answer
     requires { ⌜ Sized (now pack) × (count ≡ pointCount (now pack)) ⌝ }
-    ensures { λ r. ⌜ (r ≡ pointAnswer (now (pack .entry)) k (now (out .entry)))
-        × (now (out .exit) ≡ pointMemory (now (pack .entry)) k (now (out .entry))) ⌝ }
+    ensures { λ r. ⌜ said r (now (out .exit)) ≡ pointLabel (now (pack .entry)) k (now (out .entry)) ⌝ }
 {
     let there = (1 <= k) & (k <= count);
     if !there {

@@ -2,21 +2,18 @@
 use refusal::Answer;
 use run::Series;
 ghost use mathlib.Core.Path.{_≡_};
-ghost use mathlib.Core.List.{_++_};
 ghost use Prim.Native.Nat.{_≤_};
-ghost use lib.ListN.{length, take, drop};
+ghost use lib.ListN.{length};
+ghost use Rattle.refusal.specs.Outcome.{said};
 ghost use Rattle.pack.specs.Opening.{pointCount};
-ghost use Rattle.pack.specs.Points.{pointAnswer, pointMemory};
+ghost use Rattle.pack.specs.Points.{pointLabel};
 ghost use Rattle.pack_points.specs.Ready.{Sized};
-ghost use Rattle.run.specs.Series.{seriesFrom, memoryFrom};
-ghost use Rattle.pack_runs.specs.Runs.{pointsAsked};
+ghost use Rattle.run.specs.Series.{askedBehind, runFrom};
 
 // The label of point k, behind so many bytes.
 fn label_behind<'a>(pack: &'a [u8], points: usize, k: usize, at: usize, out: &mut [u8]) -> Answer
     requires { ⌜ (at ≤ length (now out)) × (Sized (now pack) × (points ≡ pointCount (now pack))) ⌝ }
-    ensures { λ r. ⌜ (r ≡ pointAnswer (now (pack .entry)) k (drop at (now (out .entry))))
-        × (now (out .exit) ≡ take at (now (out .entry)) ++ pointMemory (now (pack .entry)) k
-        (drop at (now (out .entry)))) ⌝ }
+    ensures { λ r. ⌜ said r (now (out .exit)) ≡ askedBehind at (now (out .entry)) (pointLabel (now (pack .entry)) k) ⌝ }
 {
     pack_label::inner::label_at(pack, points, k, &mut out[at..])
 }
@@ -30,8 +27,7 @@ pub fn run_points<'a>(
     out: &mut [u8],
 ) -> Series
     requires { ⌜ Sized (now pack) × (points ≡ pointCount (now pack)) ⌝ }
-    ensures { λ r. ⌜ (r ≡ seriesFrom (pointsAsked (now (pack .entry))) first count (now (out .entry)))
-        × (now (out .exit) ≡ memoryFrom (pointsAsked (now (pack .entry))) first count (now (out .entry))) ⌝ }
+    ensures { λ r. ⌜ said r (now (out .exit)) ≡ runFrom (pointLabel (now (pack .entry))) first count (now (out .entry)) ⌝ }
 {
     let mut k = first;
     let mut at = 0;

@@ -1,3 +1,4 @@
 pub mod Refusal
 pub mod Packed
 pub mod Verdict
+pub mod Outcome

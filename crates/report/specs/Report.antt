@@ -16,7 +16,7 @@ use Rattle.file.specs.Formats.{tableFormat, pointFormat}
 use Rattle.changes_views.specs.Views.{wantedCount, wantedAt}
 use Rattle.source.specs.Resolve.{Resolved, elements, refused}
 use Rattle.label.specs.Label.{labelOf}
-use Rattle.changes_label.specs.Pair.{resolvedAt}
+use Rattle.changes_label.specs.Places.{resolvedAt}
 
 -- the words `pair`, `view`, `refused`, `table`, `points`, `long`
 abbrev pub pairWord : List ℕ

@@ -30,7 +30,7 @@ use Rattle.source.specs.Resolve.{forbiddenOf, forbidden, lacks, missingFrom, la
 use Rattle.changes_source.specs.Rows.{tableLookup}
 use Rattle.changes_source.specs.Addresses.{addressAt}
 use Rattle.label.specs.Label.{labelOf}
-use Rattle.changes_label.specs.Pair.{resolvedAt, ViewPlace}
+use Rattle.changes_label.specs.Places.{resolvedAt, ViewPlace}
 use Rattle.changes_label.proofs.Laws.{wanted-place}
 use Rattle.report.specs.Fed.{fitting}
 use Rattle.report.specs.Report.{tableWord, pointsWord, decimal, spacedNumber, byteText, refusedLine, resolvedText, viewText, block, blocks, pairText, fileText, pointsText, reportOf}
@@ -223,7 +223,7 @@ module _ (table points : List ℕ) (t : Accepted tableFormat table) (p : Accepte
       (omega (
         arith,
         decimal-size 4 k (omega arith),
-        view-size (wantedAt [] points k) (wanted-place table points [] k t p),
+        view-size (wantedAt [] points k) (wanted-place table points [] k t),
       ))
 
   blocks-size : (k : ℕ) → k ≤ 300 → length (blocks table points k) ≤ k * 512

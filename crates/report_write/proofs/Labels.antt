@@ -5,21 +5,23 @@ use mathlib.Core.Path.{_≡_, refl, sym, ap, subst}
 use mathlib.Core.Bool.{Bool, true, false, cond}
 use mathlib.Core.List.{List}
 use native.Mathlib.Omega.{arith}
-use borrow.Author.Tests.{eqb-false, le-leb}
+use borrow.Author.Tests.{eqb-false}
 use lib.Dec.{eqb}
 use lib.ListN.{length, take, drop, length-append}
 use lib.Seq.{take-append-seam}
 use Rattle.refusal.specs.declared.Reason.{Reason}
 use Rattle.refusal.specs.declared.Answer.{Answer}
 use Rattle.refusal.specs.declared.Answer.the-variants.{Value, Refused}
+use Rattle.refusal.specs.Outcome.{Outcome}
 use Rattle.source.specs.Address.{Lookup, Address, Elements}
 use Rattle.source.specs.Resolve.{Resolved, elements, refused, forbidden, missing, elementsOf, resolve}
 use Rattle.changes_source.specs.Rows.{tableLookup}
 use Rattle.changes_source.specs.Addresses.{addressAt}
-use Rattle.label.specs.Label.{labelOf, roomAnswer, roomMemory, resolvedAnswer, resolvedMemory}
+use Rattle.label.specs.Label.{labelOf, roomOutcome, resolvedOutcome}
+use Rattle.label.proofs.Room.{room-fits}
 use Rattle.label.proofs.Bounds.{at-most-499}
 use Rattle.changes_meaning.proofs.Meant.{address-fits}
-use Rattle.changes_label.specs.Pair.{resolvedAt, placeAnswer, placeMemory, ViewPlace}
+use Rattle.changes_label.specs.Places.{resolvedAt, placeLabel, ViewPlace}
 use Rattle.report.specs.Report.{refusedLine, resolvedText, viewText}
 
 -- what an answer and a buffer say of a text: it stands in front of the buffer, or it is the refusal's line
@@ -36,14 +38,17 @@ pub told-refused : (text m : List ℕ) {a : Answer} (file : ℕ) (why : Reason) 
     → refusedLine why ≡ text
 told-refused text m file why t e = subst (λ (z : Answer). Told text z m) e t
 
-room-told : (text out : List ℕ) → length text ≤ length out → Told text (roomAnswer text out) (roomMemory text out)
-unfolding roomAnswer roomMemory
+-- the same of what printing comes to
+abbrev pub ToldBy : List ℕ → Outcome Answer → Type 0
+ToldBy text o = Told text (o .answer) (o .memory)
+
+room-told : (text out : List ℕ) → length text ≤ length out → ToldBy text (roomOutcome text out)
 room-told text out h =
-    rw (le-leb (length text) (length out) h)
+    rw (room-fits text out h)
     (omega (arith, length-append text (drop (length text) out)), take-append-seam text (drop (length text) out))
 
 resolved-told : (r : Resolved) (out : List ℕ) → ((e : Elements) → r ≡ elements e → length (labelOf e) ≤ length out)
-    → Told (resolvedText r) (resolvedAnswer r out) (resolvedMemory r out)
+    → ToldBy (resolvedText r) (resolvedOutcome r out)
 resolved-told (elements e) out fits = room-told (labelOf e) out (fits e refl)
 resolved-told (refused why) out fits = refl
 
@@ -69,19 +74,17 @@ module _ (table points : List ℕ) (place : ℕ) (v : ViewPlace table points pla
 
   module _ (out : List ℕ) (n : 499 ≤ length out) where
     some-told : (place ≡ 0 → ⊥)
-        → Told (resolvedText (resolvedAt table points place)) (resolvedAnswer (resolvedAt table points place) out)
-        (resolvedMemory (resolvedAt table points place) out)
+        → ToldBy (resolvedText (resolvedAt table points place)) (resolvedOutcome (resolvedAt table points place) out)
     some-told some =
         resolved-told (resolvedAt table points place) out
         (λ e h.
         let same = resolved-is (tableLookup table) (addressAt points 0 place) e h in
         omega (arith, label-fits some, ap (λ (x : Elements). length (labelOf x)) same))
 
-    pub view-told : Told (viewText table points place) (placeAnswer table points place out) (placeMemory table points place out)
-    unfolding viewText placeAnswer placeMemory
+    pub view-told : ToldBy (viewText table points place) (placeLabel table points place out)
+    unfolding viewText placeLabel
     view-told = by-test (eqb place 0) refl
       where
-        by-test : (t : Bool) → eqb place 0 ≡ t
-            → Told (viewText table points place) (placeAnswer table points place out) (placeMemory table points place out)
+        by-test : (t : Bool) → eqb place 0 ≡ t → ToldBy (viewText table points place) (placeLabel table points place out)
         by-test true e = rw e refl
         by-test false e = rw e (some-told (eqb-false place 0 e))

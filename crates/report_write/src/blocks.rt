@@ -7,7 +7,7 @@ ghost use Prim.Native.Nat.{_≤_};
 ghost use lib.ListN.{length};
 ghost use Rattle.file.proofs.Accepted.{Accepted};
 ghost use Rattle.file.specs.Formats.{tableFormat, pointFormat};
-ghost use Rattle.changes_label.specs.Pair.{ViewPlace};
+ghost use Rattle.changes_label.specs.Places.{ViewPlace};
 ghost use Rattle.report.specs.Fed.{Fed};
 ghost use Rattle.report.specs.Report.{viewText, block, blocks};
 

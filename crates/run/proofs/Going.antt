@@ -12,7 +12,9 @@ use Rattle.refusal.specs.declared.Answer.{Answer}
 use Rattle.refusal.specs.declared.Answer.the-variants.{Value, Refused}
 use Rattle.run.specs.declared.Series.{Series}
 use Rattle.run.specs.declared.Series.the-variants.{Unasked, Stopped, Done}
-use Rattle.run.specs.Series.{Asking, behind, goOn, seriesFrom, memoryFrom}
+use Rattle.refusal.specs.Outcome.{Outcome, said}
+use Rattle.refusal.proofs.Outcomes.{said-as, answer-of, memory-of}
+use Rattle.run.specs.Series.{Asking, askedBehind, behind, goOn, runFrom}
 
 done-asked : (l b file : ℕ) (why : Reason) → Done l b ≡ Unasked file why → ⊥
 done-asked l b file why e = let z : _≡_ {A = ℕ} 0 1 = cc in omega arith
@@ -36,62 +38,93 @@ behind-more labels bytes b (Done l c) =
     let m : bytes + (b + c) ≡ bytes + b + c = omega arith in
     rw (n, m)
 
+-- a run behind so many labels, which take these bytes
+abbrev pub put-before : ℕ → ℕ → (front : List ℕ) → Outcome Series → Outcome Series
+put-before labels bytes front o = said (behind labels bytes (o .answer)) (front ++ o .memory)
+
+-- a label that was asked in a lent part of the buffer, which is given back
+pub lent-behind : (ask : List ℕ → Outcome Answer) (at : ℕ) (out : List ℕ) {r : Answer} {part exit : List ℕ}
+    → exit ≡ take at out ++ part → said r part ≡ ask (drop at out) → said r exit ≡ askedBehind at out ask
+lent-behind ask at out back e =
+    said-as (answer-of e) (back ∙ ap (λ (z : List ℕ). take at out ++ z) (memory-of e))
+
+-- a label that is answered with its bytes fits
+abbrev pub Fitting : Asking → Type 0
+Fitting a = (k : ℕ) (out : List ℕ) (b : ℕ) → a k out .answer ≡ Value b → b ≤ length (a k out .memory)
+
 -- `done` labels are written in the first `at` bytes of the buffer, which was `out` and is `here`
 pub record Going (a : Asking) (first count : ℕ) (out : List ℕ) (done at : ℕ) (here : List ℕ) : Type 0 where
   pub within : at ≤ length here
-  pub answer-on : seriesFrom a first count out ≡ behind done at (seriesFrom a (first + done) (count - done) (drop at here))
-  pub memory-on : memoryFrom a first count out ≡ take at here ++ memoryFrom a (first + done) (count - done) (drop at here)
+  pub on : runFrom a first count out
+      ≡ put-before done at (take at here) (runFrom a (first + done) (count - done) (drop at here))
 
 pub going-start : (a : Asking) (first count : ℕ) (out : List ℕ) → Going a first count out 0 0 out
 going-start a first count out =
     let n : first + 0 ≡ first = omega arith in
     let m : count - 0 ≡ count = omega arith in
-    record { within = omega arith; answer-on = rw (n, m) (sym (behind-none (seriesFrom a first count out))); memory-on = rw (n, m) refl }
+    record {
+      within = omega arith;
+      on = rw (n, m) (said-as (sym (behind-none (runFrom a first count out .answer))) refl);
+    }
 
-module _ (a : Asking) (first count : ℕ) (out : List ℕ) (done at : ℕ) (here : List ℕ) (g : Going a first count out done at here) where
-  pub going-end : count ≤ done
-      → (Done done at ≡ seriesFrom a first count out) × (here ≡ memoryFrom a first count out)
+module _ {a : Asking} {first count : ℕ} {out : List ℕ} {done at : ℕ} {here : List ℕ} (g : Going a first count out done at here) where
+  pub going-end : count ≤ done → said (Done done at) here ≡ runFrom a first count out
   going-end h =
       let none : count - done ≡ 0 = omega arith in
       let n : done + 0 ≡ done = omega arith in
-      let m : at + 0 ≡ at = omega arith in (
-        sym (g .answer-on ∙ rw (none, n, m)),
-        sym (g .memory-on ∙ rw none (take-append-drop at here)),
-      )
+      let m : at + 0 ≡ at = omega arith in
+      sym (g .on ∙ rw (none, n, m, take-append-drop at here))
 
-  module _ (h : done < count) where
+  -- the next label is asked in what is left: it comes to `r`, and leaves `y`
+  module _ (fit : Fitting a) (h : done < count) {r : Answer} {y : List ℕ} (asked : said r y ≡ askedBehind at here (a (first + done))) where
+    abbrev written : List ℕ
+    written = a (first + done) (drop at here) .memory
+
     left : count - done ≡ suc (count - (done + 1))
     left = omega arith
 
-    pub going-stop : (file : ℕ) (why : Reason) → a .answer (first + done) (drop at here) ≡ Refused file why
-        → (Stopped done at why ≡ seriesFrom a first count out)
-        × (take at here ++ a .memory (first + done) (drop at here) ≡ memoryFrom a first count out)
-    going-stop file why e =
+    front : length (take at here) ≡ at
+    front = length-take-le at here (g .within)
+
+    pub going-stop : {file : ℕ} {why : Reason} → r ≡ Refused file why
+        → said (Stopped done at why) y ≡ runFrom a first count out
+    going-stop e =
         let n : done + 0 ≡ done = omega arith in
         let m : at + 0 ≡ at = omega arith in
-        (sym (g .answer-on ∙ rw left (simp e (rw (n, m)))), sym (g .memory-on ∙ rw left (simp e)))
+        let refused = sym (answer-of asked) ∙ e in
+        said-as refl (memory-of asked) ∙ sym (g .on ∙ rw (left, refused, n, m))
 
-    pub going-step : (b : ℕ) → a .answer (first + done) (drop at here) ≡ Value b
-        → b ≤ length (a .memory (first + done) (drop at here))
-        → Going a first count out (done + 1) (at + b) (take at here ++ a .memory (first + done) (drop at here))
-    going-step b e fits =
-        let written = a .memory (first + done) (drop at here) in
-        let front : length (take at here) ≡ at = length-take-le at here (g .within) in
-        let took : take (at + b) (take at here ++ written) ≡ take at here ++ take b written =
-        ap (λ n. take (n + b) (take at here ++ written)) (sym front) ∙ take-append-add (take at here) written b in
-        let dropped : drop (at + b) (take at here ++ written) ≡ drop b written =
-        ap (λ n. drop (n + b) (take at here ++ written)) (sym front) ∙ drop-append-add (take at here) written b in
-        let n : first + (done + 1) ≡ suc (first + done) = omega arith in
-        let rest = seriesFrom a (suc (first + done)) (count - (done + 1)) (drop b written) in
-        let more = memoryFrom a (suc (first + done)) (count - (done + 1)) (drop b written) in
-        record {
-          within = omega (arith, length-append (take at here) written, front);
-          answer-on =
-              g .answer-on ∙ (rw left (simp e) ∙ (behind-more done at b rest ∙ rw (dropped, n) refl));
-          memory-on =
-              g .memory-on
-              ∙ (rw left (simp e) ∙ (sym (append-assoc (take at here) (take b written) more) ∙ rw (took, dropped, n) refl));
-        }
+    module _ {b : ℕ} (e : r ≡ Value b) where
+      value : a (first + done) (drop at here) .answer ≡ Value b
+      value = sym (answer-of asked) ∙ e
+
+      -- what was written stays within the buffer
+      pub going-fits : at + b ≤ length y
+      going-fits =
+          omega (
+            arith,
+            ap length (memory-of asked),
+            length-append (take at here) written,
+            front,
+            fit (first + done) (drop at here) b value,
+          )
+
+      pub going-step : Going a first count out (done + 1) (at + b) y
+      going-step =
+          let took : take (at + b) (take at here ++ written) ≡ take at here ++ take b written =
+          ap (λ n. take (n + b) (take at here ++ written)) (sym front) ∙ take-append-add (take at here) written b in
+          let dropped : drop (at + b) (take at here ++ written) ≡ drop b written =
+          ap (λ n. drop (n + b) (take at here ++ written)) (sym front) ∙ drop-append-add (take at here) written b in
+          let n : first + (done + 1) ≡ suc (first + done) = omega arith in
+          let rest = runFrom a (suc (first + done)) (count - (done + 1)) (drop b written) in
+          record {
+            within = going-fits;
+            on =
+                g .on
+                ∙ rw (memory-of asked, left, value, took, dropped, n)
+                (said-as (behind-more done at b (rest .answer))
+                (sym (append-assoc (take at here) (take b written) (rest .memory))));
+          }
 
 -- a run that is asked at all is never refused as a whole
 behind-asked : (labels bytes : ℕ) (s : Series) (file : ℕ) (why : Reason) → behind labels bytes s ≡ Unasked file why
@@ -100,14 +133,15 @@ behind-asked labels bytes (Unasked f w) file why e = e
 behind-asked labels bytes (Stopped l b w) file why e = absurd (stopped-asked (labels + l) (bytes + b) file w why e)
 behind-asked labels bytes (Done l b) file why e = absurd (done-asked (labels + l) (bytes + b) file why e)
 
-pub never-unasked : (a : Asking) (n k : ℕ) (out : List ℕ) (file : ℕ) (why : Reason) → seriesFrom a k n out ≡ Unasked file why
+pub never-unasked : (a : Asking) (n k : ℕ) (out : List ℕ) (file : ℕ) (why : Reason)
+    → runFrom a k n out .answer ≡ Unasked file why
     → ⊥
 never-unasked a zero k out file why e = done-asked 0 0 file why e
 never-unasked a (suc n) k out file why e =
-    by-answer (a .answer k out) e (λ b. never-unasked a n (suc k) (drop b (a .memory k out)) file why)
+    by-answer (a k out .answer) e (λ b. never-unasked a n (suc k) (drop b (a k out .memory)) file why)
   where
-    by-answer : (r : Answer) → goOn r (λ b. seriesFrom a (suc k) n (drop b (a .memory k out))) ≡ Unasked file why
-        → ((b : ℕ) → seriesFrom a (suc k) n (drop b (a .memory k out)) ≡ Unasked file why → ⊥)
+    by-answer : (r : Answer) → goOn r (a k out .memory) (λ rest. runFrom a (suc k) n rest) .answer ≡ Unasked file why
+        → ((b : ℕ) → runFrom a (suc k) n (drop b (a k out .memory)) .answer ≡ Unasked file why → ⊥)
         → ⊥
     by-answer (Value b) e more = more b (behind-asked 1 b _ file why e)
     by-answer (Refused f w) e more = stopped-asked 0 0 file w why e

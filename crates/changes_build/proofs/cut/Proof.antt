@@ -4,10 +4,11 @@ use mathlib.Core.Path.{_≡_, refl, sym, subst, _∙_}
 use mathlib.Core.List.{List}
 use native.Mathlib.Omega.{arith}
 use Rattle.changes_source.proofs.Table.{table-fits}
+use Rattle.refusal.specs.declared.Verdict.the-variants.{Fine, Bad}
 use Rattle.shelf.specs.declared.Shelf.{Shelf}
 use Rattle.shelf.specs.Search.{Filled}
 use Rattle.changes_build.specs.Views.{Known}
-use Rattle.changes_build.proofs.Laws.{fresh-long, fresh-marked, none-bad, one-bad}
+use Rattle.changes_build.proofs.Laws.{fresh-long, fresh-marked, cut-as}
 use Rattle.changes_build.proofs.cut.Statement.{statement}
 use Rattle.changes_build.proofs.cut.Tie as tie
 
@@ -85,10 +86,10 @@ returns c =
     let b = s (m .before .before .before .before) in
     let a = b .args in
     let told = w .before .before .before .before .enum-told .given .1 in
-    let says =
-    none-bad (a .table .now) (a .points .now) (a .code .now) (a .out .now) (b .pre)
-    (sym (m .mark-views .ensures .said) ∙ told) in
-    (w .write-if-room .ensures .0 ∙ sym (says .answer-is), w .write-if-room .ensures .1 ∙ sym (says .memory-is))
+    w .write-if-room .ensures
+    ∙ sym
+    (cut-as (a .table .now) (a .points .now) (a .code .now) (a .out .now) (b .pre) Fine
+    (sym (m .mark-views .ensures .said) ∙ told))
 
 returns-2 : tie.Need-returns-2
 returns-2 c =
@@ -96,10 +97,9 @@ returns-2 c =
     let m = k .before .before .before in
     let b = s (m .before .before .before .before) in
     let a = b .args in
-    let says =
-    one-bad (a .table .now) (a .points .now) (a .code .now) (a .out .now) (b .pre) (k .reason .given .0 .0)
-    (sym (m .mark-views .ensures .said) ∙ k .reason .given .1) in
-    (sym (says .answer-is), sym (says .memory-is))
+    sym
+    (cut-as (a .table .now) (a .points .now) (a .code .now) (a .out .now) (b .pre) (Bad (k .reason .given .0 .0))
+    (sym (m .mark-views .ensures .said) ∙ k .reason .given .1))
 
 pub cut-spec : {M : Type 1} → statement M
 cut-spec =

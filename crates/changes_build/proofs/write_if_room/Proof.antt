@@ -4,19 +4,18 @@ use mathlib.Core.Path.{_≡_, sym, ap, subst, _∙_}
 use Prim.Native.Nat.{ℕ, _+_, _*_, _≤_, _<_}
 use mathlib.Core.List.{List}
 use lib.ListN.{length}
-use Rattle.refusal.specs.declared.Reason.the-variants.{Room}
-use Rattle.refusal.specs.declared.Answer.the-variants.{Value, Refused}
 use Rattle.changes_source.specs.Rows.{tableShelf, tableStock}
 use Rattle.changes_source.proofs.Table.{table-fits}
 use Rattle.shelf.specs.declared.Shelf.{Shelf}
 use Rattle.shelf.specs.Stock.{stockOf}
 use Rattle.label.proofs.Puts.{wrote-as}
+use Rattle.label.proofs.Room.{counted-short, counted-written}
 use Rattle.build.specs.Rows.{allBytes, allCount}
 use Rattle.build.specs.Placed.{Placed}
 use Rattle.changes_build.specs.Views.{packedIn}
 use Rattle.changes_build.specs.Build.{livePack}
 use Rattle.changes_build.specs.Ready.{Marked}
-use Rattle.changes_build.proofs.Laws.{table-small, marked-long, count-of, counted, small, rows-small, rows-counted, written, fits-answer, fits-memory, short-answer, short-memory}
+use Rattle.changes_build.proofs.Laws.{table-small, marked-long, count-of, counted, small, rows-small, rows-counted, written}
 use native.Mathlib.Omega.{arith}
 use Rattle.changes_build.proofs.write_if_room.Statement.{statement}
 use Rattle.changes_build.proofs.write_if_room.Tie as tie
@@ -111,10 +110,7 @@ returns : tie.Need-returns
 returns c =
     let w = c .before .before .before in
     let out = s w .args .out .now in
-    let short : length out < length (pack w) = omega (arith, whole w) in (
-      ap (λ (n : ℕ). Refused 0 (Room n)) (sym (whole w)) ∙ sym (short-answer (pack w) out short),
-      sym (short-memory (pack w) out short),
-    )
+    counted-short (pack w) out (sym (whole w)) (omega (arith, whole w))
 
 add-rows : tie.Need-add-rows
 add-rows c =
@@ -157,10 +153,8 @@ returns-2 c =
     let out = s w .args .out .now in
     let is = written (table w) (points w) (code w) (marks w) (starts w) (ready w) (placed w) in
     let fits : length (pack w) ≤ length out = omega (arith, whole w) in
-    let wrote = wrote-as is (p .write-pack .ensures) in (
-      ap Value (wrote .size) ∙ sym (fits-answer (pack w) out fits),
-      wrote .is ∙ sym (fits-memory (pack w) out fits),
-    )
+    let wrote = wrote-as is (p .write-pack .ensures) in
+    counted-written (pack w) out fits (wrote .size) (wrote .is)
 
 pub write-if-room-spec : {M : Type 1} → statement M
 write-if-room-spec =

@@ -1,7 +1,7 @@
 -- `changes_label::check_pair` meets its contract. Assumes nothing.
 use borrow.Author.Needs.{needs}
 use mathlib.Core.Path.{_≡_, refl, sym, ap, _∙_}
-use Rattle.changes_list.proofs.Laws.{after-value, after-refused}
+use Rattle.refusal.proofs.Outcomes.{after-value, after-refused}
 use Rattle.changes_label.proofs.check_pair.Statement.{statement}
 use Rattle.changes_label.proofs.check_pair.Tie as tie
 

@@ -1,8 +1,11 @@
 -- `pack_runs::labels_of_points` meets its contract. Assumes nothing.
 use borrow.Author.Needs.{needs}
 use mathlib.Core.Path.{_≡_, sym, _∙_}
+use Rattle.refusal.proofs.Outcomes.{afterwards-refused}
+use Rattle.run.specs.declared.Series.the-variants.{Unasked}
 use Rattle.pack_open.proofs.Opened.{opened-all, opened-sized}
-use Rattle.pack_runs.proofs.Laws.{points-say, pack-unasked}
+use Rattle.pack_runs.specs.Runs.{packRun}
+use Rattle.pack_runs.proofs.Laws.{points-run}
 use Rattle.pack_runs.proofs.labels_of_points.Statement.{statement}
 use Rattle.pack_runs.proofs.labels_of_points.Tie as tie
 
@@ -32,15 +35,16 @@ returns c =
     let n = l .before .before .before in
     let o = n .before .before in
     let a = o .before .before .before .args in
-    let says = points-say (a .pack .now) (a .first) (a .count) (a .out .now) _ (sym (o .open-pack .ensures) ∙ n .points .given .1) in
-    (l .run-points .ensures .0 ∙ says .0, l .run-points .ensures .1 ∙ says .1)
+    l .run-points .ensures
+    ∙ sym (points-run (a .pack .now) (a .first) (a .count) (a .out .now) (sym (o .open-pack .ensures) ∙ n .points .given .1))
 
 returns-2 : tie.Need-returns-2
+unfolding packRun
 returns-2 c =
     let f = c .before in
     let o = f .before .before in
     let a = o .before .before .before .args in
-    pack-unasked (a .pack .now) (a .first) (a .count) (a .out .now) _ _ (sym (o .open-pack .ensures) ∙ f .file .given .1)
+    sym (afterwards-refused Unasked (a .out .now) _ (sym (o .open-pack .ensures) ∙ f .file .given .1))
 
 pub labels-of-points-spec : {M : Type 1} → statement M
 labels-of-points-spec =

@@ -15,7 +15,7 @@ use Rattle.changes_source.proofs.Table.{table-fits}
 use Rattle.changes_source.specs.Delivery.{deliveryAt}
 use Rattle.changes_meaning.proofs.Says.{within-at}
 use Rattle.changes_meaning.proofs.Meant.{rowsAt, resolved-fine, resolved-bad}
-use Rattle.changes_label.proofs.Laws.{no-place, bad-place, fine-place}
+use Rattle.changes_label.proofs.Laws.{no-place, some-place}
 use Rattle.changes_label.proofs.inner.label_at.Statement.{statement}
 use Rattle.changes_label.proofs.inner.label_at.Tie as tie
 
@@ -32,8 +32,7 @@ elements-as table points e f g = cc
 returns : tie.Need-returns
 returns c =
     let a = c .before .before .before .before .args in
-    let says = no-place (a .table .now) (a .points .now) (a .place) (a .out .now) (c .if1 .taken) in
-    (sym (says .answer-is), sym (says .memory-is))
+    sym (no-place (a .table .now) (a .points .now) (a .place) (a .out .now) (c .if1 .taken))
 
 -- once the rows are looked up
 module _ (judged : tie.After-refusal-in) where
@@ -43,11 +42,11 @@ module _ (judged : tie.After-refusal-in) where
   abbrev read : tie.After-delivery-at
   read = looked .before .before
 
-  abbrev some-place : tie.Else1
-  some-place = read .before .before
+  abbrev there : tie.Else1
+  there = read .before .before
 
   abbrev start : tie.Start
-  start = some-place .before .before .before .before
+  start = there .before .before .before .before
 
   abbrev table : List ℕ
   table = start .args .table .now
@@ -59,7 +58,7 @@ module _ (judged : tie.After-refusal-in) where
   place = start .args .place
 
   high : suc place < length points / 168
-  high = omega (arith, start .pre .high (some-place .if1 .left))
+  high = omega (arith, start .pre .high (there .if1 .left))
 
   rows-are : looked .rows-of .result .rows ≡ rowsAt table points place
   rows-are =
@@ -109,31 +108,29 @@ returns-2 c =
     let told = sp .before in
     let judged = told .before .before in
     let a = start judged .args in
-    let some = some-place judged .if1 .left in
+    let some = there judged .if1 .left in
     let fine = sym (verdict-is judged) ∙ told .enum-told .given .1 in
     let resolved =
     resolved-fine (table judged) (points judged) (start judged .pre .of-table) (place judged)
     (start judged .pre .high some) 0 fine in
-    let says = fine-place (table judged) (points judged) (place judged) (a .out .now) some _ resolved in
     let r = read judged in
     let spans =
     sp .spans-of .ensures
     ∙ elements-as (table judged) (points judged) (r .before .table-shelf .ensures) (r .delivery-at .ensures) (rows-are judged) in
-    let printed = rw spans at (p .print-label .ensures) in
-    (printed .0 ∙ sym (says .answer-is), printed .1 ∙ sym (says .memory-is))
+    rw spans at (p .print-label .ensures)
+    ∙ sym (some-place (table judged) (points judged) (place judged) (a .out .now) some _ resolved)
 
 returns-3 : tie.Need-returns-3
 returns-3 c =
     let judged = c .before .before .before in
     let a = start judged .args in
-    let some = some-place judged .if1 .left in
+    let some = there judged .if1 .left in
     let why = c .before .reason .given .0 .0 in
     let bad = sym (verdict-is judged) ∙ c .before .reason .given .1 in
     let resolved =
     resolved-bad (table judged) (points judged) (start judged .pre .of-table) (place judged)
     (start judged .pre .high some) 0 why bad in
-    let says = bad-place (table judged) (points judged) (place judged) (a .out .now) some why resolved in
-    (sym (says .answer-is), sym (says .memory-is))
+    sym (some-place (table judged) (points judged) (place judged) (a .out .now) some _ resolved)
 
 pub label-at-spec : {M : Type 1} → statement M
 label-at-spec =

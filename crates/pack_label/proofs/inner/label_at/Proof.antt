@@ -16,7 +16,7 @@ returns c =
     let s = c .before .before .before in
     let a = s .args in
     let tested = ap (λ n. leb 1 (a .k) && leb (a .k) n) (s .pre .1) in
-    no-point (a .pack .now) (a .k) (a .out .now) (sym tested ∙ not-true _ (c .if1 .taken))
+    sym (no-point (a .pack .now) (a .k) (a .out .now) (sym tested ∙ not-true _ (c .if1 .taken)))
 
 point-label-requires : tie.Need-point-label-requires
 point-label-requires c κs =
@@ -43,8 +43,7 @@ returns-2 c =
     let a = s .args in
     let tested = ap (λ n. leb 1 (a .k) && leb (a .k) n) (s .pre .1) in
     let there = sym tested ∙ not-false _ (e .if1 .left) in
-    let says = a-point (a .pack .now) (a .k) (a .out .now) there in
-    (l .point-label .ensures .0 ∙ says .0, l .point-label .ensures .1 ∙ says .1)
+    l .point-label .ensures ∙ sym (a-point (a .pack .now) (a .k) (a .out .now) there)
 
 pub label-at-spec : {M : Type 1} → statement M
 label-at-spec = tie.close (tie.spec returns point-label-requires same-length returns-2)

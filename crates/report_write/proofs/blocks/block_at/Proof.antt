@@ -17,7 +17,7 @@ view-at-requires c κs =
     let t = c .before .before .before in
     let w = t .before .before .before .before .before .before .before .before .before .before .before .before .before .before in
     let s = w .before .before .before .before .before in
-    let place = wanted-place (s .args .table .now) (s .args .points .now) [] (s .args .view) (s .pre .1) (s .pre .2) in
+    let place = wanted-place (s .args .table .now) (s .args .points .now) [] (s .args .view) (s .pre .1) in
     (omega (arith, t .text-at2 .ensures .room), rw (w .wanted-at .ensures) place)
 
 returns : tie.Need-returns

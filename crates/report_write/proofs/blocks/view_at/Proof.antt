@@ -5,6 +5,7 @@ use Prim.Native.Nat.{ℕ, _≤_}
 use native.Mathlib.Omega.{arith}
 use lib.ListN.{length, length-replicate}
 use lib.Seq.{length-take-le}
+use Rattle.refusal.proofs.Outcomes.{answer-of, memory-of}
 use Rattle.label_print.proofs.Unique.{zeros}
 use Rattle.report.specs.Report.{viewText}
 use Rattle.report.proofs.Feeds.{fed-as}
@@ -22,8 +23,8 @@ array-share-prefix-label c =
     let a = s .args in
     let text = viewText (a .table .now) (a .points .now) (a .place) in
     let told = view-told (a .table .now) (a .points .now) (a .place) (s .pre .1) (zeros 499) (size 499) in
-    let same = sym (l .label-at .ensures .0) ∙ c .before .n .given .1 in
-    let says = told-value text _ told same (l .label-at .ensures .1) in
+    let same = sym (answer-of (l .label-at .ensures)) ∙ c .before .n .given .1 in
+    let says = told-value text _ told same (memory-of (l .label-at .ensures)) in
     says .0
 
 slice-aggregate-text-at : tie.Need-slice-aggregate-text-at
@@ -33,8 +34,8 @@ slice-aggregate-text-at c =
     let a = s .args in
     let text = viewText (a .table .now) (a .points .now) (a .place) in
     let told = view-told (a .table .now) (a .points .now) (a .place) (s .pre .1) (zeros 499) (size 499) in
-    let same = sym (l .label-at .ensures .0) ∙ c .before .before .n .given .1 in
-    let says = told-value text _ told same (l .label-at .ensures .1) in
+    let same = sym (answer-of (l .label-at .ensures)) ∙ c .before .before .n .given .1 in
+    let says = told-value text _ told same (memory-of (l .label-at .ensures)) in
     sym (length-take-le _ _ (says .0))
 
 returns : tie.Need-returns
@@ -44,8 +45,8 @@ returns c =
     let a = s .args in
     let text = viewText (a .table .now) (a .points .now) (a .place) in
     let told = view-told (a .table .now) (a .points .now) (a .place) (s .pre .1) (zeros 499) (size 499) in
-    let same = sym (l .label-at .ensures .0) ∙ c .before .before .before .before .before .before .n .given .1 in
-    let says = told-value text _ told same (l .label-at .ensures .1) in
+    let same = sym (answer-of (l .label-at .ensures)) ∙ c .before .before .before .before .before .before .n .given .1 in
+    let says = told-value text _ told same (memory-of (l .label-at .ensures)) in
     fed-as (says .1) (c .before .before .text-at .ensures)
 
 returns-2 : tie.Need-returns-2
@@ -55,7 +56,7 @@ returns-2 c =
     let a = s .args in
     let text = viewText (a .table .now) (a .points .now) (a .place) in
     let told = view-told (a .table .now) (a .points .now) (a .place) (s .pre .1) (zeros 499) (size 499) in
-    let same = sym (l .label-at .ensures .0) ∙ c .before .before .before .before .before .reason .given .1 in
+    let same = sym (answer-of (l .label-at .ensures)) ∙ c .before .before .before .before .before .reason .given .1 in
     fed-as (told-refused text _ _ _ told same) (c .before .before .refused-at .ensures)
 
 pub view-at-spec : {M : Type 1} → statement M

@@ -1,12 +1,13 @@
--- The packed views are the wanted places of the point file, in order.
+-- The views are those at the wanted places of the point file, in order.
 -- Assumes nothing.
 use Prim.Native.Nat.{ℕ, zero, suc, _+_, _-_, _≤_, _<_}
 use mathlib.Core.Path.{_≡_, refl, ap, _∙_}
 use mathlib.Core.Bool.{Bool, true, false, cond, _&&_}
 use mathlib.Core.List.{List, [], _∷_}
+use mathlib.Core.Option.{none, some}
 use native.Mathlib.Omega.{arith}
-use borrow.Author.Tests.{eqb-true, eqb-false}
-use lib.Dec.{eqb}
+use borrow.Author.Tests.{eqb-true, eqb-false, leb-true, leb-false}
+use lib.Dec.{eqb, leb}
 use lib.ListN.{length, getD}
 use Rattle.file_record.specs.Parts.{recordAt}
 use Rattle.field_outward.specs.Outward.{outwardFault}
@@ -15,10 +16,14 @@ use Rattle.changes_views.specs.Views.{isView, isLive, wanted, lastOf, wantedFro
 use Rattle.changes_views.specs.Views as views
 use Rattle.source.specs.Address.{Lookup, Address}
 use Rattle.source.specs.Resolve.{forbidden, missing, elementsOf, resolve}
-use Rattle.changes_source.specs.Addresses.{addressOf, addressAt, numbered, addressesIn, kept}
-use Rattle.pack.specs.Cutting.{inCode}
-use Rattle.changes_sound.specs.Live.{liveIn, viewAt, viewsAt, WantedPlaces}
-use Rattle.changes_sound.proofs.Numbers.{wanted-every, number-none, number-view, number-other}
+use Rattle.source.specs.Same.{AllOf}
+use Rattle.changes_source.specs.Addresses.{addressOf, addressAt, numbered, addressesIn, live, kept}
+use Rattle.ask.specs.Source.{inCode}
+use Rattle.ask.specs.Labels.{kth}
+use Rattle.ask.proofs.Kth.{kth-zero, kth-none, kth-at}
+use Rattle.changes_views.proofs.Laws.{wanted-at-wanted}
+use Rattle.changes_pair.specs.Live.{liveIn, viewAt, viewsAt, WantedPlaces}
+use Rattle.changes_pair.proofs.Numbers.{wanted-every, number-none, number-view, number-other}
 
 -- a code that is given wants the live views in it
 pub wanted-given : (x : ℕ) (xs rec : List ℕ)
@@ -75,6 +80,31 @@ module _ (x : ℕ) (xs points : List ℕ) where
       by-test false e later =
           simp (wanted-every rec, wanted-given x xs rec, e) (rw (number-other points j e) at later)
 
+-- without a code, all views
+from-all : (points : List ℕ) (k j : ℕ)
+    → numbered points (suc (viewNumber points j)) (wantedFrom [] points k (suc j))
+    ≡ viewsAt points (wantedFrom [] points k (suc j))
+from-all points zero j = refl
+from-all points (suc k) j = by-test (isView rec) refl (from-all points k (suc j))
+  where
+    rec : List ℕ
+    rec = recordAt 168 points (suc j)
+
+    by-test : (t : Bool) → isView rec ≡ t
+        → numbered points (suc (viewNumber points (suc j))) (wantedFrom [] points k (suc (suc j)))
+        ≡ viewsAt points (wantedFrom [] points k (suc (suc j)))
+        → numbered points (suc (viewNumber points j)) (wantedFrom [] points (suc k) (suc j))
+        ≡ viewsAt points (wantedFrom [] points (suc k) (suc j))
+    by-test true e later =
+        let next = number-view points j e in
+        simp (wanted-every rec, e)
+        (rw next (ap (addressAt points (suc (viewNumber points j)) (suc j) ∷_) (rw next at later)))
+    by-test false e later = simp (wanted-every rec, e) (rw (number-other points j e) at later)
+
+pub all-views : (points : List ℕ) → addressesIn points ≡ viewsAt points (wantedIn [] points)
+unfolding addressesIn wantedIn
+all-views points = rw (number-none points) at (from-all points (lastOf points - 1) 0)
+
 -- a code that is well formed has four bytes
 pub code-length : (code : List ℕ) → outwardFault code ≡ 0 → length code ≡ 4
 code-length code e = by-test (eqb (length code) 4) refl
@@ -111,14 +141,43 @@ module _ (points code : List ℕ) (well-formed : outwardFault code ≡ 0) where
   unfolding wantedCount
   live-length = rw (live-views points code well-formed) (views-length points (wantedIn code points))
 
-  -- the k-th packed view, counted from 1
-  pub live-at : (k : ℕ) (d : Address) → 1 ≤ k → k ≤ wantedCount code points
-      → getD (liveIn points code) (k - 1) d ≡ viewAt points (wantedAt code points k)
+-- the k-th view of those at wanted places, counted from 1
+module _ (points code : List ℕ) (k : ℕ) where
+  count-is : wantedCount code points ≡ length (wantedIn code points)
+  unfolding wantedCount
+  count-is = refl
+
+  pub kth-there : 1 ≤ k → k ≤ wantedCount code points
+      → kth (viewsAt points (wantedIn code points)) k ≡ some (viewAt points (wantedAt code points k))
   unfolding wantedCount wantedAt
-  live-at zero d low high = absurd (omega arith)
-  live-at (suc k) d low high =
-      rw (live-views points code well-formed, let z : suc k - 1 ≡ k = omega arith in z)
-      (views-at points (wantedIn code points) k d (omega arith))
+  kth-there low high =
+      kth-at (viewsAt points (wantedIn code points)) k (viewAt points 0) low
+      (omega (arith, views-length points (wantedIn code points)))
+      ∙ ap some (by-number k low high)
+    where
+      by-number : (k : ℕ) → 1 ≤ k → k ≤ length (wantedIn code points)
+          → getD (viewsAt points (wantedIn code points)) (k - 1) (viewAt points 0)
+          ≡ viewAt points (getD (0 ∷ wantedIn code points) k 0)
+      by-number zero low high = absurd (omega arith)
+      by-number (suc j) low high =
+          rw (let z : suc j - 1 ≡ j = omega arith in z)
+          (views-at points (wantedIn code points) j (viewAt points 0) (omega arith))
+
+  pub kth-missing : wantedAt code points k ≡ 0 → kth (viewsAt points (wantedIn code points)) k ≡ none
+  kth-missing = by-number k refl
+    where
+      by-number : (j : ℕ) → k ≡ j → wantedAt code points k ≡ 0 → kth (viewsAt points (wantedIn code points)) k ≡ none
+      by-number zero e z = rw e (kth-zero (viewsAt points (wantedIn code points)))
+      by-number (suc j) e z = by-test (leb k (wantedCount code points)) refl
+        where
+          by-test : (t : Bool) → leb k (wantedCount code points) ≡ t
+              → kth (viewsAt points (wantedIn code points)) k ≡ none
+          by-test true h =
+              absurd (omega (arith, z, wanted-at-wanted code points k (omega arith) (leb-true k _ h) .0))
+          by-test false h =
+              rw e
+              (kth-none (viewsAt points (wantedIn code points)) j
+              (omega (arith, views-length points (wantedIn code points), count-is, leb-false k _ h, e)))
 
 -- each of the wanted places is one
 module _ (code points : List ℕ) where
@@ -140,6 +199,15 @@ module _ (code points : List ℕ) where
       by-size : (n : ℕ) → lastOf points ≡ n → WantedPlaces code points (wantedFrom code points (n - 1) 1)
       by-size zero e = tt
       by-size (suc n) e = from-places (suc n - 1) 1 (omega arith) (omega arith)
+
+-- what holds of each view holds of those that are live
+pub kept-all : (P : Address → Type 0) (views : List Address) → AllOf P views → AllOf P (kept views)
+kept-all P [] h = tt
+kept-all P (a ∷ more) h = by-test (live a) (kept-all P more (h .1))
+  where
+    by-test : (t : Bool) → AllOf P (kept more) → AllOf P (cond t (a ∷ kept more) (kept more))
+    by-test true rest = (h .0, rest)
+    by-test false rest = rest
 
 -- what an address resolves to does not look at its number
 pub resolve-number : (look : Lookup) (points : List ℕ) (n m place : ℕ)

@@ -1,4 +1,4 @@
--- Which views of a pair of files are packed for a code, by their places in the point file.
+-- The views of a point file by their places in it.
 -- Assumes nothing.
 use Prim.Native.Nat.{ℕ, _≤_, _<_}
 use mathlib.Core.Path.{_≡_}
@@ -8,7 +8,7 @@ use Rattle.file_record.specs.Parts.{recordAt}
 use Rattle.changes_views.specs.Views.{lastOf, wanted, viewNumber}
 use Rattle.source.specs.Address.{Address}
 use Rattle.changes_source.specs.Addresses.{addressAt, addressesIn, kept}
-use Rattle.pack.specs.Cutting.{inCode}
+use Rattle.ask.specs.Source.{inCode}
 
 -- "the live views of that outward code in file order"
 abbrev pub liveIn : (points code : List ℕ) → List Address

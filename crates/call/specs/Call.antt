@@ -1,0 +1,91 @@
+-- The exported calls: what each says and what it leaves in lent memory. The contracts of `ttwibonal` cite this page, and so
+-- do the demands.
+-- Assumes nothing.
+use Prim.Native.Nat.{ℕ}
+use mathlib.Core.List.{List}
+use Rattle.refusal.specs.declared.Answer.{Answer}
+use Rattle.refusal.specs.Outcome.{Outcome, said}
+use Rattle.refusal.specs.Packed.{packed}
+use Rattle.run.specs.declared.Series.{Series}
+use Rattle.run.specs.Packed.{packedSeries, seriesBytes}
+use Rattle.file.specs.Check.{checked}
+use Rattle.file.specs.Formats.{tableFormat, pointFormat}
+use Rattle.ask.specs.Labels.{viewLabel, codeLabel}
+use Rattle.ask.specs.Runs.{viewsRun, codeRun}
+use Rattle.pack.specs.Opening.{opened}
+use Rattle.pack.specs.Points.{packLabel}
+use Rattle.pack.specs.Cutting.{packBuilt}
+use Rattle.pack_runs.specs.Runs.{packRun}
+use Rattle.changes_list.specs.Listing.{viewsAnswer, letterAnswer, liveAnswer}
+use Rattle.changes_pair.specs.Pair.{pairOf}
+
+-- each with its arguments, but for what is written
+pub data Call : Type 0 where
+  of-table : (table : List ℕ) → Call
+  of-points : (points : List ℕ) → Call
+  of-views : (points : List ℕ) → Call
+  of-letter : (points : List ℕ) (view : ℕ) → Call
+  of-live : (points code : List ℕ) → Call
+  of-label : (table points : List ℕ) (view : ℕ) → Call
+  of-code-label : (table points code : List ℕ) (k : ℕ) → Call
+  of-labels : (table points : List ℕ) (first count : ℕ) → Call
+  of-code-labels : (table points code : List ℕ) (first count : ℕ) → Call
+  of-build : (table points code : List ℕ) → Call
+  of-pack : (pack : List ℕ) → Call
+  of-pack-label : (pack : List ℕ) (k : ℕ) → Call
+  of-pack-labels : (pack : List ℕ) (first count : ℕ) → Call
+
+-- what a call says: one answer, or that of a run
+pub data Saying : Type 0 where
+  one : Answer → Saying
+  run : Series → Saying
+
+-- a call that reads only, one that writes, and a run
+abbrev pub reading : Answer → List ℕ → Outcome Saying
+reading answer out = said (one answer) out
+
+abbrev pub writing : Outcome Answer → Outcome Saying
+writing o = said (one (o .answer)) (o .memory)
+
+abbrev pub running : Outcome Series → Outcome Saying
+running o = said (run (o .answer)) (o .memory)
+
+-- what each comes to, `out` being the lent buffer at entry
+abbrev pub outcomeOf : Call → (out : List ℕ) → Outcome Saying
+outcomeOf (of-table table) out = reading (checked tableFormat table) out
+outcomeOf (of-points points) out = reading (checked pointFormat points) out
+outcomeOf (of-views points) out = reading (viewsAnswer points) out
+outcomeOf (of-letter points view) out = reading (letterAnswer points view) out
+outcomeOf (of-live points code) out = reading (liveAnswer points code) out
+outcomeOf (of-label table points view) out = writing (viewLabel (pairOf table points) view out)
+outcomeOf (of-code-label table points code k) out = writing (codeLabel (pairOf table points) code k out)
+outcomeOf (of-labels table points first count) out = running (viewsRun (pairOf table points) first count out)
+outcomeOf (of-code-labels table points code first count) out = running (codeRun (pairOf table points) code first count out)
+outcomeOf (of-build table points code) out = writing (packBuilt (pairOf table points) code out)
+outcomeOf (of-pack pack) out = reading (opened pack) out
+outcomeOf (of-pack-label pack k) out = writing (packLabel pack k out)
+outcomeOf (of-pack-labels pack first count) out = running (packRun pack first count out)
+
+-- as C gets it: one number; and the bytes of a run, where they are asked for
+abbrev pub numberOf : Saying → ℕ
+numberOf (one answer) = packed answer
+numberOf (run series) = packedSeries series
+
+abbrev pub bytesOf : Saying → (before : ℕ) → ℕ
+bytesOf (one answer) before = before
+bytesOf (run series) before = seriesBytes series before
+
+pub record Called : Type 0 where
+  pub number : ℕ
+  pub memory : List ℕ
+  pub bytes : ℕ
+
+abbrev pub called : ℕ → List ℕ → ℕ → Called
+called n m b = record { number = n; memory = m; bytes = b }
+
+abbrev pub told : Outcome Saying → (before : ℕ) → Called
+told o before = called (numberOf (o .answer)) (o .memory) (bytesOf (o .answer) before)
+
+-- `out` and `bytes` as they are lent
+abbrev pub comesTo : Call → (out : List ℕ) → (bytes : ℕ) → Called
+comesTo call out bytes = told (outcomeOf call out) bytes

@@ -1,0 +1,1 @@
+// What the exported calls come to. This crate has definitions and laws, and no code.
