@@ -27,7 +27,8 @@ pub fn run_points<'a>(
     out: &mut [u8],
 ) -> Series
     requires { ⌜ Sized (now pack) × (points ≡ pointCount (now pack)) ⌝ }
-    ensures { λ r. ⌜ said r (now (out .exit)) ≡ runFrom (pointLabel (now (pack .entry))) first count (now (out .entry)) ⌝ }
+    ensures { λ r. ⌜ said r (now (out .exit))
+        ≡ runFrom (pointLabel (now (pack .entry))) first count (now (out .entry)) ⌝ }
 {
     let mut k = first;
     let mut at = 0;

@@ -65,7 +65,8 @@ pub extern "C" fn ttw_code_label<'a>(
     out: &mut [u8],
 ) -> u64
     ensures { λ r. ⌜ called r (now (out .exit)) 0
-        ≡ comesTo (of-code-label (now (table .entry)) (now (points .entry)) (now (code .entry)) k) (now (out .entry)) 0 ⌝ }
+        ≡ comesTo (of-code-label (now (table .entry)) (now (points .entry)) (now (code .entry)) k)
+        (now (out .entry)) 0 ⌝ }
 {
     refusal::packed_answer(label_in_code(table, points, code, k as usize, out)) as u64
 }
