@@ -1,0 +1,164 @@
+//! The calls of the header: what each is lent of a case, what it has to answer,
+//! and the stack that the header allows it. A call that is new in the header
+//! gets an entry here and a line in `driver.c`.
+
+use fuzz::case::Case;
+use paper::{packed, packed_run, Refusal, Run};
+
+/// A call of the header.
+pub struct Call {
+    pub name: &'static str,
+    /// It takes less than so many bytes of stack.
+    pub stack: u64,
+    pub lend: fn(&Case) -> Lent,
+    pub plain: Plain,
+}
+
+/// The second program's answer as one number: from `r`, the slices to read, and
+/// `n`, the numbers. It writes into `w`, the slices to write.
+type Plain = fn(&[Vec<u8>], &[u64], &mut [Vec<u8>]) -> u64;
+
+/// What a call is lent: slices to read, numbers, slices to write.
+#[derive(Clone, Debug)]
+pub struct Lent {
+    pub reads: Vec<Vec<u8>>,
+    pub numbers: Vec<u64>,
+    pub writes: Vec<Vec<u8>>,
+}
+
+/// What the header says of the stack: a call on files takes less than this,
+const FILES: u64 = 2_048;
+/// labels from files less than this,
+const LABELS: u64 = 4_096;
+/// opening a pack or labels from a pack less than this,
+const PACKS: u64 = 80 << 10;
+/// building a pack less than this.
+const BUILDING: u64 = 192 << 10;
+
+pub const CALLS: [Call; 13] = [
+    Call {
+        name: "ttw_table",
+        stack: FILES,
+        lend: |case| lent(&[&case.table], &[], &[]),
+        plain: |r, _, _| count(paper::check_table(&r[0])),
+    },
+    Call {
+        name: "ttw_points",
+        stack: FILES,
+        lend: |case| lent(&[&case.points], &[], &[]),
+        plain: |r, _, _| count(paper::check_points(&r[0])),
+    },
+    Call {
+        name: "ttw_views",
+        stack: FILES,
+        lend: |case| lent(&[&case.points], &[], &[]),
+        plain: |r, _, _| count(paper::views(&r[0])),
+    },
+    Call {
+        name: "ttw_letter",
+        stack: FILES,
+        lend: |case| lent(&[&case.points], &[case.number], &[]),
+        plain: |r, n, _| packed(paper::letter(&r[0], n[0]).map(u64::from)),
+    },
+    Call {
+        name: "ttw_live",
+        stack: FILES,
+        lend: |case| lent(&[&case.points, &case.code], &[], &[]),
+        plain: |r, _, _| count(paper::live(&r[0], &r[1])),
+    },
+    Call {
+        name: "ttw_label",
+        stack: LABELS,
+        lend: |case| lent(&[&case.table, &case.points], &[case.number], &[case.room]),
+        plain: |r, n, w| count(paper::label(&r[0], &r[1], n[0], &mut w[0])),
+    },
+    Call {
+        name: "ttw_code_label",
+        stack: LABELS,
+        lend: |case| lent(&files(case), &[case.number], &[case.room]),
+        plain: |r, n, w| count(paper::code_label(&r[0], &r[1], &r[2], n[0], &mut w[0])),
+    },
+    Call {
+        name: "ttw_labels",
+        stack: LABELS,
+        lend: |case| lent_to_run(&[&case.table, &case.points], case),
+        plain: |r, n, w| {
+            let run = paper::labels(&r[0], &r[1], n[0], n[1], &mut w[0]);
+            told(run, &mut w[1])
+        },
+    },
+    Call {
+        name: "ttw_code_labels",
+        stack: LABELS,
+        lend: |case| lent_to_run(&files(case), case),
+        plain: |r, n, w| {
+            let run = paper::code_labels(&r[0], &r[1], &r[2], n[0], n[1], &mut w[0]);
+            told(run, &mut w[1])
+        },
+    },
+    Call {
+        name: "ttw_build",
+        stack: BUILDING,
+        lend: |case| lent(&files(case), &[], &[case.room]),
+        plain: |r, _, w| count(paper::build(&r[0], &r[1], &r[2], &mut w[0])),
+    },
+    Call {
+        name: "ttw_pack",
+        stack: PACKS,
+        lend: |case| lent(&[&case.pack], &[], &[]),
+        plain: |r, _, _| count(paper::open(&r[0])),
+    },
+    Call {
+        name: "ttw_pack_label",
+        stack: PACKS,
+        lend: |case| lent(&[&case.pack], &[case.number], &[case.room]),
+        plain: |r, n, w| count(paper::pack_label(&r[0], n[0], &mut w[0])),
+    },
+    Call {
+        name: "ttw_pack_labels",
+        stack: PACKS,
+        lend: |case| lent_to_run(&[&case.pack], case),
+        plain: |r, n, w| {
+            let run = paper::pack_labels(&r[0], n[0], n[1], &mut w[0]);
+            told(run, &mut w[1])
+        },
+    },
+];
+
+/// The slices of a call on a pair of files and a code.
+fn files(case: &Case) -> [&Vec<u8>; 3] {
+    [&case.table, &case.points, &case.code]
+}
+
+/// Slices, numbers, and so many telling bytes for each slice to write.
+fn lent(reads: &[&Vec<u8>], numbers: &[u64], rooms: &[usize]) -> Lent {
+    Lent {
+        reads: reads.iter().map(|bytes| bytes.to_vec()).collect(),
+        numbers: numbers.to_vec(),
+        writes: rooms.iter().map(|room| telling(*room)).collect(),
+    }
+}
+
+/// What a run of labels is lent beside its slices to read: where to start, how
+/// many, room for them and for the number of their bytes.
+fn lent_to_run(reads: &[&Vec<u8>], case: &Case) -> Lent {
+    let numbers = [case.number, case.count];
+    lent(reads, &numbers, &[case.run_room, 8])
+}
+
+/// So many bytes that tell where they stand.
+pub fn telling(room: usize) -> Vec<u8> {
+    (0..room).map(|at| (at * 7 + 1) as u8).collect()
+}
+
+fn count(answer: Result<usize, Refusal>) -> u64 {
+    packed(answer.map(|value| value as u64))
+}
+
+/// The answer of a run, whose bytes become a number in that slice.
+fn told(run: Result<Run, Refusal>, slice: &mut [u8]) -> u64 {
+    let mut bytes = u64::from_le_bytes((&*slice).try_into().expect("8 bytes"));
+    let answer = packed_run(run, &mut bytes);
+    slice.copy_from_slice(&bytes.to_le_bytes());
+    answer
+}

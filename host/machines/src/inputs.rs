@@ -1,0 +1,147 @@
+//! What the calls are made on: cases of the fuzzer, and cases in which a file or
+//! the pack is one of the makers' damaged ones, of the samples or of the kept
+//! packs.
+
+use crate::driver::root;
+use fuzz::case::{self, Case};
+use fuzz::mutate;
+use paper::make::{self, Place, Rng};
+use std::fs;
+use std::path::Path;
+
+/// The seed of all that is made here.
+const SEED: u64 = 17;
+
+/// How much of it: so many cases of the fuzzer, and one in so many of the others.
+#[derive(Clone, Copy)]
+pub struct Part {
+    fuzzed: u64,
+    one_in: usize,
+}
+
+/// What the gate tries, and all that there is.
+pub const SHORT: Part = Part {
+    fuzzed: 120,
+    one_in: 4,
+};
+pub const WHOLE: Part = Part {
+    fuzzed: 1_500,
+    one_in: 1,
+};
+
+/// What is put into a case.
+enum Put {
+    Table(Vec<u8>),
+    Points(Vec<u8>),
+    /// A pair of files and the number of a view.
+    Pair(Vec<u8>, Vec<u8>, u64),
+    /// A pack and the number of a point.
+    Pack(Vec<u8>, u64),
+}
+
+impl Put {
+    fn into_case(self, mut case: Case) -> Case {
+        match self {
+            Put::Table(file) => case.table = file,
+            Put::Points(file) => case.points = file,
+            Put::Pair(table, points, view) => {
+                (case.table, case.points, case.number) = (table, points, view);
+            }
+            Put::Pack(pack, point) => (case.pack, case.number) = (pack, point),
+        }
+        case
+    }
+}
+
+/// The cases of a part.
+pub fn cases(part: Part) -> impl Iterator<Item = Case> {
+    let fuzzed = (1..=part.fuzzed).map(|number| case::make(SEED, number));
+    let puts = puts().into_iter().step_by(part.one_in);
+    let put = puts
+        .zip(part.fuzzed + 1..)
+        .map(|(put, number)| put.into_case(case::make(SEED, number)));
+    fuzzed.chain(put)
+}
+
+fn puts() -> Vec<Put> {
+    let mut rng = Rng::new(SEED);
+    let mut puts = damaged_files(&mut rng);
+    let damaged = make::damaged_packs().into_iter();
+    puts.extend(damaged.map(|damaged| Put::Pack(damaged.pack, 1)));
+    puts.extend(sample_views());
+    puts.extend(kept_packs(&mut rng));
+    puts
+}
+
+/// A file for each refusal at each place where it can stand, three times.
+fn damaged_files(rng: &mut Rng) -> Vec<Put> {
+    let mut puts = Vec::new();
+    for place in [Place::ALL; 3].concat() {
+        for number in 1..=6 {
+            let table = make::damaged_table(rng, number, place);
+            let points = make::damaged_points(rng, number, place);
+            puts.extend(table.map(|damaged| Put::Table(damaged.file)));
+            puts.extend(points.map(|damaged| Put::Points(damaged.file)));
+        }
+    }
+    puts
+}
+
+/// Each view of the sample files.
+fn sample_views() -> Vec<Put> {
+    let samples = root().join("samples");
+    let read = |name| fs::read(samples.join(name)).expect("a sample");
+    let (table, points) = (read("changes1"), read("changes2"));
+    let views = paper::views(&points).expect("views") as u64;
+    (1..=views)
+        .map(|view| Put::Pair(table.clone(), points.clone(), view))
+        .collect()
+}
+
+/// Each kept pack with each number from 0 up to one behind its points, and as
+/// often mutated.
+fn kept_packs(rng: &mut Rng) -> Vec<Put> {
+    let mut puts = Vec::new();
+    for pack in packs_below(&root().join("samples")) {
+        let points = paper::open(&pack).expect("a kept pack opens") as u64;
+        for point in 0..=points + 1 {
+            let mut mutated = pack.clone();
+            mutate::pack(rng, &mut mutated);
+            puts.push(Put::Pack(pack.clone(), point));
+            puts.push(Put::Pack(mutated, point));
+        }
+    }
+    puts
+}
+
+/// The packs in a folder and below it, in the order of their names.
+fn packs_below(folder: &Path) -> Vec<Vec<u8>> {
+    let entries = fs::read_dir(folder).expect("a folder of samples");
+    let mut paths: Vec<_> = entries
+        .map(|entry| entry.expect("an entry").path())
+        .collect();
+    paths.sort();
+    let mut packs = Vec::new();
+    for path in paths {
+        if path.is_dir() {
+            packs.extend(packs_below(&path));
+        } else if path.extension().is_some_and(|end| end == "pack") {
+            packs.push(fs::read(path).expect("a pack"));
+        }
+    }
+    packs
+}
+
+/// The largest files that are accepted, and the pack of their commonest code.
+/// Every call gives a value.
+pub fn largest() -> Case {
+    let pair = make::exact_pair(&mut Rng::new(SEED), 20_000, 20_000);
+    let code = b"AB1 ".to_vec();
+    let mut pack = vec![0; 1 << 20];
+    let length = paper::build(&pair.table, &pair.points, &code, &mut pack).expect("a pack");
+    pack.truncate(length);
+    let mut case = Put::Pair(pair.table, pair.points, 5).into_case(case::make(SEED, 1));
+    (case.code, case.pack, case.room) = (code, pack, length);
+    (case.count, case.run_room) = (40, 40 * 499);
+    case
+}
