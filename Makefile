@@ -1,5 +1,5 @@
 # Two commands do everything: `make run` and `make test`.
-.PHONY: help run test bench fuzz annotate ttw install ready-arm library
+.PHONY: help run test bench fuzz annotate ttw install ready-arm library library-arm test-arm install-arm
 
 # Where `make install` puts things; how long and from which seed `make fuzz` runs.
 PREFIX = /usr/local
@@ -17,6 +17,9 @@ help:
 	@echo 'make fuzz      try the calls on mutated input for SECONDS=60 from SEED=1'
 	@echo 'make annotate  print the pack of docs/PACK.md byte by byte'
 	@echo 'make ready-arm fetch what an Arm machine needs to run all this (root, Debian 12)'
+	@echo 'make library-arm  build the library for the handset, an AArch64 machine'
+	@echo 'make test-arm     compare its calls with the second program, under an emulator'
+	@echo 'make install-arm  copy it with header and pkg-config file below PREFIX=..'
 
 # The samples have a code that is refused, which ttw tells with status 1.
 run: ttw
@@ -39,6 +42,18 @@ ttw: library
 
 install: ttw
 	@scripts/install '$(PREFIX)'
+
+# The same for the handset's machine. What stands below /usr/local is this machine's, so PREFIX has to be said.
+library-arm:
+	@scripts/library-arm ttwibonal
+
+test-arm:
+	@scripts/test-arm
+
+install-arm:
+	@[ '$(origin PREFIX)' != file ] || { echo 'usage: make install-arm PREFIX=..' >&2; exit 2; }
+	@$(MAKE) --no-print-directory library-arm
+	@scripts/install --arm '$(PREFIX)'
 
 bench: library
 	@cd host && $(CARGO) run --release --package ttw-bench

@@ -34,9 +34,9 @@ struct Shown {
     output: String,
 }
 
-fn shown(blocks: &[Block]) -> Vec<Shown> {
+fn shown(blocks: &[Block], kind: &str) -> Vec<Shown> {
     let mut all: Vec<Shown> = Vec::new();
-    for block in blocks.iter().filter(|block| block.kind == "console") {
+    for block in blocks.iter().filter(|block| block.kind == kind) {
         for line in &block.lines {
             match line.strip_prefix("$ ") {
                 Some(command) => all.push(Shown {
@@ -66,12 +66,12 @@ fn script(commands: &[Shown]) -> String {
     script
 }
 
-#[test]
-fn every_command_shown_prints_what_is_shown() {
+/// Runs the commands in all blocks of a kind and compares: how many.
+fn compared(kind: &str, desk: fn() -> Folder) -> usize {
     let mut compared = 0;
     for document in documents() {
         let text = fs::read_to_string(&document).expect("a document");
-        let commands = shown(&blocks(&text));
+        let commands = shown(&blocks(&text), kind);
         if commands.is_empty() {
             continue;
         }
@@ -94,7 +94,27 @@ fn every_command_shown_prints_what_is_shown() {
             compared += 1;
         }
     }
-    assert!(compared >= 15, "{compared}");
+    compared
+}
+
+#[test]
+fn every_command_shown_prints_what_is_shown() {
+    assert!(compared("console", desk) >= 15);
+}
+
+/// A desk at which the library for the handset is installed too.
+fn handset_desk() -> Folder {
+    let folder = desk();
+    let mut install = Command::new(root().join("scripts/install"));
+    let arm = install.args(["--arm", "target/handset"]);
+    run(arm.current_dir(&folder.0)).prints("");
+    folder
+}
+
+#[test]
+#[ignore = "make test-arm runs it"]
+fn every_command_for_the_handset_prints_what_is_shown() {
+    assert!(compared("console arm", handset_desk) >= 2);
 }
 
 #[test]
@@ -103,7 +123,7 @@ fn nothing_is_shown_that_is_not_checked() {
         let text = fs::read_to_string(&document).expect("a document");
         for Block { kind, lines } in blocks(&text) {
             match kind.as_str() {
-                "console" | "text" | "annotated" => {}
+                "console" | "console arm" | "text" | "annotated" => {}
                 "sh" => lines.iter().for_each(|line| assert_make_knows(line)),
                 _ => panic!("{}: a block of kind {kind:?}", document.display()),
             }

@@ -3,6 +3,7 @@
 mod support;
 
 use paper::make::worked_pair;
+use std::fs;
 use std::process::Command;
 use support::{root, run, Folder, TTW};
 
@@ -32,7 +33,28 @@ fn a_program_is_built_from_what_was_installed() {
 }
 
 #[test]
+fn the_handset_gets_its_library_and_no_command() {
+    let folder = Folder::new();
+    let mut install = Command::new(root().join("scripts/install"));
+    run(install.args(["--arm", "handset"]).current_dir(&folder.0)).prints("");
+    assert_eq!(folder.names("handset"), ["include", "lib"]);
+    let copies = [
+        ("include/ttwibonal.h", "include/ttwibonal.h"),
+        (
+            "lib/libttwibonal.a",
+            "target/staticlib/aarch64/libttwibonal.a",
+        ),
+    ];
+    for (copy, of) in copies {
+        let made = fs::read(root().join(of)).expect("a file");
+        assert!(folder.read(&format!("handset/{copy}")) == made, "{copy}");
+    }
+    let described = folder.shell("grep '^prefix=' handset/lib/pkgconfig/ttwibonal.pc");
+    described.prints(&format!("prefix={}/handset\n", folder.0.display()));
+}
+
+#[test]
 fn no_prefix_is_wrong_usage() {
     let mut install = Command::new(root().join("scripts/install"));
-    run(&mut install).only_tells(2, "usage: scripts/install PREFIX [TTW]");
+    run(&mut install).only_tells(2, "usage: scripts/install [--arm] PREFIX [TTW]");
 }
