@@ -8,13 +8,14 @@ use std::fs;
 use std::path::Path;
 use support::pages::{blocks, documents, quoted, rows, sections, text_of, Section};
 use support::tree::{
-    all_paths, crate_names, crates, declared, edits, family, files_below, public_functions,
-    words_of,
+    all_paths, crate_names, crates, declared, edits, family, files_below, pages_of_specs,
+    pages_reached, public_functions, words_of,
 };
 use support::{names_in, root};
 
 const ARCHITECTURE: &str = "docs/ARCHITECTURE.md";
 const PROMISES: &str = "docs/PROMISES.md";
+const READING_ORDER: &str = "docs/READING-ORDER.md";
 
 /// Fails where there is something to tell.
 #[track_caller]
@@ -325,6 +326,34 @@ fn the_modules_that_documents_name_exist() {
     }));
 }
 
+/// The pages of definitions that a part of a document names.
+fn pages_in(text: &str) -> Vec<String> {
+    let is_page = |name: &String| name.contains("/specs/");
+    quoted(text).into_iter().filter(is_page).collect()
+}
+
+#[test]
+fn the_reading_order_has_what_the_calls_and_the_demands_use() {
+    let text = text_of(READING_ORDER);
+    let below = text
+        .split_once("## What has to be believed")
+        .expect("a part")
+        .1;
+    let (believed, others) = below
+        .split_once("## What the programs print")
+        .expect("a part");
+    let is_start = |page: &String| page.starts_with("call/") || page.starts_with("demands/");
+    let reached = pages_reached(pages_of_specs().into_iter().filter(is_start).collect());
+    let (used, left): (Vec<String>, Vec<String>) = pages_of_specs()
+        .into_iter()
+        .partition(|page| reached.contains(page));
+    let place = format!("{READING_ORDER}, what has to be believed");
+    let mut told = differences(&place, &pages_in(believed), &used);
+    let place = format!("{READING_ORDER}, what needs no belief");
+    told.extend(differences(&place, &pages_in(others), &left));
+    nothing_of(told);
+}
+
 /// What only those speak of that know a file of Changes: widths of its records, and its names.
 const OF_FILES: [&str; 16] = [
     "168",
@@ -377,9 +406,9 @@ fn places_with_a_file(name: &str) -> Vec<String> {
 }
 
 #[test]
-fn label_pack_and_build_know_no_file() {
+fn label_ask_pack_and_build_know_no_file() {
     let is_above = |name: &&String| {
-        let above = ["label", "pack", "build"];
+        let above = ["label", "ask", "pack", "build"];
         above.iter().any(|start| name.starts_with(start))
     };
     let names = crate_names();

@@ -1,6 +1,7 @@
 //! The crates as they stand in the tree: their arrows in `crates.txt`, the items of `src/`, the edits of `must-fail/`.
 
 use super::{names_in, root};
+use std::collections::BTreeSet;
 use std::fs;
 use std::path::Path;
 
@@ -209,6 +210,53 @@ pub fn declared(name: &str) -> Vec<String> {
         declared.extend(names.map(|name| format!("{module}.{name}")));
     }
     declared
+}
+
+/// Whether a page of definitions has some of its own, and does not only list others.
+fn defines(page: &str) -> bool {
+    let text = fs::read_to_string(root().join("crates").join(page)).expect("a page");
+    let lists = |line: &str| line.starts_with("--") || line.starts_with("pub mod ");
+    !text.lines().all(lists)
+}
+
+/// The pages of definitions of all crates: `call/specs/Call.antt`.
+pub fn pages_of_specs() -> Vec<String> {
+    let folder = root().join("crates");
+    let names = crate_names();
+    let files = names
+        .iter()
+        .flat_map(|name| files_below(&folder.join(name).join("specs")));
+    let pages = files.map(|file| {
+        let page = file.strip_prefix(&folder).expect("a file of a crate");
+        page.to_string_lossy().to_string()
+    });
+    pages.filter(|page| defines(page)).collect()
+}
+
+/// The page of definitions that a line of a module uses, if it does.
+fn page_used(line: &str) -> Option<String> {
+    let line = line.strip_prefix("use Rattle·")?;
+    let end = line.find(|c: char| !c.is_alphanumeric() && !"_·.".contains(c));
+    let (name, path) = line[..end.unwrap_or(line.len())].split_once(".specs.")?;
+    let name = name.split('·').next()?;
+    let parts: Vec<&str> = path.split('.').collect();
+    // What stands behind a module's name is a name in it.
+    let mut pages = (1..=parts.len())
+        .rev()
+        .map(|count| format!("{name}/specs/{}.antt", parts[..count].join("/")));
+    pages.find(|page| root().join("crates").join(page).is_file())
+}
+
+/// Pages of definitions, and all that these use, directly or through others.
+pub fn pages_reached(mut from: Vec<String>) -> BTreeSet<String> {
+    let mut reached = BTreeSet::new();
+    while let Some(page) = from.pop() {
+        if reached.insert(page.clone()) {
+            let text = fs::read_to_string(root().join("crates").join(&page)).expect("a page");
+            from.extend(text.lines().filter_map(page_used));
+        }
+    }
+    reached
 }
 
 /// The words and paths of a file of a crate, with their lines.
