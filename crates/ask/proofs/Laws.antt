@@ -1,4 +1,4 @@
--- Laws of what is asked of a source, one or in turn: what decides, once the files are judged and the code is tested.
+-- Laws of what is asked of a source: what decides, once the files are judged and the code is tested.
 -- Assumes nothing.
 use Prim.Native.Nat.{ℕ, zero, suc}
 use mathlib.Core.Path.{_≡_, refl, ap, _∙_}
@@ -17,12 +17,8 @@ use Rattle.source.specs.Resolve.{Resolved}
 use Rattle.source.specs.Same.{AllOf, AllAgree}
 use Rattle.source.proofs.Same.{resolve-same}
 use Rattle.label.specs.Label.{resolvedOutcome}
-use Rattle.run.specs.declared.Series.the-variants.{Unasked}
-use Rattle.run.specs.Series.{runFrom}
-use Rattle.run.proofs.Same.{same-run}
 use Rattle.ask.specs.Source.{Source, inCode}
-use Rattle.ask.specs.Labels.{kthLabel, codeFirst, byCode, viewLabel, codeLabel}
-use Rattle.ask.specs.Runs.{viewsRun, codeRun}
+use Rattle.ask.specs.Labels.{kthLabel, codeFirst, byCode}
 
 -- what holds of each address holds of those in a code
 pub in-code-all : (P : Address → Type 0) (code : List ℕ) (views : List Address) → AllOf P views
@@ -62,19 +58,3 @@ module _ {A : Type 0} (whole : ℕ → Reason → A) (code out : List ℕ) (next
     pub by-refused : {file : ℕ} {why : Reason} → s .judged ≡ Refused file why
         → byCode whole s code out next ≡ said (whole file why) out
     by-refused e = afterwards-refused whole out _ e
-
--- where the files are accepted, a run asks the views themselves
-module _ (s : Source) {n : ℕ} (taken : s .judged ≡ Value n) (first count : ℕ) (out : List ℕ) where
-  pub views-run : viewsRun s first count out ≡ runFrom (kthLabel (s .look) (s .views)) first count out
-  unfolding viewsRun viewLabel
-  views-run =
-      afterwards-value Unasked out _ taken
-      ∙ same-run _ _ (λ k o. afterwards-value Refused o _ taken) count first out
-
-  module _ (code : List ℕ) where
-    pub code-run : outwardFault code ≡ 0
-        → codeRun s code first count out ≡ runFrom (kthLabel (s .look) (inCode code (s .live))) first count out
-    unfolding codeRun codeLabel
-    code-run e =
-        by-good-code Unasked code out _ s taken e
-        ∙ same-run _ _ (λ k o. by-good-code Refused code o _ s taken e) count first out

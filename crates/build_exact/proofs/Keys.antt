@@ -17,6 +17,7 @@ use Rattle.refusal.specs.declared.Reason.the-variants.{Combination, MissingKey}
 use Rattle.source.specs.Address.{Lookup, Address, present, Asked, keyKinds, askedBy, keysOf, ref}
 use Rattle.source.specs.Resolve.{forbidden, lacks, missingFrom, missing, elementsOf, elements, refused, resolve}
 use Rattle.source.specs.Delivery.{rowsFor}
+use Rattle.refusal.proofs.Verdicts.{both-fine}
 use Rattle.shelf.specs.Stock.{Stock, Good, textsOrNone, lookIn}
 use Rattle.pack.specs.Cutting.{badOf, firstBad}
 use Rattle.pack_carries.specs.Used.{refersIn, refers}
@@ -27,10 +28,6 @@ use Rattle.build_exact.specs.Started.{AllSay, none-says, one-says}
 use Rattle.build_exact.proofs.Refused.{lacks-row}
 
 -- ---- addresses that are not refused
-
-both-fine : (v w : Verdict) → orElse v w ≡ Fine → (v ≡ Fine) × (w ≡ Fine)
-both-fine Fine w e = (refl, e)
-both-fine (Bad why) w e = let z : _≡_ {A = ℕ} 0 1 = cc in absurd (omega arith)
 
 none-missing : (look : Lookup) (a : Address) → badOf (a .view) (resolve look a) ≡ Fine → missing look a ≡ 0
 unfolding resolve

@@ -11,7 +11,7 @@ use Rattle.refusal.specs.declared.Verdict.{Verdict}
 use Rattle.refusal.specs.declared.Verdict.the-variants.{Fine}
 use Rattle.file.specs.Formats.{tableFormat, pointFormat}
 use Rattle.file.proofs.Laws.{at-least-two, within-limit}
-use Rattle.file.proofs.Accepted.{Accepted}
+use Rattle.file.specs.Accepted.{Accepted}
 use Rattle.changes_views.specs.Views.{wantedIn, wantedCount}
 use Rattle.changes_source.specs.Rows.{tableShelf, tableStock, tableLookup}
 use Rattle.changes_source.proofs.Table.{table-good}

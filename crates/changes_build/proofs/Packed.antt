@@ -6,7 +6,7 @@ use mathlib.Core.List.{List, [], _∷_}
 use native.Mathlib.Omega.{arith}
 use lib.ListN.{length, length-append}
 use Rattle.file.specs.Formats.{tableFormat}
-use Rattle.file.proofs.Accepted.{Accepted}
+use Rattle.file.specs.Accepted.{Accepted}
 use Rattle.changes_views.specs.Views.{wantedIn, nextWanted, placesFrom}
 use Rattle.changes_views.specs.Views as views
 use Rattle.changes_views.proofs.Laws.{places-start, places-step, places-end}

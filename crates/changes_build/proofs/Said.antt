@@ -9,7 +9,7 @@ use borrow.Author.Tests.{eq-eqb}
 use Rattle.field_outward.specs.Outward.{outwardFault}
 use Rattle.file_record.specs.Parts.{recordAt}
 use Rattle.file.specs.Formats.{pointFormat}
-use Rattle.file.proofs.Accepted.{Accepted}
+use Rattle.file.specs.Accepted.{Accepted}
 use Rattle.file.proofs.Laws.{within-limit}
 use Rattle.changes_views.specs.Views.{lastOf, wanted, wantedFrom, wantedIn, viewNumber}
 use Rattle.source.specs.Address.{Address}

@@ -7,7 +7,7 @@ use lib.ListN.{length, getD}
 use Rattle.field_outward.specs.Outward.{outwardFault}
 use Rattle.refusal.specs.declared.Verdict.the-variants.{Fine}
 use Rattle.file.specs.Formats.{tableFormat, pointFormat}
-use Rattle.file.proofs.Accepted.{Accepted}
+use Rattle.file.specs.Accepted.{Accepted}
 use Rattle.changes_source.specs.Rows.{tableStock}
 use Rattle.build.specs.Plan.{firstRefused, markAll}
 use Rattle.changes_build.specs.Views.{packedIn}

@@ -7,7 +7,7 @@ use lib.ListN.{length}
 use Rattle.refusal.specs.declared.Verdict.{Verdict}
 use Rattle.refusal.specs.declared.Verdict.the-variants.{Fine}
 use Rattle.file.specs.Formats.{tableFormat, pointFormat}
-use Rattle.file.proofs.Accepted.{Accepted}
+use Rattle.file.specs.Accepted.{Accepted}
 use Rattle.changes_views.specs.Views.{wantedIn, viewNumber}
 use Rattle.changes_source.specs.Rows.{tableShelf, tableStock}
 use Rattle.changes_source.specs.Delivery.{deliveryAt}

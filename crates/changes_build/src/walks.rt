@@ -1,4 +1,4 @@
-// The walks over the views of a code: each reads a view as a delivery point and hands it on.
+// The walks over the views of a code: each reads of a view what it needs and hands it on.
 use build_place::inner::Sums;
 use build_place::inner::one_if;
 use build_place::inner::organisation_len;

@@ -17,7 +17,8 @@ use Rattle.refusal.proofs.Answers.{refused-value}
 use Rattle.refusal.proofs.Outcomes.{answer-of, afterwards-value, Both, both-values}
 use Rattle.file.specs.Check.{checked}
 use Rattle.file.specs.Formats.{tableFormat, pointFormat}
-use Rattle.file.proofs.Accepted.{Accepted, accepted}
+use Rattle.file.specs.Accepted.{Accepted}
+use Rattle.file.proofs.Accepted.{accepted}
 use Rattle.changes_views.specs.Views.{wantedIn, wantedCount, wantedAt}
 use Rattle.changes_views.proofs.Laws.{wanted-at-wanted, wanted-at-zero, wanted-at-none}
 use Rattle.source.specs.Address.{Elements}

@@ -9,7 +9,7 @@ use Rattle.refusal.specs.declared.Reason.the-variants.{NoSuchNumber}
 use Rattle.refusal.specs.declared.Answer.{Answer}
 use Rattle.refusal.specs.declared.Answer.the-variants.{Refused}
 use Rattle.refusal.specs.Outcome.{Outcome, said}
-use Rattle.file.proofs.Accepted.{Accepted}
+use Rattle.file.specs.Accepted.{Accepted}
 use Rattle.file.specs.Check.{records}
 use Rattle.file.specs.Formats.{tableFormat, pointFormat}
 use Rattle.source.specs.Resolve.{Resolved, resolve}

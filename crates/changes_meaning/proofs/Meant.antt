@@ -12,7 +12,7 @@ use Rattle.refusal.specs.declared.Reason.{Reason}
 use Rattle.refusal.specs.declared.Verdict.the-variants.{Fine, Bad}
 use Rattle.file.specs.Check.{records}
 use Rattle.file.specs.Formats.{tableFormat, pointFormat}
-use Rattle.file.proofs.Accepted.{Accepted}
+use Rattle.file.specs.Accepted.{Accepted}
 use Rattle.changes_views.specs.Views.{isView, isLive, inCode, isEmpty, wanted}
 use Rattle.source.specs.Address.{Elements}
 use Rattle.source.specs.Resolve.{elementsOf, elements, refused, resolve}

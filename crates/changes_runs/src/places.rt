@@ -5,7 +5,7 @@ ghost use mathlib.Core.Path.{_≡_};
 ghost use Prim.Native.Nat.{_≤_};
 ghost use lib.ListN.{length};
 ghost use Rattle.refusal.specs.Outcome.{said};
-ghost use Rattle.file.proofs.Accepted.{Accepted};
+ghost use Rattle.file.specs.Accepted.{Accepted};
 ghost use Rattle.file.specs.Formats.{tableFormat};
 ghost use Rattle.changes_views.specs.Views.{lastOf};
 ghost use Rattle.changes_label.specs.Places.{placeLabel, ViewPlace};

@@ -20,7 +20,8 @@ use Rattle.file_compare.specs.Order.{order}
 use Rattle.file_compare.proofs.Order.{order-equal}
 use Rattle.refusal.specs.declared.Verdict.the-variants.{Fine}
 use Rattle.file.specs.Formats.{pointFormat}
-use Rattle.file.proofs.Accepted.{Accepted, both-fine}
+use Rattle.refusal.proofs.Verdicts.{both-fine}
+use Rattle.file.specs.Accepted.{Accepted}
 use Rattle.file.proofs.Laws.{within-limit}
 use Rattle.changes_views.specs.Views.{isView, isLive, wanted, lastOf, wantedFrom, wantedIn, viewNumber}
 use Rattle.source.specs.Address.{Lookup, Address}

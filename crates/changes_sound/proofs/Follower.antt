@@ -23,7 +23,7 @@ use Rattle.file_compare.proofs.Order.{order-equal}
 use Rattle.file_fault.specs.Point.{pointRest, pointFault}
 use Rattle.file.specs.Check.{records}
 use Rattle.file.specs.Formats.{needed, follows, placed, pointFormat}
-use Rattle.file.proofs.Accepted.{Accepted}
+use Rattle.file.specs.Accepted.{Accepted}
 use Rattle.source.specs.Address.{named}
 use Rattle.changes_source.specs.Addresses.{organisationOf}
 use Rattle.file_record.proofs.Records.{part-length, record-length}

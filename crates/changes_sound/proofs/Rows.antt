@@ -13,7 +13,7 @@ use Rattle.file_record.specs.Parts.{recordAt}
 use Rattle.file_fault.specs.Fields.{field}
 use Rattle.file_fault.specs.Table.{doubleFault, tableRest}
 use Rattle.file.specs.Formats.{tableFormat}
-use Rattle.file.proofs.Accepted.{Accepted}
+use Rattle.file.specs.Accepted.{Accepted}
 use Rattle.source.specs.Address.{ref, kindOf}
 use Rattle.source.proofs.Refs.{ref-kind}
 use Rattle.shelf.specs.Shelf.{textsIn, refAt, textsAt, rowOf}

@@ -13,7 +13,7 @@ use Rattle.field.proofs.Texts.{part-bound}
 use Rattle.field_outward.specs.Outward.{outwardFault}
 use Rattle.file_record.specs.Parts.{recordAt}
 use Rattle.file.specs.Formats.{needed, pointFormat}
-use Rattle.file.proofs.Accepted.{Accepted}
+use Rattle.file.specs.Accepted.{Accepted}
 use Rattle.file.proofs.Laws.{within-limit}
 use Rattle.shelf.specs.declared.Shelf.{Shelf}
 use Rattle.shelf.specs.Shelf.{textsIn, recordOf, refAt, textsAt, rowOf}

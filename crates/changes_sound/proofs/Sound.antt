@@ -6,7 +6,7 @@ use mathlib.Core.List.{List}
 use Rattle.field_outward.specs.Outward.{outwardFault}
 use Rattle.refusal.specs.declared.Verdict.the-variants.{Fine}
 use Rattle.file.specs.Formats.{tableFormat, pointFormat}
-use Rattle.file.proofs.Accepted.{Accepted}
+use Rattle.file.specs.Accepted.{Accepted}
 use Rattle.changes_source.specs.Rows.{tableLookup}
 use Rattle.pack.specs.Cutting.{firstBad}
 use Rattle.pack.specs.Sound.{Sound}

@@ -25,7 +25,7 @@ use Rattle.file_fault.specs.Fields.{keyFault}
 use Rattle.file_fault.specs.Table.{tableFault}
 use Rattle.file_fault.proofs.Passing.{digits-pass, table-passes, one-passes}
 use Rattle.file.specs.Formats.{tableFormat}
-use Rattle.file.proofs.Accepted.{Accepted}
+use Rattle.file.specs.Accepted.{Accepted}
 use Rattle.source.specs.Address.{ref, kindOf}
 use Rattle.shelf.specs.Shelf.{Fit, recordOf, refAt, lastOf, NeverFalls}
 use Rattle.shelf.specs.Stock.{Good}

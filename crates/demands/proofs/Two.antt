@@ -6,9 +6,11 @@ use mathlib.Core.Bool.{true}
 use mathlib.Core.List.{List}
 use Rattle.refusal.specs.declared.Answer.the-variants.{Value}
 use Rattle.file.specs.Check.{Format, records, checked}
-use Rattle.file.proofs.Accepted.{Accepted, accepted, accepts}
+use Rattle.file.specs.Accepted.{Accepted}
+use Rattle.file.proofs.Accepted.{accepted, accepts}
 use Rattle.pack.specs.Opening.{pointCount, trailerGood, allRowsGood, allPointsGood, opened}
-use Rattle.pack_open.proofs.Opened.{Opened, opened-all}
+use Rattle.pack_open.specs.Opened.{Opened}
+use Rattle.pack_open.proofs.Opened.{opened-all}
 
 -- a table file or a point file; the value is how many records it has
 pub accepted-file : (f : Format) (file : List ℕ) → Accepted f file → checked f file ≡ Value (records f file)

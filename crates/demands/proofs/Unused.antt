@@ -11,7 +11,7 @@ use Rattle.refusal.specs.Outcome.{Outcome}
 use Rattle.refusal.proofs.Outcomes.{afterwards-value}
 use Rattle.file.specs.Check.{records}
 use Rattle.file.specs.Formats.{tableFormat, pointFormat}
-use Rattle.file.proofs.Accepted.{Accepted}
+use Rattle.file.specs.Accepted.{Accepted}
 use Rattle.changes_views.specs.Views.{wantedIn}
 use Rattle.source.specs.Address.{Lookup, Address, keysOf}
 use Rattle.source.specs.Same.{AllOf, Agree, AllAgree}

@@ -13,34 +13,22 @@ use Rattle.refusal.specs.Refusal.{malformedAt}
 use Rattle.refusal.specs.declared.Reason.{Reason}
 use Rattle.refusal.specs.declared.Reason.the-variants.{NotAbove, Follower}
 use Rattle.refusal.proofs.Answers.{refused-value}
+use Rattle.refusal.proofs.Verdicts.{bad-fine, both-fine}
 use Rattle.refusal.specs.declared.Answer.the-variants.{Value, Refused}
 use Rattle.refusal.specs.declared.Verdict.{Verdict}
 use Rattle.refusal.specs.declared.Verdict.the-variants.{Fine, Bad}
 use Rattle.file.specs.Check.{Format, records, whole, at, rises, inPlace, judged, scan, verdict, answered, checked}
 use Rattle.refusal.specs.Verdict.{orElse}
+use Rattle.file.specs.Accepted.{FineRecord, Accepted}
 use Rattle.file.proofs.Laws.{judged-fine, verdict-length, verdict-header, verdict-trailer, verdict-scan}
 
--- no refusal is no answer that is fine
-pub bad-fine : (why : Reason) → Bad why ≡ Fine → ⊥
-bad-fine why e = let z : _≡_ {A = ℕ} 0 1 = cc in omega arith
-
 -- of a scan that found nothing, each verdict is fine
-pub both-fine : (v w : Verdict) → orElse v w ≡ Fine → (v ≡ Fine) × (w ≡ Fine)
-both-fine Fine w e = (refl, e)
-both-fine (Bad why) w e = absurd (bad-fine why e)
-
 pub scan-fine : (judge : ℕ → Verdict) (k i : ℕ) → scan judge k i ≡ Fine → (j : ℕ) → i ≤ j → j < i + k → judge j ≡ Fine
 scan-fine judge zero i e j p q = absurd (omega arith)
 scan-fine judge (suc k) i e j p q =
     let fine = both-fine (judge i) (scan judge k (suc i)) e in
     ⊎-elim (λ (h : i ≡ j). ap judge (sym h) ∙ fine .0)
     (λ (h : suc i ≤ j). scan-fine judge k (suc i) (fine .1) j h (omega arith)) (eq-or-lt-of-le p)
-
--- what a record that is judged fine is
-pub record FineRecord (f : Format) (file : List ℕ) (i : ℕ) : Type 0 where
-  pub well-formed : f .fault (at f file i) ≡ 0
-  pub rising : rises f file i ≡ true
-  pub in-place : inPlace f file i ≡ true
 
 pub judged-record : (f : Format) (file : List ℕ) (i : ℕ) → judged f file i ≡ Fine → FineRecord f file i
 unfolding judged
@@ -67,13 +55,6 @@ fine-scan judge zero i h = refl
 fine-scan judge (suc k) i h =
     rw (h i (omega arith) (omega arith)) (fine-scan judge k (suc i) (λ j p q. h j (omega arith) (omega arith)))
 
--- an accepted file
-pub record Accepted (f : Format) (file : List ℕ) : Type 0 where
-  pub is-whole : whole f file ≡ true
-  pub headed : f .headed (at f file 0) ≡ true
-  pub ended : f .ended (records f file) (at f file (records f file - 1)) ≡ true
-  pub each : (i : ℕ) → 1 ≤ i → i < records f file - 1 → FineRecord f file i
-
 module _ (f : Format) (file : List ℕ) where
   verdict-accepted : verdict f file ≡ Fine → Accepted f file
   verdict-accepted e =
@@ -94,7 +75,7 @@ module _ (f : Format) (file : List ℕ) where
       by-tests true false v p q r = absurd (bad-fine _ (sym (verdict-header f file p q) ∙ e))
       by-tests false u v p q r = absurd (bad-fine _ (sym (verdict-length f file p) ∙ e))
 
-  -- a file that is answered with a number is accepted, and the number is how many records it has
+  -- a file that is answered with a number is accepted
   pub accepted : (n : ℕ) → checked f file ≡ Value n → Accepted f file
   unfolding checked
   accepted n e = by-verdict (verdict f file) refl e
@@ -102,14 +83,6 @@ module _ (f : Format) (file : List ℕ) where
       by-verdict : (v : Verdict) → verdict f file ≡ v → answered f file v ≡ Value n → Accepted f file
       by-verdict Fine h e = verdict-accepted h
       by-verdict (Bad why) h e = absurd (refused-value (f .file) n why e)
-
-  pub accepted-records : (n : ℕ) → checked f file ≡ Value n → n ≡ records f file
-  unfolding checked
-  accepted-records n e = by-verdict (verdict f file) e
-    where
-      by-verdict : (v : Verdict) → answered f file v ≡ Value n → n ≡ records f file
-      by-verdict Fine e = cc
-      by-verdict (Bad why) e = absurd (refused-value (f .file) n why e)
 
   -- and an accepted file is so answered
   pub accepts : Accepted f file → checked f file ≡ Value (records f file)

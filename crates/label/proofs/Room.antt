@@ -9,7 +9,6 @@ use borrow.Author.Tests.{le-leb, lt-leb, leb-true, leb-false}
 use lib.Dec.{leb}
 use lib.ListN.{length, take, drop, length-append}
 use lib.Seq.{take-append-seam}
-use Rattle.refusal.specs.declared.Reason.{Reason}
 use Rattle.refusal.specs.declared.Reason.the-variants.{Room}
 use Rattle.refusal.specs.declared.Answer.{Answer}
 use Rattle.refusal.specs.declared.Answer.the-variants.{Value, Refused}
@@ -70,14 +69,6 @@ module _ (text out : List ℕ) where
       ap (λ (m : List ℕ). take n m) (w .written)
       ∙ (ap (λ (k : ℕ). take k (text ++ drop (length text) out)) (w .long)
       ∙ take-append-seam text (drop (length text) out))
-
-  pub room-refused : (file : ℕ) (why : Reason) → roomOutcome text out .answer ≡ Refused file why
-      → roomOutcome text out .memory ≡ out
-  room-refused file why e = by-case fitting
-    where
-      by-case : Fitting → roomOutcome text out .memory ≡ out
-      by-case (fits h is) = absurd (refused-value file (length text) why (sym e ∙ answer-of is))
-      by-case (short h is) = ap (λ (o : Outcome Answer). o .memory) is
 
   -- as code finds it: the bytes are counted first
   pub counted-short : {n : ℕ} → n ≡ length text → length out < n → said (Refused 0 (Room n)) out ≡ roomOutcome text out

@@ -9,14 +9,8 @@ use Rattle.refusal.specs.declared.Reason.the-variants.{BadPack}
 use Rattle.refusal.specs.declared.Answer.the-variants.{Value, Refused}
 use Rattle.pack.specs.Opening.{pointCount, trailerGood, allRowsGood, allPointsGood, opened}
 use Rattle.pack_points.specs.Ready.{Sized}
+use Rattle.pack_open.specs.Opened.{Opened}
 use Rattle.pack_open.proofs.Trailers.{trailer-sized}
-
--- all three steps passed, and the answer is the number of points
-pub record Opened (pack : List ℕ) (n : ℕ) : Type 0 where
-  pub trailer : trailerGood pack ≡ true
-  pub rows : allRowsGood pack ≡ true
-  pub points : allPointsGood pack ≡ true
-  pub counted : n ≡ pointCount pack
 
 pub opened-all : (pack : List ℕ) (n : ℕ) → opened pack ≡ Value n → Opened pack n
 unfolding opened

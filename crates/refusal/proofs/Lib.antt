@@ -1,3 +1,4 @@
 pub mod Lossless
 pub mod Answers
 pub mod Outcomes
+pub mod Verdicts

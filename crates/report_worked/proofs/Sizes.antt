@@ -22,7 +22,8 @@ use Rattle.file_fault.proofs.Bounds.{table-bound, point-bound}
 use Rattle.file.specs.Check.{Format, records, whole as whole-records, at, rises, inPlace, judged, scan, verdict, answered, checked}
 use Rattle.refusal.specs.Verdict.{orElse}
 use Rattle.file.specs.Formats.{tableFormat, pointFormat}
-use Rattle.file.proofs.Accepted.{Accepted, accepted}
+use Rattle.file.specs.Accepted.{Accepted}
+use Rattle.file.proofs.Accepted.{accepted}
 use Rattle.changes_views.specs.Views.{wantedCount, wantedAt}
 use Rattle.changes_views.proofs.Laws.{count-bound}
 use Rattle.source.specs.Address.{Lookup, Address, present, Asked, keysOf, Elements}

@@ -7,7 +7,7 @@ use mathlib.Core.List.{List}
 use native.Mathlib.Omega.{arith}
 use borrow.Author.Tests.{eqb-false}
 use lib.Dec.{eqb}
-use lib.ListN.{length, take, drop, length-append}
+use lib.ListN.{length, take, drop, length-append, length-replicate}
 use lib.Seq.{take-append-seam}
 use Rattle.refusal.specs.declared.Reason.{Reason}
 use Rattle.refusal.specs.declared.Answer.{Answer}
@@ -22,6 +22,8 @@ use Rattle.label.proofs.Room.{room-fits}
 use Rattle.label.proofs.Bounds.{at-most-499}
 use Rattle.changes_meaning.proofs.Meant.{address-fits}
 use Rattle.changes_label.specs.Places.{resolvedAt, placeLabel, ViewPlace}
+use Rattle.label_print.proofs.Unique.{zeros, fresh-tail}
+use Rattle.report_write.specs.Fresh.{TailZero}
 use Rattle.report.specs.Report.{refusedLine, resolvedText, viewText}
 
 -- what an answer and a buffer say of a text: it stands in front of the buffer, or it is the refusal's line
@@ -88,3 +90,27 @@ module _ (table points : List ℕ) (place : ℕ) (v : ViewPlace table points pla
         by-test : (t : Bool) → eqb place 0 ≡ t → ToldBy (viewText table points place) (placeLabel table points place out)
         by-test true e = rw e refl
         by-test false e = rw e (some-told (eqb-false place 0 e))
+
+-- in a fresh buffer, what is left of it is still zero
+pub fresh-zero : (table points : List ℕ) (place : ℕ) → ViewPlace table points place
+    → TailZero (placeLabel table points place (zeros 499) .answer) (placeLabel table points place (zeros 499) .memory)
+unfolding placeLabel
+fresh-zero table points place v = by-test (eqb place 0) refl
+  where
+    by-resolved : (r : Resolved) → ((e : Elements) → r ≡ elements e → length (labelOf e) ≤ 499)
+        → TailZero (resolvedOutcome r (zeros 499) .answer) (resolvedOutcome r (zeros 499) .memory)
+    by-resolved (elements e) fits =
+        let h = fits e refl in
+        let is = room-fits (labelOf e) (zeros 499) (omega (arith, h, length-replicate {A = ℕ} 499 0)) in
+        rw is (rw is at (fresh-tail (labelOf e) h))
+    by-resolved (refused why) fits = refl
+
+    by-test : (t : Bool) → eqb place 0 ≡ t
+        → TailZero (placeLabel table points place (zeros 499) .answer) (placeLabel table points place (zeros 499) .memory)
+    by-test true e = rw e refl
+    by-test false e =
+        rw e
+        (by-resolved (resolvedAt table points place)
+        (λ x h.
+        let same = resolved-is (tableLookup table) (addressAt points 0 place) x h in
+        omega (arith, label-fits table points place v (eqb-false place 0 e), ap (λ (y : Elements). length (labelOf y)) same)))

@@ -5,11 +5,33 @@ use report::inner::refused_at;
 use report::inner::text_at;
 ghost use Prim.Native.Nat.{_≤_};
 ghost use lib.ListN.{length};
-ghost use Rattle.file.proofs.Accepted.{Accepted};
+ghost use Rattle.file.specs.Accepted.{Accepted};
 ghost use Rattle.file.specs.Formats.{tableFormat, pointFormat};
-ghost use Rattle.changes_label.specs.Places.{ViewPlace};
+ghost use mathlib.Core.Path.{_≡_};
+ghost use Rattle.refusal.specs.Outcome.{said};
+ghost use Rattle.label_print.proofs.Unique.{zeros};
+ghost use Rattle.changes_label.specs.Places.{ViewPlace, placeLabel};
 ghost use Rattle.report.specs.Fed.{Fed};
+ghost use Rattle.report_write.specs.Fresh.{TailZero};
 ghost use Rattle.report.specs.Report.{viewText, block, blocks};
+
+// What asking for a label comes to, with the buffer that it was printed into.
+pub struct Fresh {
+    pub answer: Answer,
+    pub bytes: [u8; 499],
+}
+
+// The label of the view at a place, printed into a fresh buffer: what it leaves untouched is still zero.
+fn fresh_label<'a>(table: &'a [u8], points: &'a [u8], place: usize) -> Fresh
+    requires { ⌜ ViewPlace (now table) (now points) place ⌝ }
+    ensures { λ r. ⌜ said (r .answer) (r .bytes)
+        ≡ placeLabel (now (table .entry)) (now (points .entry)) place (zeros 499) ⌝ }
+    ensures tail { λ r. ⌜ TailZero (r .answer) (r .bytes) ⌝ }
+{
+    let mut bytes = [0u8; 499];
+    let answer = changes_label::inner::label_at(table, points, place, &mut bytes);
+    Fresh { answer, bytes }
+}
 
 // The label of the view at a place, or its refusal.
 fn view_at<'a>(table: &'a [u8], points: &'a [u8], place: usize, at: usize, out: &mut [u8]) -> usize
@@ -17,8 +39,10 @@ fn view_at<'a>(table: &'a [u8], points: &'a [u8], place: usize, at: usize, out: 
     ensures { λ r. ⌜ Fed (viewText (now (table .entry)) (now (points .entry)) place) (now (out .entry)) at r
         (now (out .exit)) ⌝ }
 {
-    let mut label = [0u8; 499];
-    match changes_label::inner::label_at(table, points, place, &mut label) {
+    let fresh = fresh_label(table, points, place);
+    let label = fresh.bytes;
+    let answer = fresh.answer;
+    match answer {
         Answer::Value(n) => text_at(&label[..n], at, out),
         Answer::Refused { file: _, reason } => refused_at(reason, at, out),
     }

@@ -10,7 +10,7 @@ use report::inner::text_at;
 ghost use mathlib.Core.Path.{_≡_};
 ghost use mathlib.Core.List.{[], _∷_, _++_};
 ghost use Rattle.refusal.specs.declared.Answer.the-variants.{Value};
-ghost use Rattle.file.proofs.Accepted.{Accepted};
+ghost use Rattle.file.specs.Accepted.{Accepted};
 ghost use Rattle.file.specs.Check.{checked};
 ghost use Rattle.file.specs.Formats.{tableFormat, pointFormat};
 ghost use Rattle.label.specs.Put.{Wrote};

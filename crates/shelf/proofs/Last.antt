@@ -207,7 +207,3 @@ module _ (s : Shelf) (file : List ℕ) (r : ℕ) where
     -- it is the last that does
     pub row-of-last : (j : ℕ) → suc p < j → j < lastOf s file → refAt s file j ≡ r → ⊥
     row-of-last j h l k = stands .behind j h (omega arith) k
-
-    -- and its own number finds it
-    pub row-of-own : rowOf s file (refAt s file (suc p)) ≡ suc p
-    row-of-own = rw (stands .here) e

@@ -80,8 +80,3 @@ module _ (st : Stock) where
         let m = missing (lookIn st) a in
         rw (e, forbidden-meant, missing-meant)
         (by-verdict (eqb f 0) (eqb m 0) (Combination f 0) (MissingKey m 0) (elementsOf (lookIn st) a))
-
--- two ways to a row that agree find the same rows
-pub rows-same : (row other : ℕ → ℕ) → ((r : ℕ) → row r ≡ other r) → (keys : List Asked) → rowsFor row keys ≡ rowsFor other keys
-rows-same row other h [] = refl
-rows-same row other h (k ∷ ks) = rw (h (ref (k .kind) (k .key)), rows-same row other h ks)

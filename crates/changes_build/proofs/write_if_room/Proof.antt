@@ -74,9 +74,6 @@ module _ (w : tie.After-count-wanted) where
   few : length pack < 4_294_967_295
   few = small table points code marks starts ready placed
 
-table-shelf-requires : tie.Need-table-shelf-requires
-table-shelf-requires c κs = search needs
-
 place-rows-requires : tie.Need-place-rows-requires
 place-rows-requires c κs =
     let t = c .before in
@@ -84,12 +81,6 @@ place-rows-requires c κs =
     let small = table-small (s .args .table .now) (s .pre .1 .judged .of-table) in
     rw (t .table-shelf .ensures)
     (table-fits, (omega (arith, small, marked-long _ _ _ _ (s .pre .1)), omega (arith, small)))
-
-organisations-in-requires : tie.Need-organisations-in-requires
-organisations-in-requires c κs = search needs
-
-count-wanted-requires : tie.Need-count-wanted-requires
-count-wanted-requires c κs = search needs
 
 add-needed : tie.Need-add-needed
 add-needed c = omega (arith, whole (c .before .before), few (c .before .before))
@@ -102,9 +93,6 @@ add-needed-2 c = omega (arith, whole (c .before .before), few (c .before .before
 
 add-needed-3 : tie.Need-add-needed-3
 add-needed-3 c = omega (arith, whole (c .before .before), few (c .before .before))
-
-same-length : tie.Need-same-length
-same-length c = search needs
 
 returns : tie.Need-returns
 returns c =
@@ -140,12 +128,6 @@ write-pack-requires c κs =
       },
     )
 
-same-length-2 : tie.Need-same-length-2
-same-length-2 c = search needs
-
-same-length-3 : tie.Need-same-length-3
-same-length-3 c = search needs
-
 returns-2 : tie.Need-returns-2
 returns-2 c =
     let p = c .before .before in
@@ -159,19 +141,5 @@ returns-2 c =
 pub write-if-room-spec : {M : Type 1} → statement M
 write-if-room-spec =
     tie.close
-    (tie.spec
-    table-shelf-requires
-    place-rows-requires
-    organisations-in-requires
-    count-wanted-requires
-    add-needed
-    mul-needed
-    add-needed-2
-    add-needed-3
-    same-length
-    returns
-    add-rows
-    write-pack-requires
-    same-length-2
-    same-length-3
-    returns-2)
+    (tie.spec (search needs) place-rows-requires (search needs) (search needs) add-needed mul-needed add-needed-2
+    add-needed-3 (search needs) returns add-rows write-pack-requires (search needs) (search needs) returns-2)

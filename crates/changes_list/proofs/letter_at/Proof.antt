@@ -10,15 +10,6 @@ returns : tie.Need-returns
 unfolding letterAt
 returns c = simp (eq-eqb _ 0 (c .if1 .taken))
 
-point-record-requires : tie.Need-point-record-requires
-point-record-requires c κs = search needs
-
-byte-of-requires : tie.Need-byte-of-requires
-byte-of-requires c κs = search needs
-
-cast-t7 : tie.Need-cast-t7
-cast-t7 c = search needs
-
 returns-2 : tie.Need-returns-2
 unfolding letterAt
 returns-2 c =
@@ -26,5 +17,4 @@ returns-2 c =
     rw (c .byte-of .ensures, p .point-record .ensures) (simp (ne-eqb _ 0 (p .before .if1 .left)))
 
 pub letter-at-spec : {M : Type 1} → statement M
-letter-at-spec =
-    tie.close (tie.spec returns point-record-requires byte-of-requires cast-t7 returns-2)
+letter-at-spec = tie.close (tie.spec returns (search needs) (search needs) (search needs) returns-2)

@@ -6,12 +6,6 @@ use Rattle.changes_list.specs.Listing.{liveAt}
 use Rattle.changes_list.proofs.live_at.Statement.{statement}
 use Rattle.changes_list.proofs.live_at.Tie as tie
 
-outward-fault-requires : tie.Need-outward-fault-requires
-outward-fault-requires c κs = search needs
-
-count-wanted-requires : tie.Need-count-wanted-requires
-count-wanted-requires c κs = search needs
-
 returns : tie.Need-returns
 unfolding liveAt
 returns c =
@@ -23,4 +17,4 @@ unfolding liveAt
 returns-2 c = simp (ne-eqb _ 0 (rw (c .before .outward-fault .ensures) at (c .if1 .left)))
 
 pub live-at-spec : {M : Type 1} → statement M
-live-at-spec = tie.close (tie.spec outward-fault-requires count-wanted-requires returns returns-2)
+live-at-spec = tie.close (tie.spec (search needs) (search needs) returns returns-2)

@@ -17,54 +17,21 @@ module _ (s : tie.After-start-at) where
       let start = s .before .before .before in
       omega (arith, s .start-at .ensures, start-within (start .args .points .now) (start .args .i), start .good .0 .1)
 
-point-record-requires : tie.Need-point-record-requires
-point-record-requires c κs = search needs
-
-start-at-requires : tie.Need-start-at-requires
-start-at-requires c κs = search needs
-
-part-of-requires : tie.Need-part-of-requires
-part-of-requires c κs = search needs
-
-part-of-requires-2 : tie.Need-part-of-requires-2
-part-of-requires-2 c κs = search needs
-
-part-of-requires-3 : tie.Need-part-of-requires-3
-part-of-requires-3 c κs = search needs
-
-keys-in-requires : tie.Need-keys-in-requires
-keys-in-requires c κs = search needs
-
-value-of-requires : tie.Need-value-of-requires
-value-of-requires c κs = search needs
-
 cast-t10 : tie.Need-cast-t10
 cast-t10 c =
     let p = c .before .before .before .before in
     let bound = part-bound (p .before .before .point-record .result .now) 82 86 in
     omega (arith, c .value-of .ensures, four-digits (p .part-of .result .now) (rw (p .part-of .ensures) bound))
 
-value-of-requires-2 : tie.Need-value-of-requires-2
-value-of-requires-2 c κs = search needs
-
 cast-t12 : tie.Need-cast-t12
 cast-t12 c =
     let p = c .before .before .before .before in
     omega (arith, c .value-of2 .ensures, value-small (p .part-of2 .result .now))
 
-value-of-requires-3 : tie.Need-value-of-requires-3
-value-of-requires-3 c κs = search needs
-
 cast-t14 : tie.Need-cast-t14
 cast-t14 c =
     let p = c .before .before .before .before in
     omega (arith, c .value-of3 .ensures, value-small (p .part-of3 .result .now))
-
-byte-of-requires : tie.Need-byte-of-requires
-byte-of-requires c κs = search needs
-
-byte-of-requires-2 : tie.Need-byte-of-requires-2
-byte-of-requires-2 c κs = search needs
 
 add-t18 : tie.Need-add-t18
 add-t18 c = omega (arith, at-fits (c .before .before .before .before .before .before .before .before .before))
@@ -74,9 +41,6 @@ add-t19 c = omega (arith, at-fits (c .before .before .before .before .before .be
 
 add-t20 : tie.Need-add-t20
 add-t20 c = omega (arith, at-fits (c .before .before .before .before .before .before .before .before .before))
-
-needed-next-requires : tie.Need-needed-next-requires
-needed-next-requires c κs = search needs
 
 add-t23 : tie.Need-add-t23
 add-t23 c =
@@ -107,24 +71,6 @@ returns c =
 pub delivery-at-spec : {M : Type 1} → statement M
 delivery-at-spec =
     tie.close
-    (tie.spec
-    point-record-requires
-    start-at-requires
-    part-of-requires
-    part-of-requires-2
-    part-of-requires-3
-    keys-in-requires
-    value-of-requires
-    cast-t10
-    value-of-requires-2
-    cast-t12
-    value-of-requires-3
-    cast-t14
-    byte-of-requires
-    byte-of-requires-2
-    add-t18
-    add-t19
-    add-t20
-    needed-next-requires
-    add-t23
-    returns)
+    (tie.spec (search needs) (search needs) (search needs) (search needs) (search needs) (search needs)
+    (search needs) cast-t10 (search needs) cast-t12 (search needs) cast-t14 (search needs) (search needs) add-t18
+    add-t19 add-t20 (search needs) add-t23 returns)

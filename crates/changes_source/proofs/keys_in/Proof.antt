@@ -18,35 +18,11 @@ abbrev μ-loop : tie.MeasureT-loop
 loop-holds : tie.Need-loop-holds Inv-loop μ-loop
 loop-holds c = keys-none (c .before .args .rec .now) _ refl
 
-mul-at : tie.Need-mul-at Inv-loop μ-loop
-mul-at c = search needs
-
-array-read-at : tie.Need-array-read-at Inv-loop μ-loop
-array-read-at c = search needs
-
 add-part-of : tie.Need-add-part-of Inv-loop μ-loop
 add-part-of c = omega (arith, place-small (c .before .loop .i))
 
-part-of-requires : tie.Need-part-of-requires Inv-loop μ-loop
-part-of-requires c κs = search needs
-
-value-of-requires : tie.Need-value-of-requires Inv-loop μ-loop
-value-of-requires c κs = search needs
-
 cast-keys : tie.Need-cast-keys Inv-loop μ-loop
 cast-keys c = omega (arith, c .value-of .ensures, value-small (c .before .part-of .result .now))
-
-mul-keys : tie.Need-mul-keys Inv-loop μ-loop
-mul-keys c = search needs
-
-array-write-keys : tie.Need-array-write-keys Inv-loop μ-loop
-array-write-keys c = search needs
-
-add-i : tie.Need-add-i Inv-loop μ-loop
-add-i c = search needs
-
-loop-less : tie.Need-loop-less Inv-loop μ-loop
-loop-less c = search needs
 
 loop-again : tie.Need-loop-again Inv-loop μ-loop
 loop-again c =
@@ -63,19 +39,5 @@ returns c =
 pub keys-in-spec : {M : Type 1} → statement M
 keys-in-spec =
     tie.close
-    (tie.spec
-    Inv-loop
-    μ-loop
-    loop-holds
-    mul-at
-    array-read-at
-    add-part-of
-    part-of-requires
-    value-of-requires
-    cast-keys
-    mul-keys
-    array-write-keys
-    add-i
-    loop-less
-    loop-again
-    returns)
+    (tie.spec Inv-loop μ-loop loop-holds (search needs) (search needs) add-part-of (search needs) (search needs)
+    cast-keys (search needs) (search needs) (search needs) (search needs) loop-again returns)

@@ -7,9 +7,6 @@ use Rattle.changes_source.proofs.Keys.{start-within}
 use Rattle.changes_source.proofs.organisation_place.Statement.{statement}
 use Rattle.changes_source.proofs.organisation_place.Tie as tie
 
-start-at-requires : tie.Need-start-at-requires
-start-at-requires c κs = search needs
-
 add-result : tie.Need-add-result
 add-result c =
     let s = c .before .before in
@@ -20,4 +17,4 @@ unfolding deliveryAt
 returns c = rw (c .start-at .ensures) refl
 
 pub organisation-place-spec : {M : Type 1} → statement M
-organisation-place-spec = tie.close (tie.spec start-at-requires add-result returns)
+organisation-place-spec = tie.close (tie.spec (search needs) add-result returns)

@@ -5,15 +5,9 @@ use Rattle.changes_source.specs.Delivery.{deliveryAt}
 use Rattle.changes_source.proofs.organised_at.Statement.{statement}
 use Rattle.changes_source.proofs.organised_at.Tie as tie
 
-point-record-requires : tie.Need-point-record-requires
-point-record-requires c κs = search needs
-
-needed-next-requires : tie.Need-needed-next-requires
-needed-next-requires c κs = search needs
-
 returns : tie.Need-returns
 unfolding deliveryAt
 returns c = rw (c .needed-next .ensures, c .before .point-record .ensures) refl
 
 pub organised-at-spec : {M : Type 1} → statement M
-organised-at-spec = tie.close (tie.spec point-record-requires needed-next-requires returns)
+organised-at-spec = tie.close (tie.spec (search needs) (search needs) returns)

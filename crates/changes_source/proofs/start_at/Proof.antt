@@ -4,9 +4,6 @@ use borrow.Author.Tests.{lt-ltb, le-ltb}
 use Rattle.changes_source.proofs.start_at.Statement.{statement}
 use Rattle.changes_source.proofs.start_at.Tie as tie
 
-mul-result : tie.Need-mul-result
-mul-result c = search needs
-
 returns : tie.Need-returns
 returns c = simp (lt-ltb _ _ (c .if1 .taken))
 
@@ -14,4 +11,4 @@ returns-2 : tie.Need-returns-2
 returns-2 c = simp (le-ltb _ _ (c .if1 .left))
 
 pub start-at-spec : {M : Type 1} → statement M
-start-at-spec = tie.close (tie.spec mul-result returns returns-2)
+start-at-spec = tie.close (tie.spec (search needs) returns returns-2)

@@ -19,12 +19,6 @@ Inv-loop points code last n₀ at₀ n at =
 abbrev μ-loop : tie.MeasureT-loop
 μ-loop points code last n₀ at₀ n at = last - at
 
-last-of-requires : tie.Need-last-of-requires Inv-loop μ-loop
-last-of-requires c κs = search needs
-
-next-wanted-requires : tie.Need-next-wanted-requires Inv-loop μ-loop
-next-wanted-requires c κs = search needs
-
 loop-holds : tie.Need-loop-holds Inv-loop μ-loop
 loop-holds c =
     let a = c .before .before .before .before .args in
@@ -33,15 +27,6 @@ loop-holds c =
       next-next (a .code .now) (a .points .now) _,
       omega (arith, count-is (a .code .now) (a .points .now)),
     )
-
-add-n : tie.Need-add-n Inv-loop μ-loop
-add-n c = search needs
-
-add-next-wanted : tie.Need-add-next-wanted Inv-loop μ-loop
-add-next-wanted c = search needs
-
-next-wanted-requires-2 : tie.Need-next-wanted-requires-2 Inv-loop μ-loop
-next-wanted-requires-2 c κs = search needs
 
 loop-less : tie.Need-loop-less Inv-loop μ-loop
 loop-less c =
@@ -78,15 +63,5 @@ returns c =
 pub count-wanted-spec : {M : Type 1} → statement M
 count-wanted-spec =
     tie.close
-    (tie.spec
-    Inv-loop
-    μ-loop
-    last-of-requires
-    next-wanted-requires
-    loop-holds
-    add-n
-    add-next-wanted
-    next-wanted-requires-2
-    loop-less
-    loop-again
-    returns)
+    (tie.spec Inv-loop μ-loop (search needs) (search needs) loop-holds (search needs) (search needs) (search needs)
+    loop-less loop-again returns)

@@ -6,9 +6,6 @@ use Rattle.changes_views.proofs.Laws.{wanted-other, wanted-any, wanted-
 use Rattle.changes_views.proofs.is_wanted.Statement.{statement}
 use Rattle.changes_views.proofs.is_wanted.Tie as tie
 
-byte-of-requires : tie.Need-byte-of-requires
-byte-of-requires c κs = search needs
-
 returns : tie.Need-returns
 returns c =
     let s = c .before .before .before .before in
@@ -24,15 +21,6 @@ returns-2 c =
     (wanted-any (s .args .code .now) (s .args .rec .now)
     (eq-eqb _ 49 (rw (t .before .byte-of .ensures) at (t .if1 .left))) (c .if2 .taken))
 
-byte-of-requires-2 : tie.Need-byte-of-requires-2
-byte-of-requires-2 c κs = search needs
-
-part-of-requires : tie.Need-part-of-requires
-part-of-requires c κs = search needs
-
-order-of-requires : tie.Need-order-of-requires
-order-of-requires c κs = search needs
-
 returns-3 : tie.Need-returns-3
 returns-3 c =
     let b = c .before .before in
@@ -46,12 +34,4 @@ returns-3 c =
 
 pub is-wanted-spec : {M : Type 1} → statement M
 is-wanted-spec =
-    tie.close
-    (tie.spec
-    byte-of-requires
-    returns
-    returns-2
-    byte-of-requires-2
-    part-of-requires
-    order-of-requires
-    returns-3)
+    tie.close (tie.spec (search needs) returns returns-2 (search needs) (search needs) (search needs) returns-3)

@@ -14,17 +14,8 @@ Inv-loop points code i last at₀ at = nextWanted code points i ≡ nextWanted c
 abbrev μ-loop : tie.MeasureT-loop
 μ-loop points code i last at₀ at = last - at
 
-last-of-requires : tie.Need-last-of-requires Inv-loop μ-loop
-last-of-requires c κs = search needs
-
 loop-holds : tie.Need-loop-holds Inv-loop μ-loop
 loop-holds c = refl
-
-point-record-requires : tie.Need-point-record-requires Inv-loop μ-loop
-point-record-requires c κs = search needs
-
-is-wanted-requires : tie.Need-is-wanted-requires Inv-loop μ-loop
-is-wanted-requires c κs = search needs
 
 returns : tie.Need-returns Inv-loop μ-loop
 returns c =
@@ -35,12 +26,6 @@ returns c =
     (l .loop .inv
     ∙ next-stop (a .code .now) (a .points .now) (l .loop .at) (omega (arith, f .last-of .ensures))
     (rw (c .before .is-wanted .ensures, c .before .before .point-record .ensures) at (c .if1 .taken)))
-
-add-at : tie.Need-add-at Inv-loop μ-loop
-add-at c = search needs
-
-loop-less : tie.Need-loop-less Inv-loop μ-loop
-loop-less c = search needs
 
 loop-again : tie.Need-loop-again Inv-loop μ-loop
 loop-again c =
@@ -62,15 +47,5 @@ returns-2 c =
 pub next-wanted-spec : {M : Type 1} → statement M
 next-wanted-spec =
     tie.close
-    (tie.spec
-    Inv-loop
-    μ-loop
-    last-of-requires
-    loop-holds
-    point-record-requires
-    is-wanted-requires
-    returns
-    add-at
-    loop-less
-    loop-again
-    returns-2)
+    (tie.spec Inv-loop μ-loop (search needs) loop-holds (search needs) (search needs) returns (search needs)
+    (search needs) loop-again returns-2)

@@ -27,24 +27,6 @@ abbrev μ-loop : tie.MeasureT-loop
 loop-holds : tie.Need-loop-holds Inv-loop μ-loop
 loop-holds c = (omega arith, omega arith, number-is (c .before .args .points .now) (c .before .args .place) ∙ rw (zero-add, sub-zero))
 
-add-i : tie.Need-add-i Inv-loop μ-loop
-add-i c = search needs
-
-point-record-requires : tie.Need-point-record-requires Inv-loop μ-loop
-point-record-requires c κs = search needs
-
-slice-aggregate-is-wanted : tie.Need-slice-aggregate-is-wanted Inv-loop μ-loop
-slice-aggregate-is-wanted c = search needs
-
-is-wanted-requires : tie.Need-is-wanted-requires Inv-loop μ-loop
-is-wanted-requires c κs = search needs
-
-add-views : tie.Need-add-views Inv-loop μ-loop
-add-views c = search needs
-
-loop-less : tie.Need-loop-less Inv-loop μ-loop
-loop-less c = search needs
-
 loop-again : tie.Need-loop-again Inv-loop μ-loop
 loop-again c =
     let l = c .before .before .before .before .before in
@@ -53,9 +35,6 @@ loop-again c =
     number-step (a .points .now) (a .place) (l .loop .i) true (omega arith)
     (ap (wanted []) (sym (c .before .before .before .point-record .ensures)) ∙ (sym (c .before .is-wanted .ensures) ∙ c .if1 .taken)) in
     (omega arith, omega arith, l .loop .inv .2 ∙ omega (arith, step))
-
-loop-less-2 : tie.Need-loop-less-2 Inv-loop μ-loop
-loop-less-2 c = search needs
 
 loop-again-2 : tie.Need-loop-again-2 Inv-loop μ-loop
 loop-again-2 c =
@@ -75,17 +54,5 @@ returns c =
 pub number-at-spec : {M : Type 1} → statement M
 number-at-spec =
     tie.close
-    (tie.spec
-    Inv-loop
-    μ-loop
-    loop-holds
-    add-i
-    point-record-requires
-    slice-aggregate-is-wanted
-    is-wanted-requires
-    add-views
-    loop-less
-    loop-again
-    loop-less-2
-    loop-again-2
-    returns)
+    (tie.spec Inv-loop μ-loop loop-holds (search needs) (search needs) (search needs) (search needs) (search needs)
+    (search needs) loop-again (search needs) loop-again-2 returns)

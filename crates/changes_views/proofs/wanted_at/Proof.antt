@@ -19,18 +19,9 @@ Inv-loop points code k last left₀ at₀ left at =
 abbrev μ-loop : tie.MeasureT-loop
 μ-loop points code k last left₀ at₀ left at = left
 
-last-of-requires : tie.Need-last-of-requires Inv-loop μ-loop
-last-of-requires c κs = search needs
-
 loop-holds : tie.Need-loop-holds Inv-loop μ-loop
 unfolding wantedAt wantedIn
 loop-holds c = (omega arith, refl)
-
-add-next-wanted : tie.Need-add-next-wanted Inv-loop μ-loop
-add-next-wanted c = search needs
-
-next-wanted-requires : tie.Need-next-wanted-requires Inv-loop μ-loop
-next-wanted-requires c κs = search needs
 
 returns : tie.Need-returns Inv-loop μ-loop
 returns c =
@@ -42,9 +33,6 @@ returns c =
     (l .loop .inv .1
     ∙ at-none (a .code .now) (a .points .now) (l .loop .at) (l .loop .left) (omega arith)
     (omega (arith, c .if1 .taken, n .next-wanted .ensures, f .last-of .ensures)))
-
-sub-left : tie.Need-sub-left Inv-loop μ-loop
-sub-left c = search needs
 
 loop-less : tie.Need-loop-less Inv-loop μ-loop
 loop-less c = omega arith
@@ -72,15 +60,5 @@ returns-2 c =
 pub wanted-at-spec : {M : Type 1} → statement M
 wanted-at-spec =
     tie.close
-    (tie.spec
-    Inv-loop
-    μ-loop
-    last-of-requires
-    loop-holds
-    add-next-wanted
-    next-wanted-requires
-    returns
-    sub-left
-    loop-less
-    loop-again
-    returns-2)
+    (tie.spec Inv-loop μ-loop (search needs) loop-holds (search needs) (search needs) returns (search needs)
+    loop-less loop-again returns-2)

@@ -16,24 +16,6 @@ returns : tie.Need-returns
 unfolding inwardFault
 returns c = simp (ne-eqb _ 3 (c .if1 .taken))
 
-shared-slice-read-is-digit : tie.Need-shared-slice-read-is-digit
-shared-slice-read-is-digit c = search needs
-
-is-digit-requires : tie.Need-is-digit-requires
-is-digit-requires c κs = search needs
-
-shared-slice-read-is-inward-letter : tie.Need-shared-slice-read-is-inward-letter
-shared-slice-read-is-inward-letter c = search needs
-
-is-inward-letter-requires : tie.Need-is-inward-letter-requires
-is-inward-letter-requires c κs = search needs
-
-shared-slice-read-is-inward-letter-2 : tie.Need-shared-slice-read-is-inward-letter-2
-shared-slice-read-is-inward-letter-2 c = search needs
-
-is-inward-letter-requires-2 : tie.Need-is-inward-letter-requires-2
-is-inward-letter-requires-2 c κs = search needs
-
 three : (t u v : Bool) → t && (u && v) ≡ eqb (cond t (cond u (cond v 0 3) 2) 1) 0
 three true true true = refl
 three true true false = refl
@@ -57,12 +39,5 @@ returns-2 c =
 pub is-inward-spec : {M : Type 1} → statement M
 is-inward-spec =
     tie.close
-    (tie.spec
-    returns
-    shared-slice-read-is-digit
-    is-digit-requires
-    shared-slice-read-is-inward-letter
-    is-inward-letter-requires
-    shared-slice-read-is-inward-letter-2
-    is-inward-letter-requires-2
+    (tie.spec returns (search needs) (search needs) (search needs) (search needs) (search needs) (search needs)
     returns-2)

@@ -6,12 +6,9 @@ use Rattle.field.proofs.Tests.{or-false}
 use Rattle.field_inward.proofs.is_inward_letter.Statement.{statement}
 use Rattle.field_inward.proofs.is_inward_letter.Tie as tie
 
-is-letter-requires : tie.Need-is-letter-requires
-is-letter-requires c κs = search needs
-
 returns : tie.Need-returns
 unfolding inwardLetter
 returns c = rw (c .is-letter .ensures, or-false)
 
 pub is-inward-letter-spec : {M : Type 1} → statement M
-is-inward-letter-spec = tie.close (tie.spec is-letter-requires returns)
+is-inward-letter-spec = tie.close (tie.spec (search needs) returns)

@@ -17,18 +17,6 @@ returns : tie.Need-returns
 unfolding suffixFault
 returns c = simp (ne-eqb _ 2 (c .if1 .taken))
 
-shared-slice-read-is-digit : tie.Need-shared-slice-read-is-digit
-shared-slice-read-is-digit c = search needs
-
-is-digit-requires : tie.Need-is-digit-requires
-is-digit-requires c κs = search needs
-
-shared-slice-read-is-letter : tie.Need-shared-slice-read-is-letter
-shared-slice-read-is-letter c = search needs
-
-is-letter-requires : tie.Need-is-letter-requires
-is-letter-requires c κs = search needs
-
 two : (t u : Bool) → t && u ≡ eqb (cond t (cond u 0 2) 1) 0
 two true true = refl
 two true false = refl
@@ -43,12 +31,4 @@ returns-2 c =
     (two (digit (getD code 0 0)) (letter (getD code 1 0)))
 
 pub is-suffix-spec : {M : Type 1} → statement M
-is-suffix-spec =
-    tie.close
-    (tie.spec
-    returns
-    shared-slice-read-is-digit
-    is-digit-requires
-    shared-slice-read-is-letter
-    is-letter-requires
-    returns-2)
+is-suffix-spec = tie.close (tie.spec returns (search needs) (search needs) (search needs) (search needs) returns-2)

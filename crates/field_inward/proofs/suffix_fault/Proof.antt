@@ -11,24 +11,6 @@ returns : tie.Need-returns
 unfolding suffixFault
 returns c = simp (ne-eqb _ 2 (c .if1 .taken))
 
-shared-slice-read-is-digit : tie.Need-shared-slice-read-is-digit
-shared-slice-read-is-digit c = search needs
-
-is-digit-requires : tie.Need-is-digit-requires
-is-digit-requires c κs = search needs
-
-shared-slice-read-is-letter : tie.Need-shared-slice-read-is-letter
-shared-slice-read-is-letter c = search needs
-
-is-letter-requires : tie.Need-is-letter-requires
-is-letter-requires c κs = search needs
-
-unless-requires : tie.Need-unless-requires
-unless-requires c κs = search needs
-
-unless-requires-2 : tie.Need-unless-requires-2
-unless-requires-2 c κs = search needs
-
 returns-2 : tie.Need-returns-2
 returns-2 c =
     let d = c .before .before .before .before in
@@ -39,12 +21,5 @@ returns-2 c =
 pub suffix-fault-spec : {M : Type 1} → statement M
 suffix-fault-spec =
     tie.close
-    (tie.spec
-    returns
-    shared-slice-read-is-digit
-    is-digit-requires
-    shared-slice-read-is-letter
-    is-letter-requires
-    unless-requires
-    unless-requires-2
+    (tie.spec returns (search needs) (search needs) (search needs) (search needs) (search needs) (search needs)
     returns-2)

@@ -5,12 +5,6 @@ use Rattle.file_ends.specs.Ends.{identifier}
 use Rattle.file_ends.proofs.identifier_of.Statement.{statement}
 use Rattle.file_ends.proofs.identifier_of.Tie as tie
 
-all-are-requires : tie.Need-all-are-requires
-all-are-requires c κs = search needs
-
-all-are-requires-2 : tie.Need-all-are-requires-2
-all-are-requires-2 c κs = search needs
-
 returns : tie.Need-returns
 unfolding identifier
 returns c = simp (sym (c .before .all-are .ensures) ∙ c .if1 .taken)
@@ -28,5 +22,4 @@ returns-3 c =
     simp (sym (e .before .all-are .ensures) ∙ e .if1 .left, sym (c .before .all-are2 .ensures) ∙ c .if2 .left)
 
 pub identifier-of-spec : {M : Type 1} → statement M
-identifier-of-spec =
-    tie.close (tie.spec all-are-requires all-are-requires-2 returns returns-2 returns-3)
+identifier-of-spec = tie.close (tie.spec (search needs) (search needs) returns returns-2 returns-3)

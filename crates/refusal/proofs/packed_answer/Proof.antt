@@ -11,28 +11,16 @@ use Rattle.refusal.proofs.second_of.Reads as second-of-reads
 use Rattle.refusal.proofs.word_of.Reads as word-of-reads
 
 -- src/lib.rt:110:23
-enum-known-answer : tie.Need-enum-known-answer
-enum-known-answer c = search needs
 
 -- src/lib.rt:111:27
-enum-known-answer-2 : tie.Need-enum-known-answer-2
-enum-known-answer-2 c = search needs
 
 -- src/lib.rt:112:21
-number-of-requires : tie.Need-number-of-requires
-number-of-requires c κs = search needs
 
 -- src/lib.rt:112:46
-second-of-requires : tie.Need-second-of-requires
-second-of-requires c κs = search needs
 
 -- src/lib.rt:112:65
-detail-of-requires : tie.Need-detail-of-requires
-detail-of-requires c κs = search needs
 
 -- src/lib.rt:112:13
-word-of-requires : tie.Need-word-of-requires
-word-of-requires c κs = search needs
 
 -- src/lib.rt:106:1
 returns : tie.Need-returns
@@ -50,12 +38,5 @@ returns-2 c =
 pub packed-answer-spec : {M : Type 1} → statement M
 packed-answer-spec =
     tie.close
-    (tie.spec
-    enum-known-answer
-    enum-known-answer-2
-    number-of-requires
-    second-of-requires
-    detail-of-requires
-    word-of-requires
-    returns
+    (tie.spec (search needs) (search needs) (search needs) (search needs) (search needs) (search needs) returns
     returns-2)

@@ -29,24 +29,6 @@ Inv-loop keys rows i₀ i =
 abbrev μ-loop : tie.MeasureT-loop
 μ-loop keys rows i₀ i = 7 - i
 
-loop-holds : tie.Need-loop-holds Inv-loop μ-loop
-loop-holds c = search needs
-
-mul-if1 : tie.Need-mul-if1 Inv-loop μ-loop
-mul-if1 c = search needs
-
-array-read-if1 : tie.Need-array-read-if1 Inv-loop μ-loop
-array-read-if1 c = search needs
-
-mul-if1-2 : tie.Need-mul-if1-2 Inv-loop μ-loop
-mul-if1-2 c = search needs
-
-array-read-if1-2 : tie.Need-array-read-if1-2 Inv-loop μ-loop
-array-read-if1-2 c = search needs
-
-add-result : tie.Need-add-result Inv-loop μ-loop
-add-result c = search needs
-
 returns : tie.Need-returns Inv-loop μ-loop
 returns c =
     let l = c .before .before in
@@ -56,9 +38,6 @@ returns c =
     let r : length (a .t2) ≡ 7 = e .good .1 .0 .1 .0 .1 in
     let n = here (a .t1) (a .t2) (l .loop .i) (omega arith) (omega arith) in
     rw (add-one, l .loop .inv .1, n) (simp (c .if1 .taken))
-
-add-i : tie.Need-add-i Inv-loop μ-loop
-add-i c = search needs
 
 loop-less : tie.Need-loop-less Inv-loop μ-loop
 loop-less c = omega arith
@@ -84,17 +63,5 @@ returns-2 c =
 pub first-lacking-spec : {M : Type 1} → statement M
 first-lacking-spec =
     tie.close
-    (tie.spec
-    Inv-loop
-    μ-loop
-    loop-holds
-    mul-if1
-    array-read-if1
-    mul-if1-2
-    array-read-if1-2
-    add-result
-    returns
-    add-i
-    loop-less
-    loop-again
-    returns-2)
+    (tie.spec Inv-loop μ-loop (search needs) (search needs) (search needs) (search needs) (search needs)
+    (search needs) returns (search needs) loop-less loop-again returns-2)

@@ -6,21 +6,9 @@ use Rattle.source.specs.Delivery.{missingIn}
 use Rattle.source_keys.proofs.missing_in.Statement.{statement}
 use Rattle.source_keys.proofs.missing_in.Tie as tie
 
-array-read-if1 : tie.Need-array-read-if1
-array-read-if1 c = search needs
-
 returns : tie.Need-returns
 unfolding missingIn
 returns c = simp (eq-eqb _ 0 (c .if1 .taken))
-
-first-lacking-requires : tie.Need-first-lacking-requires
-first-lacking-requires c κs = search needs
-
-first-rule-requires : tie.Need-first-rule-requires
-first-rule-requires c κs = search needs
-
-first-rule-requires-2 : tie.Need-first-rule-requires-2
-first-rule-requires-2 c κs = search needs
 
 returns-2 : tie.Need-returns-2
 unfolding missingIn
@@ -31,12 +19,4 @@ returns-2 c =
     (simp (ne-eqb _ 0 (c₂ .before .if1 .left)))
 
 pub missing-in-spec : {M : Type 1} → statement M
-missing-in-spec =
-    tie.close
-    (tie.spec
-    array-read-if1
-    returns
-    first-lacking-requires
-    first-rule-requires
-    first-rule-requires-2
-    returns-2)
+missing-in-spec = tie.close (tie.spec (search needs) returns (search needs) (search needs) (search needs) returns-2)

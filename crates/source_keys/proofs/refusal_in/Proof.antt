@@ -6,17 +6,11 @@ use Rattle.source.specs.Delivery.{refusalIn}
 use Rattle.source_keys.proofs.refusal_in.Statement.{statement}
 use Rattle.source_keys.proofs.refusal_in.Tie as tie
 
-forbidden-in-requires : tie.Need-forbidden-in-requires
-forbidden-in-requires c κs = search needs
-
 returns : tie.Need-returns
 unfolding refusalIn
 returns c =
     let f = c .before in
     rw (f .forbidden-in .ensures) (simp (ne-eqb _ 0 (rw (f .forbidden-in .ensures) at (c .if1 .taken))))
-
-missing-in-requires : tie.Need-missing-in-requires
-missing-in-requires c κs = search needs
 
 returns-2 : tie.Need-returns-2
 unfolding refusalIn
@@ -40,5 +34,4 @@ returns-3 c =
     )
 
 pub refusal-in-spec : {M : Type 1} → statement M
-refusal-in-spec =
-    tie.close (tie.spec forbidden-in-requires returns missing-in-requires returns-2 returns-3)
+refusal-in-spec = tie.close (tie.spec (search needs) returns (search needs) returns-2 returns-3)

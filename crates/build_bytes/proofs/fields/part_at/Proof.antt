@@ -4,16 +4,10 @@ use Rattle.label.proofs.Puts.{put-as}
 use Rattle.build_bytes.proofs.fields.part_at.Statement.{statement}
 use Rattle.build_bytes.proofs.fields.part_at.Tie as tie
 
-part-of-requires : tie.Need-part-of-requires
-part-of-requires c κs = search needs
-
 bytes-at-requires : tie.Need-bytes-at-requires
 bytes-at-requires c κs =
     let c₁ = c .before in
     rw (c₁ .part-of .ensures) (c₁ .before .before .before .pre)
-
-same-length : tie.Need-same-length
-same-length c = search needs
 
 returns : tie.Need-returns
 returns c =
@@ -21,4 +15,4 @@ returns c =
     put-as (c₁ .before .before .part-of .ensures) (c₁ .bytes-at .ensures)
 
 pub part-at-spec : {M : Type 1} → statement M
-part-at-spec = tie.close (tie.spec part-of-requires bytes-at-requires same-length returns)
+part-at-spec = tie.close (tie.spec (search needs) bytes-at-requires (search needs) returns)

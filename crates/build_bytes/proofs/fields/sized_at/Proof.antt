@@ -4,18 +4,6 @@ use Rattle.label.proofs.Puts.{put-then}
 use Rattle.build_bytes.proofs.fields.sized_at.Statement.{statement}
 use Rattle.build_bytes.proofs.fields.sized_at.Tie as tie
 
-cast-byte-at : tie.Need-cast-byte-at
-cast-byte-at c = search needs
-
-byte-at-requires : tie.Need-byte-at-requires
-byte-at-requires c κs = search needs
-
-bytes-at-requires : tie.Need-bytes-at-requires
-bytes-at-requires c κs = search needs
-
-same-length : tie.Need-same-length
-same-length c = search needs
-
 returns : tie.Need-returns
 returns c =
     let c₁ = c .before .before in
@@ -23,5 +11,4 @@ returns c =
     put-then (c₂ .byte-at .ensures) (c₁ .bytes-at .ensures) (c₂ .before .before .before .before .pre .1)
 
 pub sized-at-spec : {M : Type 1} → statement M
-sized-at-spec =
-    tie.close (tie.spec cast-byte-at byte-at-requires bytes-at-requires same-length returns)
+sized-at-spec = tie.close (tie.spec (search needs) (search needs) (search needs) (search needs) returns)

@@ -8,9 +8,6 @@ use Rattle.build.specs.Bytes.{sized}
 use Rattle.build_bytes.proofs.fields.text_at.Statement.{statement}
 use Rattle.build_bytes.proofs.fields.text_at.Tie as tie
 
-read-text-requires : tie.Need-read-text-requires
-read-text-requires c κs = search needs
-
 sized-at-requires : tie.Need-sized-at-requires
 sized-at-requires c κs =
     let c₁ = c .before in
@@ -19,9 +16,6 @@ sized-at-requires c κs =
     rw (c₁ .read-text .ensures)
     (omega (arith, text-in-bound (a .rec .now) (a .start) (a .end), s .pre .0), s .pre .1)
 
-same-length : tie.Need-same-length
-same-length c = search needs
-
 returns : tie.Need-returns
 returns c =
     let c₁ = c .before .before in
@@ -29,4 +23,4 @@ returns c =
     put-as (ap sized (c₂ .read-text .ensures)) (c₁ .sized-at .ensures)
 
 pub text-at-spec : {M : Type 1} → statement M
-text-at-spec = tie.close (tie.spec read-text-requires sized-at-requires same-length returns)
+text-at-spec = tie.close (tie.spec (search needs) sized-at-requires (search needs) returns)

@@ -26,9 +26,6 @@ text-at-requires-2 c κs =
     let room = room-after (textsBytes (second ∷ [])) (c₁ .text-at .ensures) (s .pre .1) in
     (s .pre .0 .1, room-as (c₁ .text-at .last .1 .1 .1 .1 .0) (c₁ .text-at .result) (texts-last second) room)
 
-same-length : tie.Need-same-length
-same-length c = search needs
-
 returns : tie.Need-returns
 returns c =
     let c₂ = c .before .before in
@@ -39,4 +36,4 @@ returns c =
     put-then (c₁ .text-at .ensures) (put-as (texts-last second) (c₂ .text-at2 .ensures)) (s .pre .1)
 
 pub two-texts-at-spec : {M : Type 1} → statement M
-two-texts-at-spec = tie.close (tie.spec text-at-requires text-at-requires-2 same-length returns)
+two-texts-at-spec = tie.close (tie.spec text-at-requires text-at-requires-2 (search needs) returns)

@@ -5,15 +5,6 @@ use Rattle.build_bytes.proofs.Numbers.{word-is}
 use Rattle.build_bytes.proofs.fields.word_at.Statement.{statement}
 use Rattle.build_bytes.proofs.fields.word_at.Tie as tie
 
-short-at-requires : tie.Need-short-at-requires
-short-at-requires c κs = search needs
-
-short-at-requires-2 : tie.Need-short-at-requires-2
-short-at-requires-2 c κs = search needs
-
-same-length : tie.Need-same-length
-same-length c = search needs
-
 returns : tie.Need-returns
 returns c =
     let c₁ = c .before .before in
@@ -22,4 +13,4 @@ returns c =
     put-as (word-is (s .args .n)) (put-then (c₂ .short-at .ensures) (c₁ .short-at2 .ensures) (s .pre))
 
 pub word-at-spec : {M : Type 1} → statement M
-word-at-spec = tie.close (tie.spec short-at-requires short-at-requires-2 same-length returns)
+word-at-spec = tie.close (tie.spec (search needs) (search needs) (search needs) returns)

@@ -1,15 +1,9 @@
 -- `build_mark::inner::mark_point` meets its contract. Assumes nothing.
 use borrow.Author.Needs.{needs}
-use Prim.Native.Nat.{ℕ}
 use mathlib.Core.Path.{_≡_, sym, _∙_}
-use native.Mathlib.Omega.{arith}
-use Rattle.refusal.specs.declared.Reason.{Reason}
-use Rattle.refusal.specs.declared.Verdict.the-variants.{Fine, Bad}
+use Rattle.refusal.proofs.Verdicts.{bad-fine}
 use Rattle.build_mark.proofs.inner.mark_point.Statement.{statement}
 use Rattle.build_mark.proofs.inner.mark_point.Tie as tie
-
-bad-fine : (why : Reason) → Bad why ≡ Fine → ⊥
-bad-fine why e = let z : _≡_ {A = ℕ} 0 1 = cc in omega arith
 
 mark-rows-requires : tie.Need-mark-rows-requires
 mark-rows-requires c κs = c .before .before .before .before .before .before .pre

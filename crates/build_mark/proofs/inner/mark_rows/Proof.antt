@@ -24,12 +24,6 @@ seven-rows s = s .good .0 .1 .0 .1
 loop-holds : tie.Need-loop-holds Inv-loop μ-loop
 loop-holds c = (omega arith, refl, refl)
 
-mul-row : tie.Need-mul-row Inv-loop μ-loop
-mul-row c = search needs
-
-array-read-row : tie.Need-array-read-row Inv-loop μ-loop
-array-read-row c = search needs
-
 mul-marks : tie.Need-mul-marks Inv-loop μ-loop
 mul-marks c =
     let l = c .before .before in
@@ -43,12 +37,6 @@ slice-write-marks c =
     let s = l .before in
     let seven : length (s .args .t1) ≡ 7 = seven-rows s in
     omega (arith, below-at (length (s .args .marks .now)) (s .args .t1) (s .pre) (l .loop .i) (omega arith))
-
-add-i : tie.Need-add-i Inv-loop μ-loop
-add-i c = search needs
-
-loop-less : tie.Need-loop-less Inv-loop μ-loop
-loop-less c = search needs
 
 loop-again : tie.Need-loop-again Inv-loop μ-loop
 loop-again c =
@@ -67,9 +55,6 @@ loop-again c =
       step ∙ ap (markRows (drop (i + 1) rows)) (sym next),
     )
 
-same-length : tie.Need-same-length Inv-loop μ-loop
-same-length c = search needs
-
 returns : tie.Need-returns Inv-loop μ-loop
 returns c =
     let l = c .before in
@@ -81,16 +66,5 @@ returns c =
 pub mark-rows-spec : {M : Type 1} → statement M
 mark-rows-spec =
     tie.close
-    (tie.spec
-    Inv-loop
-    μ-loop
-    loop-holds
-    mul-row
-    array-read-row
-    mul-marks
-    slice-write-marks
-    add-i
-    loop-less
-    loop-again
-    same-length
-    returns)
+    (tie.spec Inv-loop μ-loop loop-holds (search needs) (search needs) mul-marks slice-write-marks (search needs)
+    (search needs) loop-again (search needs) returns)

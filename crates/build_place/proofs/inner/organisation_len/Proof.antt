@@ -13,27 +13,6 @@ returns c =
     let a = c .before .before .args in
     (ap length (no-organisation (a .others .now) (a .there) (a .at) (not-true _ (c .if1 .taken))), omega arith)
 
-add-text-len : tie.Need-add-text-len
-add-text-len c = search needs
-
-text-len-requires : tie.Need-text-len-requires
-text-len-requires c κs = search needs
-
-add-text-len-2 : tie.Need-add-text-len-2
-add-text-len-2 c = search needs
-
-add-text-len-3 : tie.Need-add-text-len-3
-add-text-len-3 c = search needs
-
-text-len-requires-2 : tie.Need-text-len-requires-2
-text-len-requires-2 c κs = search needs
-
-add-result : tie.Need-add-result
-add-result c = search needs
-
-add-result-2 : tie.Need-add-result-2
-add-result-2 c = search needs
-
 returns-2 : tie.Need-returns-2
 returns-2 c =
     let name = c .before in
@@ -47,13 +26,5 @@ returns-2 c =
 pub organisation-len-spec : {M : Type 1} → statement M
 organisation-len-spec =
     tie.close
-    (tie.spec
-    returns
-    add-text-len
-    text-len-requires
-    add-text-len-2
-    add-text-len-3
-    text-len-requires-2
-    add-result
-    add-result-2
-    returns-2)
+    (tie.spec returns (search needs) (search needs) (search needs) (search needs) (search needs) (search needs)
+    (search needs) returns-2)

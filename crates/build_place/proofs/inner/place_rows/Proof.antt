@@ -28,9 +28,6 @@ Inv-loop file s marks₀ last rows₀ bytes₀ i₀ marks rows bytes i =
 abbrev μ-loop : tie.MeasureT-loop
 μ-loop file s marks₀ last rows₀ bytes₀ i₀ marks rows bytes i = last - i
 
-last-of-requires : tie.Need-last-of-requires Inv-loop μ-loop
-last-of-requires c κs = search needs
-
 loop-holds : tie.Need-loop-holds Inv-loop μ-loop
 loop-holds c = (placing-start _ _, omega arith, refl, refl, omega arith, omega arith)
 
@@ -41,21 +38,6 @@ place-row-requires c κs =
     let last = l .before .last-of .ensures in
     let pre = l .before .before .before .before .pre in
     (pre .0, (omega (arith, inv .0 .as-long, last, pre .1 .0), omega (arith, inv .5, last, pre .1 .1)))
-
-one-if-requires : tie.Need-one-if-requires Inv-loop μ-loop
-one-if-requires c κs = search needs
-
-add-rows : tie.Need-add-rows Inv-loop μ-loop
-add-rows c = search needs
-
-add-bytes : tie.Need-add-bytes Inv-loop μ-loop
-add-bytes c = search needs
-
-add-i : tie.Need-add-i Inv-loop μ-loop
-add-i c = search needs
-
-loop-less : tie.Need-loop-less Inv-loop μ-loop
-loop-less c = search needs
 
 loop-again : tie.Need-loop-again Inv-loop μ-loop
 loop-again c =
@@ -81,9 +63,6 @@ loop-again c =
       omega (arith, inv .5, placed .ensures .0 .1),
     )
 
-same-length : tie.Need-same-length Inv-loop μ-loop
-same-length c = search needs
-
 returns : tie.Need-returns Inv-loop μ-loop
 returns c =
     let l = c .before in
@@ -101,17 +80,5 @@ returns c =
 pub place-rows-spec : {M : Type 1} → statement M
 place-rows-spec =
     tie.close
-    (tie.spec
-    Inv-loop
-    μ-loop
-    last-of-requires
-    loop-holds
-    place-row-requires
-    one-if-requires
-    add-rows
-    add-bytes
-    add-i
-    loop-less
-    loop-again
-    same-length
-    returns)
+    (tie.spec Inv-loop μ-loop (search needs) loop-holds place-row-requires (search needs) (search needs)
+    (search needs) (search needs) (search needs) loop-again (search needs) returns)

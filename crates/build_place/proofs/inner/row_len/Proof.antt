@@ -12,45 +12,6 @@ use Rattle.build.proofs.Laws.{row-of-three, row-of-one}
 use Rattle.build_place.proofs.inner.row_len.Statement.{statement}
 use Rattle.build_place.proofs.inner.row_len.Tie as tie
 
-record-of-requires : tie.Need-record-of-requires
-record-of-requires c κs = search needs
-
-ref-at-requires : tie.Need-ref-at-requires
-ref-at-requires c κs = search needs
-
-add-text-len : tie.Need-add-text-len
-add-text-len c = search needs
-
-text-len-requires : tie.Need-text-len-requires
-text-len-requires c κs = search needs
-
-add-text-len-2 : tie.Need-add-text-len-2
-add-text-len-2 c = search needs
-
-add-text-len-3 : tie.Need-add-text-len-3
-add-text-len-3 c = search needs
-
-text-len-requires-2 : tie.Need-text-len-requires-2
-text-len-requires-2 c κs = search needs
-
-add-text-len-4 : tie.Need-add-text-len-4
-add-text-len-4 c = search needs
-
-add-text-len-5 : tie.Need-add-text-len-5
-add-text-len-5 c = search needs
-
-text-len-requires-3 : tie.Need-text-len-requires-3
-text-len-requires-3 c κs = search needs
-
-add-result : tie.Need-add-result
-add-result c = search needs
-
-add-result-2 : tie.Need-add-result-2
-add-result-2 c = search needs
-
-add-result-3 : tie.Need-add-result-3
-add-result-3 c = search needs
-
 returns : tie.Need-returns
 returns c =
     let t₂ = c .before .before .before in
@@ -80,18 +41,6 @@ returns c =
       omega (arith, town .1, dependent .1, double .1),
     )
 
-text-width-requires : tie.Need-text-width-requires
-text-width-requires c κs = search needs
-
-add-text-len-6 : tie.Need-add-text-len-6
-add-text-len-6 c = search needs
-
-text-len-requires-4 : tie.Need-text-len-requires-4
-text-len-requires-4 c κs = search needs
-
-add-result-4 : tie.Need-add-result-4
-add-result-4 c = search needs
-
 returns-2 : tie.Need-returns-2
 returns-2 c =
     let width = c .before .before .text-width in
@@ -111,23 +60,6 @@ returns-2 c =
 pub row-len-spec : {M : Type 1} → statement M
 row-len-spec =
     tie.close
-    (tie.spec
-    record-of-requires
-    ref-at-requires
-    add-text-len
-    text-len-requires
-    add-text-len-2
-    add-text-len-3
-    text-len-requires-2
-    add-text-len-4
-    add-text-len-5
-    text-len-requires-3
-    add-result
-    add-result-2
-    add-result-3
-    returns
-    text-width-requires
-    add-text-len-6
-    text-len-requires-4
-    add-result-4
-    returns-2)
+    (tie.spec (search needs) (search needs) (search needs) (search needs) (search needs) (search needs)
+    (search needs) (search needs) (search needs) (search needs) (search needs) (search needs) (search needs) returns
+    (search needs) (search needs) (search needs) (search needs) returns-2)

@@ -7,12 +7,6 @@ use Rattle.field.proofs.Fronts.{text-in-bound}
 use Rattle.build_place.proofs.inner.text_len.Statement.{statement}
 use Rattle.build_place.proofs.inner.text_len.Tie as tie
 
-read-text-requires : tie.Need-read-text-requires
-read-text-requires c κs = search needs
-
-add-result : tie.Need-add-result
-add-result c = search needs
-
 returns : tie.Need-returns
 returns c =
     let a = c .before .before .args in
@@ -20,4 +14,4 @@ returns c =
     (omega (arith, t), omega (arith, t, text-in-bound (a .rec .now) (a .from) (a .to)))
 
 pub text-len-spec : {M : Type 1} → statement M
-text-len-spec = tie.close (tie.spec read-text-requires add-result returns)
+text-len-spec = tie.close (tie.spec (search needs) (search needs) returns)

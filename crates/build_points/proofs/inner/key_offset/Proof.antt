@@ -9,12 +9,6 @@ use Rattle.build_points.proofs.inner.key_offset.Tie as tie
 returns : tie.Need-returns
 returns c = simp (eq-eqb _ 0 (c .if1 .taken))
 
-start-of-requires : tie.Need-start-of-requires
-start-of-requires c κs = search needs
-
-above-requires : tie.Need-above-requires
-above-requires c κs = search needs
-
 returns-2 : tie.Need-returns-2
 returns-2 c =
     let start = c .before in
@@ -22,4 +16,4 @@ returns-2 c =
     (c .above .ensures .0 ∙ ap (λ (n : ℕ). n - 1) (start .start-of .ensures))
 
 pub key-offset-spec : {M : Type 1} → statement M
-key-offset-spec = tie.close (tie.spec returns start-of-requires above-requires returns-2)
+key-offset-spec = tie.close (tie.spec returns (search needs) (search needs) returns-2)

@@ -27,21 +27,6 @@ loop-holds c =
     let a = c .before .before .args in
     (omega arith, refl, going-start (keyOffsets (a .starts .now) (a .t2) (a .t3)) (a .out .now) (a .at))
 
-mul-key-offset : tie.Need-mul-key-offset Inv-loop μ-loop
-mul-key-offset c = search needs
-
-array-read-key-offset : tie.Need-array-read-key-offset Inv-loop μ-loop
-array-read-key-offset c = search needs
-
-mul-key-offset-2 : tie.Need-mul-key-offset-2 Inv-loop μ-loop
-mul-key-offset-2 c = search needs
-
-array-read-key-offset-2 : tie.Need-array-read-key-offset-2 Inv-loop μ-loop
-array-read-key-offset-2 c = search needs
-
-key-offset-requires : tie.Need-key-offset-requires Inv-loop μ-loop
-key-offset-requires c κs = search needs
-
 word-at-requires : tie.Need-word-at-requires Inv-loop μ-loop
 word-at-requires c κs =
     let l = c .before .before .before in
@@ -53,12 +38,6 @@ word-at-requires c κs =
     let step = offsets-step (a .starts .now) (a .t2) (a .t3) i (omega arith) (omega arith) in
     going-room (bytesOf 4 (keyOffset (a .starts .now) (getD (a .t2) i 0) (getD (a .t3) i 0)))
     (keyOffsets (a .starts .now) (drop (i + 1) (a .t2)) (drop (i + 1) (a .t3))) (going-as step (l .loop .inv .2)) (s .pre)
-
-add-i : tie.Need-add-i Inv-loop μ-loop
-add-i c = search needs
-
-loop-less : tie.Need-loop-less Inv-loop μ-loop
-loop-less c = search needs
 
 loop-again : tie.Need-loop-again Inv-loop μ-loop
 loop-again c =
@@ -77,9 +56,6 @@ loop-again c =
           (going-as step (l .loop .inv .2)) (put-as (ap (bytesOf 4) (offset .ensures)) (word .word-at .ensures)) (s .pre),
     )
 
-same-length : tie.Need-same-length Inv-loop μ-loop
-same-length c = search needs
-
 returns : tie.Need-returns Inv-loop μ-loop
 returns c =
     let l = c .before in
@@ -92,18 +68,5 @@ returns c =
 pub keys-at-spec : {M : Type 1} → statement M
 keys-at-spec =
     tie.close
-    (tie.spec
-    Inv-loop
-    μ-loop
-    loop-holds
-    mul-key-offset
-    array-read-key-offset
-    mul-key-offset-2
-    array-read-key-offset-2
-    key-offset-requires
-    word-at-requires
-    add-i
-    loop-less
-    loop-again
-    same-length
-    returns)
+    (tie.spec Inv-loop μ-loop loop-holds (search needs) (search needs) (search needs) (search needs) (search needs)
+    word-at-requires (search needs) (search needs) loop-again (search needs) returns)

@@ -10,24 +10,6 @@ use Rattle.pack.specs.Layout.{markOf}
 use Rattle.build_points.proofs.inner.plain_at.Statement.{statement}
 use Rattle.build_points.proofs.inner.plain_at.Tie as tie
 
-numbers-at-requires : tie.Need-numbers-at-requires
-numbers-at-requires c κs = search needs
-
-mark-of-requires : tie.Need-mark-of-requires
-mark-of-requires c κs = search needs
-
-byte-at-requires : tie.Need-byte-at-requires
-byte-at-requires c κs = search needs
-
-add-part-at : tie.Need-add-part-at
-add-part-at c = search needs
-
-part-at-requires : tie.Need-part-at-requires
-part-at-requires c κs = search needs
-
-same-length : tie.Need-same-length
-same-length c = search needs
-
 returns : tie.Need-returns
 returns c =
     let box = c .before .before in
@@ -44,11 +26,4 @@ returns c =
 pub plain-at-spec : {M : Type 1} → statement M
 plain-at-spec =
     tie.close
-    (tie.spec
-    numbers-at-requires
-    mark-of-requires
-    byte-at-requires
-    add-part-at
-    part-at-requires
-    same-length
-    returns)
+    (tie.spec (search needs) (search needs) (search needs) (search needs) (search needs) (search needs) returns)

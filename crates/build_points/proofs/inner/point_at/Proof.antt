@@ -10,9 +10,6 @@ use Rattle.build_points.proofs.Point.{postcodeOf, lastOffset, offsetsOf
 use Rattle.build_points.proofs.inner.point_at.Statement.{statement}
 use Rattle.build_points.proofs.inner.point_at.Tie as tie
 
-add-part-at : tie.Need-add-part-at
-add-part-at c = search needs
-
 part-at-requires : tie.Need-part-at-requires
 part-at-requires c κs =
     let s = c .before .before .before .before .before in
@@ -48,9 +45,6 @@ keys-at-requires c κs =
     after-plain own starts (a .p) rows (a .row) (s .pre .1) (postcode .part-at .ensures) (plain .plain-at .ensures) in
     going-room (keyOffsets starts (a .p .keys) rows) (lastOffset own starts (a .p) rows (a .row)) g (s .pre .1)
 
-organisation-offset-requires : tie.Need-organisation-offset-requires
-organisation-offset-requires c κs = search needs
-
 word-at-requires : tie.Need-word-at-requires
 word-at-requires c κs =
     let keys = c .before .before .before .before in
@@ -62,9 +56,6 @@ word-at-requires c κs =
     after-keys (a .own .now) (a .starts .now) (a .p) (a .found .rows) (a .row) (s .pre .1) (postcode .part-at .ensures)
     (plain .plain-at .ensures) (keys .keys-at .ensures) in
     going-left g (s .pre .1)
-
-same-length : tie.Need-same-length
-same-length c = search needs
 
 returns : tie.Need-returns
 returns c =
@@ -83,12 +74,5 @@ returns c =
 pub point-at-spec : {M : Type 1} → statement M
 point-at-spec =
     tie.close
-    (tie.spec
-    add-part-at
-    part-at-requires
-    plain-at-requires
-    keys-at-requires
-    organisation-offset-requires
-    word-at-requires
-    same-length
-    returns)
+    (tie.spec (search needs) part-at-requires plain-at-requires keys-at-requires (search needs) word-at-requires
+    (search needs) returns)

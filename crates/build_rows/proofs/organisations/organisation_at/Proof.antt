@@ -24,12 +24,6 @@ byte-at-requires c κs =
     let some = some-organisation (a .others .now) (a .there) (a .texts) (not-false _ (at-if .if1 .left)) in
     omega (arith, room-as (a .out .now) (a .at) some (s .pre .1))
 
-add-two-texts-at : tie.Need-add-two-texts-at
-add-two-texts-at c = search needs
-
-add-two-texts-at-2 : tie.Need-add-two-texts-at-2
-add-two-texts-at-2 c = search needs
-
 two-texts-at-requires : tie.Need-two-texts-at-requires
 two-texts-at-requires c κs =
     let six = c .before .before .before in
@@ -40,9 +34,6 @@ two-texts-at-requires c κs =
     let some = some-organisation (a .others .now) (a .there) (a .texts) (not-false _ (at-if .if1 .left)) in
     let texts = textsBytes (twoTexts (a .others .now) o (o + 60) (o + 120)) in
     ((omega arith, omega arith), room-after texts (six .byte-at .ensures) (room-as (a .out .now) (a .at) some (s .pre .1)))
-
-same-length : tie.Need-same-length
-same-length c = search needs
 
 returns-2 : tie.Need-returns-2
 returns-2 c =
@@ -58,11 +49,4 @@ returns-2 c =
 pub organisation-at-spec : {M : Type 1} → statement M
 organisation-at-spec =
     tie.close
-    (tie.spec
-    returns
-    byte-at-requires
-    add-two-texts-at
-    add-two-texts-at-2
-    two-texts-at-requires
-    same-length
-    returns-2)
+    (tie.spec returns byte-at-requires (search needs) (search needs) two-texts-at-requires (search needs) returns-2)

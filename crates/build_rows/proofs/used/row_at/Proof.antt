@@ -11,20 +11,11 @@ use Rattle.build_rows.proofs.Texts.{row-is}
 use Rattle.build_rows.proofs.used.row_at.Statement.{statement}
 use Rattle.build_rows.proofs.used.row_at.Tie as tie
 
-ref-at-requires : tie.Need-ref-at-requires
-ref-at-requires c κs = search needs
-
-cast-byte-at : tie.Need-cast-byte-at
-cast-byte-at c = search needs
-
 byte-at-requires : tie.Need-byte-at-requires
 byte-at-requires c κs =
     let s = c .before .before .before .before in
     let a = s .args in
     omega (arith, s .pre .1, row-has-bytes (stockOf (a .s) (a .file .now)) (a .i))
-
-record-of-requires : tie.Need-record-of-requires
-record-of-requires c κs = search needs
 
 texts-at-requires : tie.Need-texts-at-requires
 texts-at-requires c κs =
@@ -36,9 +27,6 @@ texts-at-requires c κs =
     let same = row-is (a .s) (a .file .now) (rec .result .now) (a .i) (ref .result) (ref .ensures .0) (rec .ensures) in
     let texts = textsBytes (textsIn (a .s) (kindOf (ref .result)) (rec .result .now)) in
     (s .pre .0, room-after texts (kind .byte-at .ensures) (room-as (a .out .now) (a .at) same (s .pre .1)))
-
-same-length : tie.Need-same-length
-same-length c = search needs
 
 returns : tie.Need-returns
 returns c =
@@ -55,11 +43,4 @@ returns c =
 pub row-at-spec : {M : Type 1} → statement M
 row-at-spec =
     tie.close
-    (tie.spec
-    ref-at-requires
-    cast-byte-at
-    byte-at-requires
-    record-of-requires
-    texts-at-requires
-    same-length
-    returns)
+    (tie.spec (search needs) (search needs) byte-at-requires (search needs) texts-at-requires (search needs) returns)

@@ -20,9 +20,6 @@ Inv-loop file s starts at out₀ last end₀ i₀ out end i =
 abbrev μ-loop : tie.MeasureT-loop
 μ-loop file s starts at out₀ last end₀ i₀ out end i = last - i
 
-last-of-requires : tie.Need-last-of-requires Inv-loop μ-loop
-last-of-requires c κs = search needs
-
 loop-holds : tie.Need-loop-holds Inv-loop μ-loop
 loop-holds c =
     let a = c .before .before .before .before .args in
@@ -41,12 +38,6 @@ used-at-requires c κs =
           (s .pre .1),
     )
 
-add-i : tie.Need-add-i Inv-loop μ-loop
-add-i c = search needs
-
-loop-less : tie.Need-loop-less Inv-loop μ-loop
-loop-less c = search needs
-
 loop-again : tie.Need-loop-again Inv-loop μ-loop
 loop-again c =
     let used = c .before .before in
@@ -60,9 +51,6 @@ loop-again c =
           (used .used-at .ensures) (s .pre .1),
     )
 
-same-length : tie.Need-same-length Inv-loop μ-loop
-same-length c = search needs
-
 returns : tie.Need-returns Inv-loop μ-loop
 returns c =
     let l = c .before in
@@ -75,14 +63,5 @@ returns c =
 pub rows-at-spec : {M : Type 1} → statement M
 rows-at-spec =
     tie.close
-    (tie.spec
-    Inv-loop
-    μ-loop
-    last-of-requires
-    loop-holds
-    used-at-requires
-    add-i
-    loop-less
-    loop-again
-    same-length
-    returns)
+    (tie.spec Inv-loop μ-loop (search needs) loop-holds used-at-requires (search needs) (search needs) loop-again
+    (search needs) returns)

@@ -10,9 +10,6 @@ use Rattle.build_rows.proofs.Texts.{locality-bytes, other-bytes}
 use Rattle.build_rows.proofs.used.texts_at.Statement.{statement}
 use Rattle.build_rows.proofs.used.texts_at.Tie as tie
 
-add-text-at : tie.Need-add-text-at
-add-text-at c = search needs
-
 text-at-requires : tie.Need-text-at-requires
 text-at-requires c κs =
     let at-if = c .before in
@@ -26,15 +23,6 @@ text-at-requires c κs =
           (room-as (a .out .now) (a .at) same (s .pre .1)),
     )
 
-add-two-texts-at : tie.Need-add-two-texts-at
-add-two-texts-at c = search needs
-
-add-two-texts-at-2 : tie.Need-add-two-texts-at-2
-add-two-texts-at-2 c = search needs
-
-add-two-texts-at-3 : tie.Need-add-two-texts-at-3
-add-two-texts-at-3 c = search needs
-
 two-texts-at-requires : tie.Need-two-texts-at-requires
 two-texts-at-requires c κs =
     let town = c .before .before .before in
@@ -45,9 +33,6 @@ two-texts-at-requires c κs =
     let same = locality-bytes (a .s) (a .kind) (a .rec .now) (at-if .if1 .taken) in
     let two = textsBytes (twoTexts (a .rec .now) (l + 30) (l + 65) (l + 100)) in
     ((omega arith, omega arith), room-after two (town .text-at .ensures) (room-as (a .out .now) (a .at) same (s .pre .1)))
-
-same-length : tie.Need-same-length
-same-length c = search needs
 
 returns : tie.Need-returns
 returns c =
@@ -60,12 +45,6 @@ returns c =
     put-as same
     (put-then (town .text-at .ensures) (two .two-texts-at .ensures) (room-as (a .out .now) (a .at) same (s .pre .1)))
 
-text-width-requires : tie.Need-text-width-requires
-text-width-requires c κs = search needs
-
-add-text-at-2 : tie.Need-add-text-at-2
-add-text-at-2 c = search needs
-
 text-at-requires-2 : tie.Need-text-at-requires-2
 text-at-requires-2 c κs =
     let width = c .before .before in
@@ -75,9 +54,6 @@ text-at-requires-2 c κs =
     let w = width .text-width in
     let same = other-bytes (a .s) (a .kind) (a .rec .now) (w .result) (at-if .if1 .left) (w .ensures .0) in
     (omega (arith, w .ensures .1), room-as (a .out .now) (a .at) same (s .pre .1))
-
-same-length-2 : tie.Need-same-length-2
-same-length-2 c = search needs
 
 returns-2 : tie.Need-returns-2
 returns-2 c =
@@ -92,17 +68,5 @@ returns-2 c =
 pub texts-at-spec : {M : Type 1} → statement M
 texts-at-spec =
     tie.close
-    (tie.spec
-    add-text-at
-    text-at-requires
-    add-two-texts-at
-    add-two-texts-at-2
-    add-two-texts-at-3
-    two-texts-at-requires
-    same-length
-    returns
-    text-width-requires
-    add-text-at-2
-    text-at-requires-2
-    same-length-2
-    returns-2)
+    (tie.spec (search needs) text-at-requires (search needs) (search needs) (search needs) two-texts-at-requires
+    (search needs) returns (search needs) (search needs) text-at-requires-2 (search needs) returns-2)

@@ -7,9 +7,6 @@ use Rattle.build.proofs.Laws.{used-none, used-some}
 use Rattle.build_rows.proofs.used.used_at.Statement.{statement}
 use Rattle.build_rows.proofs.used.used_at.Tie as tie
 
-start-of-requires : tie.Need-start-of-requires
-start-of-requires c κs = search needs
-
 returns : tie.Need-returns
 returns c =
     let start = c .before in
@@ -28,9 +25,6 @@ row-at-requires c κs =
     (λ e. at-if .if1 .left (start .start-of .ensures ∙ e)) in
     (s .pre .0, room-as (a .out .now) (a .at) same (s .pre .1))
 
-same-length : tie.Need-same-length
-same-length c = search needs
-
 returns-2 : tie.Need-returns-2
 returns-2 c =
     let row = c .before .before in
@@ -43,4 +37,4 @@ returns-2 c =
     (row .row-at .ensures)
 
 pub used-at-spec : {M : Type 1} → statement M
-used-at-spec = tie.close (tie.spec start-of-requires returns row-at-requires same-length returns-2)
+used-at-spec = tie.close (tie.spec (search needs) returns row-at-requires (search needs) returns-2)

@@ -27,9 +27,6 @@ byte-at-requires c κs =
     let s = c₁ .before .before .before .before in
     room-third (bytesOf 4 (s .args .bytes)) (newest ∷ []) (s .pre) (c₁ .bytes-at .ensures) (c₂ .word-at .ensures)
 
-same-length : tie.Need-same-length
-same-length c = search needs
-
 returns : tie.Need-returns
 returns c =
     let c₃ = c .before .before in
@@ -40,5 +37,4 @@ returns c =
     (c₃ .byte-at .ensures)
 
 pub trailer-end-at-spec : {M : Type 1} → statement M
-trailer-end-at-spec =
-    tie.close (tie.spec bytes-at-requires word-at-requires byte-at-requires same-length returns)
+trailer-end-at-spec = tie.close (tie.spec bytes-at-requires word-at-requires byte-at-requires (search needs) returns)

@@ -8,7 +8,7 @@ use native.Mathlib.Omega.{arith}
 use lib.ListN.{length}
 use Rattle.refusal.specs.declared.Verdict.the-variants.{Fine, Bad}
 use Rattle.file.specs.Formats.{tableFormat}
-use Rattle.file.proofs.Accepted.{bad-fine}
+use Rattle.refusal.proofs.Verdicts.{bad-fine}
 use Rattle.file.proofs.Laws.{at-least-two}
 use Rattle.changes_views.specs.Views.{lastOf, nextWanted}
 use Rattle.changes_views.proofs.Laws.{next-range, next-next}

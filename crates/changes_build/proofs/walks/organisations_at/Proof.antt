@@ -26,12 +26,6 @@ Inv-loop points code at out₀ last end₀ place₀ out end place =
 abbrev μ-loop : tie.MeasureT-loop
 μ-loop points code at out₀ last end₀ place₀ out end place = last - place
 
-last-of-requires : tie.Need-last-of-requires Inv-loop μ-loop
-last-of-requires c κs = search needs
-
-next-wanted-requires : tie.Need-next-wanted-requires Inv-loop μ-loop
-next-wanted-requires c κs = search needs
-
 loop-holds : tie.Need-loop-holds Inv-loop μ-loop
 loop-holds c =
     let a = c .before .before .before .before .before .args in
@@ -43,12 +37,6 @@ loop-holds c =
       going-as (ap (organisationRows points) (packed-start points code))
           (going-start (organisationRows points (packedIn points code)) (a .out .now) (a .at)),
     )
-
-organised-at-requires : tie.Need-organised-at-requires Inv-loop μ-loop
-organised-at-requires c κs = search needs
-
-organisation-place-requires : tie.Need-organisation-place-requires Inv-loop μ-loop
-organisation-place-requires c κs = search needs
 
 organisation-at-requires : tie.Need-organisation-at-requires Inv-loop μ-loop
 organisation-at-requires c κs =
@@ -68,12 +56,6 @@ organisation-at-requires c κs =
       organisation-room (packedAt points i) rest (s .pre) points
           (going-as (ap (organisationRows points) step) (l .loop .inv .2)),
     )
-
-add-next-wanted : tie.Need-add-next-wanted Inv-loop μ-loop
-add-next-wanted c = search needs
-
-next-wanted-requires-2 : tie.Need-next-wanted-requires-2 Inv-loop μ-loop
-next-wanted-requires-2 c κs = search needs
 
 loop-less : tie.Need-loop-less Inv-loop μ-loop
 loop-less c =
@@ -103,9 +85,6 @@ loop-again c =
           (w .organisation-at .ensures)),
     )
 
-same-length : tie.Need-same-length Inv-loop μ-loop
-same-length c = search needs
-
 returns : tie.Need-returns Inv-loop μ-loop
 returns c =
     let l = c .before in
@@ -117,18 +96,5 @@ returns c =
 pub organisations-at-spec : {M : Type 1} → statement M
 organisations-at-spec =
     tie.close
-    (tie.spec
-    Inv-loop
-    μ-loop
-    last-of-requires
-    next-wanted-requires
-    loop-holds
-    organised-at-requires
-    organisation-place-requires
-    organisation-at-requires
-    add-next-wanted
-    next-wanted-requires-2
-    loop-less
-    loop-again
-    same-length
-    returns)
+    (tie.spec Inv-loop μ-loop (search needs) (search needs) loop-holds (search needs) (search needs)
+    organisation-at-requires (search needs) (search needs) loop-less loop-again (search needs) returns)

@@ -25,12 +25,6 @@ Inv-loop points code last rows₀ bytes₀ at₀ rows bytes at =
 abbrev μ-loop : tie.MeasureT-loop
 μ-loop points code last rows₀ bytes₀ at₀ rows bytes at = last - at
 
-last-of-requires : tie.Need-last-of-requires Inv-loop μ-loop
-last-of-requires c κs = search needs
-
-next-wanted-requires : tie.Need-next-wanted-requires Inv-loop μ-loop
-next-wanted-requires c κs = search needs
-
 loop-holds : tie.Need-loop-holds Inv-loop μ-loop
 loop-holds c =
     let a = c .before .before .before .before .args in
@@ -43,18 +37,6 @@ loop-holds c =
       omega arith,
     )
 
-organised-at-requires : tie.Need-organised-at-requires Inv-loop μ-loop
-organised-at-requires c κs = search needs
-
-one-if-requires : tie.Need-one-if-requires Inv-loop μ-loop
-one-if-requires c κs = search needs
-
-add-rows : tie.Need-add-rows Inv-loop μ-loop
-add-rows c = search needs
-
-organisation-place-requires : tie.Need-organisation-place-requires Inv-loop μ-loop
-organisation-place-requires c κs = search needs
-
 organisation-len-requires : tie.Need-organisation-len-requires Inv-loop μ-loop
 organisation-len-requires c κs =
     let l = c .before .before .before .before in
@@ -62,15 +44,6 @@ organisation-len-requires c κs =
     let points = f .before .before .before .args .points .now in
     rw (c .organisation-place .ensures)
     (view-within points (l .loop .at) (omega (arith, f .last-of .ensures)) .organisation)
-
-add-bytes : tie.Need-add-bytes Inv-loop μ-loop
-add-bytes c = search needs
-
-add-next-wanted : tie.Need-add-next-wanted Inv-loop μ-loop
-add-next-wanted c = search needs
-
-next-wanted-requires-2 : tie.Need-next-wanted-requires-2 Inv-loop μ-loop
-next-wanted-requires-2 c κs = search needs
 
 loop-less : tie.Need-loop-less Inv-loop μ-loop
 loop-less c =
@@ -114,20 +87,6 @@ returns c =
 pub organisations-in-spec : {M : Type 1} → statement M
 organisations-in-spec =
     tie.close
-    (tie.spec
-    Inv-loop
-    μ-loop
-    last-of-requires
-    next-wanted-requires
-    loop-holds
-    organised-at-requires
-    one-if-requires
-    add-rows
-    organisation-place-requires
-    organisation-len-requires
-    add-bytes
-    add-next-wanted
-    next-wanted-requires-2
-    loop-less
-    loop-again
+    (tie.spec Inv-loop μ-loop (search needs) (search needs) loop-holds (search needs) (search needs) (search needs)
+    (search needs) organisation-len-requires (search needs) (search needs) (search needs) loop-less loop-again
     returns)

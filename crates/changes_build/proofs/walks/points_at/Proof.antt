@@ -33,15 +33,6 @@ Inv-loop table refs points starts code start at out₀ last s row₀ end₀ plac
 abbrev μ-loop : tie.MeasureT-loop
 μ-loop table refs points starts code start at out₀ last s row₀ end₀ place₀ out row end place = last - place
 
-last-of-requires : tie.Need-last-of-requires Inv-loop μ-loop
-last-of-requires c κs = search needs
-
-table-shelf-requires : tie.Need-table-shelf-requires Inv-loop μ-loop
-table-shelf-requires c κs = search needs
-
-next-wanted-requires : tie.Need-next-wanted-requires Inv-loop μ-loop
-next-wanted-requires c κs = search needs
-
 loop-holds : tie.Need-loop-holds Inv-loop μ-loop
 loop-holds c =
     let s = c .before .before .before .before .before .before .before .before .before in
@@ -56,9 +47,6 @@ loop-holds c =
       omega (arith, s .pre .1 .0, ap (λ (ds : List Packed). length (organisationRows points ds)) start),
       going-as (ap whole start) (going-start (whole (packedIn points code)) (a .out .now) (a .at)),
     )
-
-delivery-at-requires : tie.Need-delivery-at-requires Inv-loop μ-loop
-delivery-at-requires c κs = search needs
 
 rows-by-requires : tie.Need-rows-by-requires Inv-loop μ-loop
 rows-by-requires c κs =
@@ -145,12 +133,6 @@ add-row c =
     let r = c .before .before .before .before .before in
     omega (arith, more r, len c, l r .loop .inv .2, s r .pre .1 .1)
 
-add-next-wanted : tie.Need-add-next-wanted Inv-loop μ-loop
-add-next-wanted c = search needs
-
-next-wanted-requires-2 : tie.Need-next-wanted-requires-2 Inv-loop μ-loop
-next-wanted-requires-2 c κs = search needs
-
 loop-less : tie.Need-loop-less Inv-loop μ-loop
 loop-less c =
     let r = c .before .before .before .before .before .before in
@@ -170,9 +152,6 @@ loop-again c =
           (starts r) (l r .loop .row) (left r) (len o) (put-as (same r) (w .point-at .ensures)),
     )
 
-same-length : tie.Need-same-length Inv-loop μ-loop
-same-length c = search needs
-
 returns : tie.Need-returns Inv-loop μ-loop
 returns c =
     let l = c .before in
@@ -187,21 +166,6 @@ returns c =
 pub points-at-spec : {M : Type 1} → statement M
 points-at-spec =
     tie.close
-    (tie.spec
-    Inv-loop
-    μ-loop
-    last-of-requires
-    table-shelf-requires
-    next-wanted-requires
-    loop-holds
-    delivery-at-requires
-    rows-by-requires
-    point-at-requires
-    organisation-len-requires
-    add-row
-    add-next-wanted
-    next-wanted-requires-2
-    loop-less
-    loop-again
-    same-length
-    returns)
+    (tie.spec Inv-loop μ-loop (search needs) (search needs) (search needs) loop-holds (search needs) rows-by-requires
+    point-at-requires organisation-len-requires add-row (search needs) (search needs) loop-less loop-again
+    (search needs) returns)

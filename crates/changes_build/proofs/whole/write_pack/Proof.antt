@@ -60,9 +60,6 @@ module _ (c₁ : tie.After-rows-at) where
       put-as (ap (λ (s : Shelf). usedRows (stockOf s (s₁ .args .table .now)) (starts s₁)) (c₁ .before .before .table-shelf .ensures))
       (c₁ .rows-at .ensures)
 
-table-shelf-requires : tie.Need-table-shelf-requires
-table-shelf-requires c κs = search needs
-
 rows-at-requires : tie.Need-rows-at-requires
 rows-at-requires c κs =
     let t = c .before in
@@ -147,9 +144,6 @@ trailer-at-requires c κs =
       going-left (trailer-left c₃) (room s),
     )
 
-same-length : tie.Need-same-length
-same-length c = search needs
-
 returns : tie.Need-returns
 returns c =
     let c₄ = c .before .before in
@@ -159,11 +153,5 @@ returns c =
 pub write-pack-spec : {M : Type 1} → statement M
 write-pack-spec =
     tie.close
-    (tie.spec
-    table-shelf-requires
-    rows-at-requires
-    organisations-at-requires
-    points-at-requires
-    trailer-at-requires
-    same-length
-    returns)
+    (tie.spec (search needs) rows-at-requires organisations-at-requires points-at-requires trailer-at-requires
+    (search needs) returns)

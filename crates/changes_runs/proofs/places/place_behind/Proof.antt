@@ -8,15 +8,6 @@ use Rattle.changes_views.specs.Views.{lastOf, nextWanted}
 use Rattle.changes_runs.proofs.places.place_behind.Statement.{statement}
 use Rattle.changes_runs.proofs.places.place_behind.Tie as tie
 
-add-next-wanted : tie.Need-add-next-wanted
-add-next-wanted c = search needs
-
-next-wanted-requires : tie.Need-next-wanted-requires
-next-wanted-requires c κs = search needs
-
-last-of-requires : tie.Need-last-of-requires
-last-of-requires c κs = search needs
-
 returns : tie.Need-returns
 returns c =
     let l = c .before in
@@ -36,4 +27,4 @@ returns-2 c =
     simp (le-ltb next (lastOf (a .points .now)) outside)
 
 pub place-behind-spec : {M : Type 1} → statement M
-place-behind-spec = tie.close (tie.spec add-next-wanted next-wanted-requires last-of-requires returns returns-2)
+place-behind-spec = tie.close (tie.spec (search needs) (search needs) (search needs) returns returns-2)

@@ -5,18 +5,6 @@ use Rattle.file.specs.Formats.{follows}
 use Rattle.file.proofs.follow.is_follower.Statement.{statement}
 use Rattle.file.proofs.follow.is_follower.Tie as tie
 
-byte-of-requires : tie.Need-byte-of-requires
-byte-of-requires c κs = search needs
-
-part-of-requires : tie.Need-part-of-requires
-part-of-requires c κs = search needs
-
-part-of-requires-2 : tie.Need-part-of-requires-2
-part-of-requires-2 c κs = search needs
-
-same-bytes-requires : tie.Need-same-bytes-requires
-same-bytes-requires c κs = search needs
-
 returns : tie.Need-returns
 unfolding follows
 returns c =
@@ -27,11 +15,4 @@ returns c =
     rw (c .same-bytes .ensures, c₁ .part-of2 .ensures, c₂ .part-of .ensures, c₃ .byte-of .ensures, s .pre)
 
 pub is-follower-spec : {M : Type 1} → statement M
-is-follower-spec =
-    tie.close
-    (tie.spec
-    byte-of-requires
-    part-of-requires
-    part-of-requires-2
-    same-bytes-requires
-    returns)
+is-follower-spec = tie.close (tie.spec (search needs) (search needs) (search needs) (search needs) returns)

@@ -5,30 +5,6 @@ use Rattle.file.proofs.Owners.{placed-by}
 use Rattle.file.proofs.follow.is_placed.Statement.{statement}
 use Rattle.file.proofs.follow.is_placed.Tie as tie
 
-whole-record-requires : tie.Need-whole-record-requires
-whole-record-requires c κs = search needs
-
-byte-of-requires : tie.Need-byte-of-requires
-byte-of-requires c κs = search needs
-
-owner-of-requires : tie.Need-owner-of-requires
-owner-of-requires c κs = search needs
-
-whole-record-requires-2 : tie.Need-whole-record-requires-2
-whole-record-requires-2 c κs = search needs
-
-needed-next-requires : tie.Need-needed-next-requires
-needed-next-requires c κs = search needs
-
-add-whole-record : tie.Need-add-whole-record
-add-whole-record c = search needs
-
-whole-record-requires-3 : tie.Need-whole-record-requires-3
-whole-record-requires-3 c κs = search needs
-
-is-follower-requires : tie.Need-is-follower-requires
-is-follower-requires c κs = search needs
-
 returns : tie.Need-returns
 returns c =
     let third = c .before in
@@ -44,13 +20,5 @@ returns c =
 pub is-placed-spec : {M : Type 1} → statement M
 is-placed-spec =
     tie.close
-    (tie.spec
-    whole-record-requires
-    byte-of-requires
-    owner-of-requires
-    whole-record-requires-2
-    needed-next-requires
-    add-whole-record
-    whole-record-requires-3
-    is-follower-requires
-    returns)
+    (tie.spec (search needs) (search needs) (search needs) (search needs) (search needs) (search needs)
+    (search needs) (search needs) returns)

@@ -4,9 +4,6 @@ use native.Mathlib.Omega.{arith}
 use Rattle.file.proofs.follow.owner_of.Statement.{statement}
 use Rattle.file.proofs.follow.owner_of.Tie as tie
 
-sub-result : tie.Need-sub-result
-sub-result c = search needs
-
 returns : tie.Need-returns
 returns c = (simp (c .if1 .taken), omega arith)
 
@@ -14,4 +11,4 @@ returns-2 : tie.Need-returns-2
 returns-2 c = (simp (c .if1 .left), omega arith)
 
 pub owner-of-spec : {M : Type 1} → statement M
-owner-of-spec = tie.close (tie.spec sub-result returns returns-2)
+owner-of-spec = tie.close (tie.spec (search needs) returns returns-2)

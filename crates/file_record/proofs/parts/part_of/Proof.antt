@@ -8,22 +8,10 @@ use Rattle.field.proofs.Texts.{part-within, part-none}
 use Rattle.file_record.proofs.parts.part_of.Statement.{statement}
 use Rattle.file_record.proofs.parts.part_of.Tie as tie
 
-lesser-requires : tie.Need-lesser-requires
-lesser-requires c κs = search needs
-
-sub-result : tie.Need-sub-result
-sub-result c = search needs
-
-part-result-start : tie.Need-part-result-start
-part-result-start c = search needs
-
 part-result-end : tie.Need-part-result-end
 part-result-end c =
     let a = c .before .before .before .args in
     rw (c .before .lesser .ensures) (min-le-right (a .end) (length (a .rec .now)))
-
-slice-aggregate-result : tie.Need-slice-aggregate-result
-slice-aggregate-result c = search needs
 
 returns : tie.Need-returns
 returns c =
@@ -40,12 +28,4 @@ returns-2 c =
 
 pub part-of-spec : {M : Type 1} → statement M
 part-of-spec =
-    tie.close
-    (tie.spec
-    lesser-requires
-    sub-result
-    part-result-start
-    part-result-end
-    slice-aggregate-result
-    returns
-    returns-2)
+    tie.close (tie.spec (search needs) (search needs) (search needs) part-result-end (search needs) returns returns-2)

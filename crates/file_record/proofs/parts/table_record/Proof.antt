@@ -5,18 +5,12 @@ use Rattle.file_record.specs.Parts.{recordAt}
 use Rattle.file_record.proofs.parts.table_record.Statement.{statement}
 use Rattle.file_record.proofs.parts.table_record.Tie as tie
 
-whole-record-requires : tie.Need-whole-record-requires
-whole-record-requires c κs = search needs
-
 returns : tie.Need-returns
 returns c = c .whole-record .ensures
-
-slice-aggregate-result : tie.Need-slice-aggregate-result
-slice-aggregate-result c = search needs
 
 returns-2 : tie.Need-returns-2
 unfolding recordAt
 returns-2 c = simp (le-ltb _ _ (c .before .if1 .left))
 
 pub table-record-spec : {M : Type 1} → statement M
-table-record-spec = tie.close (tie.spec whole-record-requires slice-aggregate-result returns returns-2)
+table-record-spec = tie.close (tie.spec (search needs) (search needs) returns returns-2)

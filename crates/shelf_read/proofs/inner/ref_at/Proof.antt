@@ -8,18 +8,6 @@ use Rattle.shelf.specs.Shelf.{refAt}
 use Rattle.shelf_read.proofs.inner.ref_at.Statement.{statement}
 use Rattle.shelf_read.proofs.inner.ref_at.Tie as tie
 
-record-of-requires : tie.Need-record-of-requires
-record-of-requires c κs = search needs
-
-add-part-of : tie.Need-add-part-of
-add-part-of c = search needs
-
-part-of-requires : tie.Need-part-of-requires
-part-of-requires c κs = search needs
-
-value-of-requires : tie.Need-value-of-requires
-value-of-requires c κs = search needs
-
 add-result : tie.Need-add-result
 add-result c =
     let part = c .before .before .part-of .result .now in
@@ -37,6 +25,4 @@ returns c =
     )
 
 pub ref-at-spec : {M : Type 1} → statement M
-ref-at-spec =
-    tie.close
-    (tie.spec record-of-requires add-part-of part-of-requires value-of-requires add-result returns)
+ref-at-spec = tie.close (tie.spec (search needs) (search needs) (search needs) (search needs) add-result returns)
