@@ -1,10 +1,10 @@
 //! Reading and writing whole files.
 
+use crate::part;
 use crate::stop::Stop;
-use std::fs::{self, File};
-use std::io::{self, Read, Write};
-use std::path::{Path, PathBuf};
-use std::process;
+use std::fs::File;
+use std::io::Read;
+use std::path::Path;
 
 /// One byte more than the longest file that the library accepts, 20,000 table
 /// records: so much is enough to have a longer file refused, and a disk image
@@ -39,31 +39,14 @@ fn read_at_most(path: &Path, most: u64) -> Result<Vec<u8>, Stop> {
 
 /// Makes the folder where it is missing.
 pub fn make_folder(folder: &Path) -> Result<(), Stop> {
-    fs::create_dir_all(folder)
+    part::make_folder(folder)
         .map_err(|why| Stop::could_not(format!("cannot make {}: {why}", folder.display())))
 }
 
-/// Writes a file whole or not at all. The bytes go to a name of their own and
-/// reach the disk before the file gets its name, so that a full disk, a kill or
-/// a power cut leaves the older file, if there was one, as it was.
+/// Writes a file whole or not at all.
 pub fn write_whole(folder: &Path, name: &str, bytes: &[u8]) -> Result<(), Stop> {
-    let part = folder.join(format!(".{name}.{}.part", process::id()));
-    let path = folder.join(name);
-    put(&part, bytes)
-        .and_then(|()| fs::rename(&part, &path))
-        .map_err(|why| {
-            remove(&part);
-            Stop::could_not(format!("cannot write {}: {why}", path.display()))
-        })
-}
-
-fn put(part: &PathBuf, bytes: &[u8]) -> io::Result<()> {
-    let mut file = File::create(part)?;
-    file.write_all(bytes)?;
-    file.sync_all()
-}
-
-/// Takes away what was written so far; that the writing failed is told already.
-fn remove(part: &PathBuf) {
-    let _ = fs::remove_file(part);
+    part::write_whole(folder, name, bytes).map_err(|why| {
+        let path = folder.join(name);
+        Stop::could_not(format!("cannot write {}: {why}", path.display()))
+    })
 }

@@ -59,9 +59,9 @@ code that has live views. The folder is made where it is missing.
 
 A pack with one label that cannot be printed is not cut: the code is refused,
 with the view to mend, and the other codes go on. A pack file is written under
-another name first and renamed when it is whole, so that a refused code, a full
-disk or a kill leaves an older pack as it was. After a kill a file such as
-.AB1.pack.4711.part may stay behind; it can be deleted.
+another name first and renamed when it is whole and on the disk, so that a
+refused code, a full disk or a kill leaves an older pack as it was. After a kill
+a file such as .AB1.pack.3f09c1d2a47be586.part may stay behind; it can be deleted.
 ";
 
 pub const SHOW: &str = "\

@@ -7,8 +7,10 @@ mod files;
 mod help;
 mod order;
 mod pair;
+mod part;
 mod progress;
 mod stop;
+mod system;
 
 use arguments::Arguments;
 use std::ffi::OsString;

@@ -2,6 +2,7 @@
 
 #![allow(dead_code)] // Each test program uses a part of it.
 
+pub mod faults;
 pub mod pages;
 pub mod tree;
 

@@ -1,0 +1,227 @@
+/* Faults for the tests of ttw. Loaded in front of the C library, it writes down the calls that a file's safety hangs on
+ * and has those fail that the environment names:
+ *
+ *   FAULTS_LOG=FILE                     each such call becomes a line of this file
+ *   FAULTS_FAIL=CALL FIRST LAST ERROR   of the calls of that name the FIRST to the LAST fail with this error number
+ *   FAULTS_FILE=END                     with FAULTS_FAIL: counted are calls on files whose name ends so, and no others
+ *   FAULTS_PLACE=KIND TIMES             before the first so many creations of a part something stands in its place:
+ *                                       link (to the file `victim`) or fifo
+ *   FAULTS_PID=NUMBER                   the process has this number
+ */
+#define _GNU_SOURCE
+#include <dlfcn.h>
+#include <errno.h>
+#include <fcntl.h>
+#include <limits.h>
+#include <link.h>
+#include <pthread.h>
+#include <stdarg.h>
+#include <stdint.h>
+#include <stdio.h>
+#include <stdlib.h>
+#include <string.h>
+#include <sys/stat.h>
+#include <unistd.h>
+
+/* A hang is a failure too. */
+#define SECONDS 60
+
+/* The function of that name behind this one. */
+#define REAL(name) ((__typeof__(&name))dlsym(RTLD_NEXT, #name))
+
+extern void *__libc_malloc(size_t size);
+extern void *__libc_calloc(size_t count, size_t size);
+extern void *__libc_realloc(void *old, size_t size);
+extern void *__libc_memalign(size_t alignment, size_t size);
+
+static char failing[32];
+static int first, last, error, seen;
+static char place[8];
+static int places;
+/* Where the program's own code stands. */
+static uintptr_t code_start, code_end;
+
+/* The first object is the program itself. */
+static int find_code(struct dl_phdr_info *object, size_t size, void *unused)
+{
+    int i;
+
+    (void)size;
+    (void)unused;
+    for (i = 0; i < object->dlpi_phnum; i++)
+        if (object->dlpi_phdr[i].p_type == PT_LOAD && (object->dlpi_phdr[i].p_flags & PF_X) != 0) {
+            code_start = object->dlpi_addr + object->dlpi_phdr[i].p_vaddr;
+            code_end = code_start + object->dlpi_phdr[i].p_memsz;
+        }
+    return 1;
+}
+
+__attribute__((constructor)) static void read_environment(void)
+{
+    const char *fail = getenv("FAULTS_FAIL");
+    const char *placed = getenv("FAULTS_PLACE");
+
+    dl_iterate_phdr(find_code, NULL);
+    if (fail != NULL && sscanf(fail, "%31s %d %d %d", failing, &first, &last, &error) != 4)
+        abort();
+    if (placed != NULL && sscanf(placed, "%7s %d", place, &places) != 2)
+        abort();
+    alarm(SECONDS);
+}
+
+static void say(const char *format, ...)
+{
+    const char *log = getenv("FAULTS_LOG");
+    char line[3 * PATH_MAX];
+    va_list values;
+    int file, length;
+
+    if (log == NULL)
+        return;
+    va_start(values, format);
+    length = vsnprintf(line, sizeof line, format, values);
+    va_end(values);
+    file = REAL(open64)(log, O_WRONLY | O_CREAT | O_APPEND, 0666);
+    if (file < 0 || REAL(write)(file, line, (size_t)length) != length)
+        abort();
+    REAL(close)(file);
+}
+
+/* The last part of a path. */
+static const char *base(const char *path)
+{
+    const char *slash = strrchr(path, '/');
+
+    return slash == NULL || slash[1] == '\0' ? path : slash + 1;
+}
+
+/* The name of an open file. */
+static const char *name_of(int file)
+{
+    static _Thread_local char name[PATH_MAX];
+    char link[64];
+    ssize_t length;
+
+    snprintf(link, sizeof link, "/proc/self/fd/%d", file);
+    length = readlink(link, name, sizeof name - 1);
+    name[length < 0 ? 0 : length] = '\0';
+    return base(name);
+}
+
+/* Whether this call is one that fails. */
+static int fails(const char *call, const char *name)
+{
+    const char *end = getenv("FAULTS_FILE");
+    size_t length = end == NULL ? 0 : strlen(end);
+    int turn;
+
+    if (strcmp(call, failing) != 0)
+        return 0;
+    if (end != NULL && (strlen(name) < length || strcmp(name + strlen(name) - length, end) != 0))
+        return 0;
+    turn = __sync_add_and_fetch(&seen, 1);
+    if (turn < first || turn > last)
+        return 0;
+    errno = error;
+    return 1;
+}
+
+/* Puts something where a part is about to be created. */
+static void occupy(const char *path)
+{
+    if (places-- <= 0)
+        return;
+    if (strcmp(place, "link") == 0 ? symlink("victim", path) != 0 : mkfifo(path, 0666) != 0)
+        abort();
+    say("placed %s\n", base(path));
+}
+
+int open64(const char *path, int flags, ...)
+{
+    va_list values;
+    mode_t mode = 0;
+
+    if ((flags & O_CREAT) != 0) {
+        va_start(values, flags);
+        mode = va_arg(values, mode_t);
+        va_end(values);
+        occupy(path);
+        say("create %s %s %o\n", base(path), (flags & O_EXCL) != 0 ? "exclusive" : "shared", mode);
+    }
+    return fails("open", base(path)) ? -1 : REAL(open64)(path, flags, mode);
+}
+
+int fsync(int file)
+{
+    say("sync %s\n", name_of(file));
+    return fails("fsync", name_of(file)) ? -1 : REAL(fsync)(file);
+}
+
+int rename(const char *from, const char *to)
+{
+    say("rename %s %s\n", base(from), base(to));
+    return fails("rename", base(to)) ? -1 : REAL(rename)(from, to);
+}
+
+int fchown(int file, uid_t owner, gid_t group)
+{
+    say("owner %s %d %d\n", name_of(file), (int)owner, (int)group);
+    return fails("fchown", name_of(file)) ? -1 : REAL(fchown)(file, owner, group);
+}
+
+int close(int file)
+{
+    if (failing[0] == 'c' && fails("close", name_of(file))) {
+        REAL(close)(file);
+        errno = error;
+        return -1;
+    }
+    return REAL(close)(file);
+}
+
+pid_t getpid(void)
+{
+    const char *number = getenv("FAULTS_PID");
+
+    return number == NULL ? REAL(getpid)() : (pid_t)atoi(number);
+}
+
+int pthread_create(pthread_t *thread, const pthread_attr_t *attributes, void *(*start)(void *), void *given)
+{
+    return fails("thread", "") ? error : REAL(pthread_create)(thread, attributes, start, given);
+}
+
+/* Memory is refused to the program alone: the C library itself gives up where it gets none for a thread's own data. */
+static int refused(void *caller)
+{
+    uintptr_t place = (uintptr_t)caller;
+
+    if (failing[0] != 'm' || place < code_start || place >= code_end || !fails("memory", ""))
+        return 0;
+    say("no memory\n");
+    errno = ENOMEM;
+    return 1;
+}
+
+void *malloc(size_t size)
+{
+    return refused(__builtin_return_address(0)) ? NULL : __libc_malloc(size);
+}
+
+void *calloc(size_t count, size_t size)
+{
+    return refused(__builtin_return_address(0)) ? NULL : __libc_calloc(count, size);
+}
+
+void *realloc(void *old, size_t size)
+{
+    return refused(__builtin_return_address(0)) ? NULL : __libc_realloc(old, size);
+}
+
+int posix_memalign(void **memory, size_t alignment, size_t size)
+{
+    if (refused(__builtin_return_address(0)))
+        return ENOMEM;
+    *memory = __libc_memalign(alignment, size);
+    return *memory == NULL ? ENOMEM : 0;
+}
