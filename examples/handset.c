@@ -156,5 +156,10 @@ int main(int argc, char **argv)
     }
     status = say(&pack, argc - 1, k, count);
     free(pack.bytes);
-    return fflush(stdout) == 0 ? status : COULD_NOT;
+    /* An error of an earlier write is kept by ferror alone, one of the last by fclose. */
+    if (ferror(stdout) | fclose(stdout)) {
+        fputs("handset: cannot print\n", stderr);
+        return COULD_NOT;
+    }
+    return status;
 }

@@ -3,10 +3,11 @@
 use crate::arguments::{Arguments, Code};
 use crate::files::{make_folder, read_pack, write_whole};
 use crate::order::in_order;
+use crate::output::{print, printed};
 use crate::pair::Pair;
 use crate::progress::Progress;
 use crate::stop::{tell, Ended, Outcome, Stop};
-use std::io::{self, BufWriter, StdoutLock, Write};
+use std::io::Write;
 use std::path::Path;
 use std::slice;
 use ttw::ask::{self, Refusal, Run, LABEL, ROOM};
@@ -18,10 +19,6 @@ const AT_A_TIME: u64 = 512;
 /// Room that most packs fit into.
 const LIKELY_PACK: usize = 1 << 16;
 
-fn output() -> BufWriter<StdoutLock<'static>> {
-    BufWriter::new(io::stdout().lock())
-}
-
 /// `ttw check`: how many records and views, or what is refused.
 pub fn check(given: &Arguments) -> Outcome {
     let pair = Pair::read_accepted(&given.files)?;
@@ -29,22 +26,17 @@ pub fn check(given: &Arguments) -> Outcome {
     let table = ask::table(&pair.table).map_err(refused)?;
     let points = ask::points(&pair.points).map_err(refused)?;
     let views = ask::views(&pair.points).map_err(refused)?;
-    let mut out = output();
-    writeln!(out, "table: {table} records")?;
-    writeln!(out, "points: {points} records, {views} views")?;
-    out.flush()?;
-    Ok(Ended::Done)
+    print(&format!(
+        "table: {table} records\npoints: {points} records, {views} views\n"
+    ))
 }
 
 /// `ttw codes`: each outward code with live views, and how many.
 pub fn codes(given: &Arguments) -> Outcome {
     let pair = Pair::read_accepted(&given.files)?;
-    let mut out = output();
-    for (code, live) in live_codes(&pair)? {
-        writeln!(out, "{} {live}", code.name())?;
-    }
-    out.flush()?;
-    Ok(Ended::Done)
+    let codes = live_codes(&pair)?;
+    let line = |(code, live): &(Code, u64)| format!("{} {live}\n", code.name());
+    print(&codes.iter().map(line).collect::<String>())
 }
 
 /// The codes with live views, rising.
@@ -111,10 +103,7 @@ fn labels_from_nth(pair: &Pair, code: &Code, k: u64, count: Option<u64>) -> Outc
 /// A label alone, so that it can be sent on as it is.
 fn print_one(subject: &str, label: Result<Vec<u8>, Refusal>) -> Outcome {
     let label = label.map_err(|why| Stop::Refused(words(&why, subject)))?;
-    let mut out = output();
-    out.write_all(&label)?;
-    out.flush()?;
-    Ok(Ended::Done)
+    print(&label)
 }
 
 /// So many labels one behind the other, as the library writes them: where the
@@ -126,23 +115,21 @@ fn print_run(
     name: impl Fn(u64) -> String,
     ask: impl Fn(u64, u64, &mut [u8]) -> Result<Run, Refusal>,
 ) -> Outcome {
+    let refused = |why, number| Stop::Refused(words(&why, &name(number)));
     let mut room = vec![0; LABEL * count.clamp(1, AT_A_TIME) as usize];
-    let mut out = output();
-    let (mut next, mut left) = (first, count);
-    let mut stop = None;
-    while left > 0 && stop.is_none() {
-        let run = ask(next, left, &mut room);
-        let run = run.map_err(|why| Stop::Refused(words(&why, &name(next))))?;
-        out.write_all(&room[..run.bytes])?;
-        next = next.saturating_add(run.labels);
-        left -= run.labels;
-        stop = run.stop.filter(|why| why.number != ROOM);
-    }
-    out.flush()?;
-    match stop {
-        None => Ok(Ended::Done),
-        Some(why) => Err(Stop::Refused(words(&why, &name(next)))),
-    }
+    printed(|out| {
+        let (mut next, mut left) = (first, count);
+        while left > 0 {
+            let run = ask(next, left, &mut room).map_err(|why| refused(why, next))?;
+            out.write_all(&room[..run.bytes])?;
+            next = next.saturating_add(run.labels);
+            left -= run.labels;
+            if let Some(why) = run.stop.filter(|why| why.number != ROOM) {
+                return Err(refused(why, next));
+            }
+        }
+        Ok(Ended::Done)
+    })
 }
 
 fn labels_of_code(table: &[u8], points: &[u8], code: &Code) -> Outcome {
@@ -179,12 +166,10 @@ struct Entry {
 /// why in its place, and the run goes on.
 fn list(count: u64, ask: impl Fn(u64) -> Entry + Sync) -> Outcome {
     let numbers: Vec<u64> = (1..=count).collect();
-    let mut out = output();
     let mut refused = 0;
-    in_order(
-        &numbers,
-        |number| ask(*number),
-        |_, entry| {
+    printed(|out| {
+        let ask = |number: &u64| ask(*number);
+        in_order(&numbers, ask, |_, entry| {
             writeln!(out, "{}", entry.heading)?;
             match entry.label {
                 Ok(label) => out.write_all(&label)?,
@@ -193,10 +178,9 @@ fn list(count: u64, ask: impl Fn(u64) -> Entry + Sync) -> Outcome {
                     writeln!(out, "refused: {}", words(&why, &entry.subject))?;
                 }
             }
-            Ok::<(), Stop>(())
-        },
-    )?;
-    out.flush()?;
+            Ok(())
+        })
+    })?;
     tell(&format!(
         "labels printed: {}, refused: {refused}",
         count - refused

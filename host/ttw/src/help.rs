@@ -105,5 +105,6 @@ const REFUSALS: &str = "\
 const STATUS: &str = "\
 0  done
 1  something was refused; what and why is told
-2  could not: wrong usage, or a file could not be read or written
+2  could not: wrong usage, or a file could not be read or written, or what was
+   to be printed could not be
 ";

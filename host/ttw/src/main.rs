@@ -6,6 +6,7 @@ mod commands;
 mod files;
 mod help;
 mod order;
+mod output;
 mod pair;
 mod part;
 mod progress;
@@ -13,10 +14,10 @@ mod stop;
 mod system;
 
 use arguments::Arguments;
+use output::print;
 use std::ffi::OsString;
-use std::io::{self, Write};
 use std::process::ExitCode;
-use stop::{Ended, Outcome, Stop};
+use stop::{Outcome, Stop};
 
 /// A command: its files, the options that it takes, its help and its work.
 struct Command {
@@ -120,13 +121,6 @@ fn print_help(rest: &[OsString]) -> Outcome {
 
 fn print_version() -> Outcome {
     print(concat!("ttw ", env!("CARGO_PKG_VERSION"), "\n"))
-}
-
-fn print(text: &str) -> Outcome {
-    let mut out = io::stdout().lock();
-    out.write_all(text.as_bytes())?;
-    out.flush()?;
-    Ok(Ended::Done)
 }
 
 /// Wrong usage, and where the right one is told.

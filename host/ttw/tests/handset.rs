@@ -4,27 +4,12 @@
 mod support;
 
 use paper::make::{damaged_packs, exact_pair, worked_pair, Rng};
-use std::path::{Path, PathBuf};
+use std::path::Path;
 use std::process::Command;
-use support::{is_emulated, is_installed, root, run, Folder, Run};
+use support::{compiled_handset, is_emulated, is_installed, run, Folder, Run};
 use ttw::ask;
 
 const LABEL: &str = "ATTIC FLAT\n110-114 QUARRY LANE\nHARTWELL BAY\nAB1 9ZZ\n";
-
-/// The example, compiled into the folder.
-fn compiled(folder: &Folder) -> PathBuf {
-    let program = folder.0.join("handset");
-    let mut cc = Command::new("cc");
-    cc.args(["-std=c11", "-g", "-Wall", "-Wextra", "-Werror", "-pedantic"])
-        .arg("-I")
-        .arg(root().join("include"))
-        .arg(root().join("examples/handset.c"))
-        .arg(root().join("target/staticlib/libttwibonal.a"))
-        .arg("-o")
-        .arg(&program);
-    run(&mut cc).prints("");
-    program
-}
 
 /// A folder with the packs that are tried.
 fn packs() -> Folder {
@@ -107,7 +92,7 @@ fn ask_all(folder: &Folder, command: impl Fn() -> Command) {
 #[test]
 fn the_example_prints_labels_and_says_refusals() {
     let folder = packs();
-    let program = compiled(&folder);
+    let program = compiled_handset(&folder);
     ask_all(&folder, || Command::new(&program));
     let missing = run(Command::new(&program)
         .arg("none.pack")
@@ -142,7 +127,7 @@ fn the_example_prints_many_labels() {
     let folder = Folder::new();
     folder.put("long.pack", &pack);
     let count = (points - 1).to_string();
-    let printed = run(Command::new(compiled(&folder))
+    let printed = run(Command::new(compiled_handset(&folder))
         .args(["long.pack", "2", &count])
         .current_dir(&folder.0));
     printed.prints(&String::from_utf8_lossy(&labels));
@@ -159,7 +144,7 @@ fn under_valgrind(program: &Path) -> Command {
 fn valgrind_finds_nothing_in_the_example() {
     if is_installed("valgrind") && !is_emulated() {
         let folder = packs();
-        let program = compiled(&folder);
+        let program = compiled_handset(&folder);
         ask_all(&folder, || under_valgrind(&program));
     }
 }

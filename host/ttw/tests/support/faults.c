@@ -3,7 +3,7 @@
  *
  *   FAULTS_LOG=FILE                     each such call becomes a line of this file
  *   FAULTS_FAIL=CALL FIRST LAST ERROR   of the calls of that name the FIRST to the LAST fail with this error number
- *   FAULTS_FILE=END                     with FAULTS_FAIL: counted are calls on files whose name ends so, and no others
+ *   FAULTS_FILE=TEXT                    with FAULTS_FAIL: counted are calls on files with this in their name alone
  *   FAULTS_PLACE=KIND TIMES             before the first so many creations of a part something stands in its place:
  *                                       link (to the file `victim`) or fifo
  *   FAULTS_PID=NUMBER                   the process has this number
@@ -111,13 +111,10 @@ static const char *name_of(int file)
 /* Whether this call is one that fails. */
 static int fails(const char *call, const char *name)
 {
-    const char *end = getenv("FAULTS_FILE");
-    size_t length = end == NULL ? 0 : strlen(end);
+    const char *text = getenv("FAULTS_FILE");
     int turn;
 
-    if (strcmp(call, failing) != 0)
-        return 0;
-    if (end != NULL && (strlen(name) < length || strcmp(name + strlen(name) - length, end) != 0))
+    if (strcmp(call, failing) != 0 || (text != NULL && strstr(name, text) == NULL))
         return 0;
     turn = __sync_add_and_fetch(&seen, 1);
     if (turn < first || turn > last)

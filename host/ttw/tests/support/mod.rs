@@ -118,6 +118,21 @@ impl Run {
     }
 }
 
+/// `examples/handset.c`, compiled into the folder from the header alone.
+pub fn compiled_handset(folder: &Folder) -> PathBuf {
+    let program = folder.0.join("handset");
+    let mut cc = Command::new("cc");
+    cc.args(["-std=c11", "-g", "-Wall", "-Wextra", "-Werror", "-pedantic"])
+        .arg("-I")
+        .arg(root().join("include"))
+        .arg(root().join("examples/handset.c"))
+        .arg(root().join("target/staticlib/libttwibonal.a"))
+        .arg("-o")
+        .arg(&program);
+    run(&mut cc).prints("");
+    program
+}
+
 /// Whether a program is on the path.
 pub fn is_installed(program: &str) -> bool {
     let found = |folder: PathBuf| folder.join(program).is_file();
