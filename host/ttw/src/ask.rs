@@ -10,7 +10,7 @@ const NO_SUCH: u8 = 7;
 
 /// The refusal of a lent buffer that is too short, the highest of a label's own;
 /// its detail is the bytes needed.
-pub const ROOM: u8 = 10;
+const ROOM: u8 = 10;
 
 /// Why a call was refused.
 #[derive(Clone, Copy, Debug, PartialEq, Eq)]

@@ -3,18 +3,16 @@
 use crate::arguments::{Arguments, Code};
 use crate::files::{make_folder, read_pack, write_whole};
 use crate::order::in_order;
-use crate::output::{print, printed};
+use crate::output::{print, printed, Output};
 use crate::pair::Pair;
 use crate::progress::Progress;
 use crate::stop::{tell, Ended, Outcome, Stop};
 use std::io::Write;
 use std::path::Path;
 use std::slice;
-use ttw::ask::{self, Refusal, Run, LABEL, ROOM};
+use ttw::ask::{self, Refusal, Run};
+use ttw::listing::{each_label, room, AT_A_TIME};
 use ttw::words::words;
-
-/// How many labels a run has room for at a time.
-const AT_A_TIME: u64 = 512;
 
 /// Room that most packs fit into.
 const LIKELY_PACK: usize = 1 << 16;
@@ -106,9 +104,8 @@ fn print_one(subject: &str, label: Result<Vec<u8>, Refusal>) -> Outcome {
     print(&label)
 }
 
-/// So many labels one behind the other, as the library writes them: where the
-/// room is full, the next are asked for in the same room again. A refused label
-/// ends them.
+/// So many labels one behind the other, as the library writes them. A refused
+/// label ends them.
 fn print_run(
     first: u64,
     count: u64,
@@ -116,15 +113,16 @@ fn print_run(
     ask: impl Fn(u64, u64, &mut [u8]) -> Result<Run, Refusal>,
 ) -> Outcome {
     let refused = |why, number| Stop::Refused(words(&why, &name(number)));
-    let mut room = vec![0; LABEL * count.clamp(1, AT_A_TIME) as usize];
+    let mut room = room(count);
     printed(|out| {
         let (mut next, mut left) = (first, count);
         while left > 0 {
-            let run = ask(next, left, &mut room).map_err(|why| refused(why, next))?;
+            let run = ask(next, left.min(AT_A_TIME), &mut room);
+            let run = run.map_err(|why| refused(why, next))?;
             out.write_all(&room[..run.bytes])?;
             next = next.saturating_add(run.labels);
             left -= run.labels;
-            if let Some(why) = run.stop.filter(|why| why.number != ROOM) {
+            if let Some(why) = run.stop {
                 return Err(refused(why, next));
             }
         }
@@ -136,55 +134,88 @@ fn labels_of_code(table: &[u8], points: &[u8], code: &Code) -> Outcome {
     let name = code.name();
     let live = ask::live(points, &code.padded)
         .map_err(|why| Stop::Refused(words(&why, &format!("code {name}"))))?;
-    list(live, |k| Entry {
-        heading: format!("{name} number {k}"),
-        subject: format!("{name} number {k}"),
-        label: ask::code_label(table, points, &code.padded, k),
-    })
+    list_runs(
+        live,
+        |k| format!("{name} number {k}"),
+        |first, count, room| ask::code_labels(table, points, &code.padded, first, count, room),
+    )
 }
 
+/// Each view is asked for by itself: no run tells the amendment letters.
 fn labels_of_all(table: &[u8], points: &[u8]) -> Outcome {
     let views = ask::views(points).map_err(|why| Stop::Refused(words(&why, "files")))?;
-    list(views, |view| {
-        let letter = ask::letter(points, view).map_or(String::new(), |letter| format!(" {letter}"));
-        Entry {
-            heading: format!("view {view}{letter}"),
-            subject: format!("view {view}"),
-            label: ask::label(table, points, view),
-        }
+    let numbers: Vec<u64> = (1..=views).collect();
+    let ask = |view: &u64| {
+        let letter =
+            ask::letter(points, *view).map_or(String::new(), |letter| format!(" {letter}"));
+        (letter, ask::label(table, points, *view))
+    };
+    list(|list| {
+        in_order(&numbers, ask, |view, (letter, label)| {
+            let name = format!("view {view}");
+            list.put(&format!("{name}{letter}"), &name, label)
+        })
     })
 }
 
-/// One of many labels.
-struct Entry {
-    heading: String,
-    subject: String,
-    label: Result<Vec<u8>, Refusal>,
+/// A list of labels numbered from 1, asked for in runs. Its headings are their
+/// names.
+fn list_runs(
+    count: u64,
+    name: impl Fn(u64) -> String,
+    ask: impl Fn(u64, u64, &mut [u8]) -> Result<Run, Refusal>,
+) -> Outcome {
+    list(|list| {
+        let ask = |first, count, room: &mut [u8]| {
+            ask(first, count, room).map_err(|why| Stop::Refused(words(&why, &name(first))))
+        };
+        each_label(count, ask, |number, label| {
+            list.put(&name(number), &name(number), label)
+        })
+    })
 }
 
-/// Prints the labels numbered from 1 under their headings; a refused one says
-/// why in its place, and the run goes on.
-fn list(count: u64, ask: impl Fn(u64) -> Entry + Sync) -> Outcome {
-    let numbers: Vec<u64> = (1..=count).collect();
-    let mut refused = 0;
-    printed(|out| {
-        let ask = |number: &u64| ask(*number);
-        in_order(&numbers, ask, |_, entry| {
-            writeln!(out, "{}", entry.heading)?;
-            match entry.label {
-                Ok(label) => out.write_all(&label)?,
-                Err(why) => {
-                    refused += 1;
-                    writeln!(out, "refused: {}", words(&why, &entry.subject))?;
-                }
+/// Labels under their headings. A refused one says why in its place.
+struct List<'a> {
+    out: &'a mut Output,
+    printed: u64,
+    refused: u64,
+}
+
+impl List<'_> {
+    fn put(
+        &mut self,
+        heading: &str,
+        subject: &str,
+        label: Result<impl AsRef<[u8]>, Refusal>,
+    ) -> Result<(), Stop> {
+        writeln!(self.out, "{heading}")?;
+        match label {
+            Ok(label) => {
+                self.printed += 1;
+                self.out.write_all(label.as_ref())?;
             }
-            Ok(())
-        })
+            Err(why) => {
+                self.refused += 1;
+                writeln!(self.out, "refused: {}", words(&why, subject))?;
+            }
+        }
+        Ok(())
+    }
+}
+
+/// Prints a list and tells how many labels it has.
+fn list(fill: impl FnOnce(&mut List) -> Result<(), Stop>) -> Outcome {
+    let (labels, refused) = printed(|out| {
+        let mut list = List {
+            out,
+            printed: 0,
+            refused: 0,
+        };
+        fill(&mut list)?;
+        Ok((list.printed, list.refused))
     })?;
-    tell(&format!(
-        "labels printed: {}, refused: {refused}",
-        count - refused
-    ));
+    tell(&format!("labels printed: {labels}, refused: {refused}"));
     Ok(Ended::after(refused))
 }
 
@@ -256,10 +287,8 @@ pub fn show(given: &Arguments) -> Outcome {
         (Some(k), Some(count)) => print_run(k, count, name, |first, count, out| {
             ask::pack_labels(&pack, first, count, out)
         }),
-        (None, _) => list(points, |k| Entry {
-            heading: format!("point {k}"),
-            subject: format!("point {k}"),
-            label: ask::pack_label(&pack, k),
+        (None, _) => list_runs(points, name, |first, count, room| {
+            ask::pack_labels(&pack, first, count, room)
         }),
     }
 }
