@@ -56,6 +56,17 @@ static int load(const char *path, struct pack *pack)
     return loaded;
 }
 
+/* A message about a file. A byte of its name that could steer a terminal is shown as \x1b. */
+static void complain(const char *path, const char *why)
+{
+    const char *at;
+
+    fputs("handset: cannot load ", stderr);
+    for (at = path; *at != '\0'; at++)
+        fprintf(stderr, *at >= ' ' && *at <= '~' ? "%c" : "\\x%02x", (unsigned char)*at);
+    fprintf(stderr, ": %s\n", why);
+}
+
 /* The refusals that a handset can meet, in words for its screen. */
 static int say_refusal(uint64_t answer)
 {
@@ -148,9 +159,7 @@ int main(int argc, char **argv)
         return COULD_NOT;
     }
     if (!load(argv[1], &pack)) {
-        const char *why = errno != 0 ? strerror(errno) : "no file of a pack's length";
-
-        fprintf(stderr, "handset: cannot load %s: %s\n", argv[1], why);
+        complain(argv[1], errno != 0 ? strerror(errno) : "no file of a pack's length");
         free(pack.bytes);
         return COULD_NOT;
     }

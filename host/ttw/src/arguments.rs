@@ -4,6 +4,7 @@ use crate::stop::Stop;
 use std::ffi::{OsStr, OsString};
 use std::os::unix::ffi::OsStrExt;
 use std::path::PathBuf;
+use ttw::words::shown;
 
 /// An outward code as it was given.
 #[derive(Clone, Debug, PartialEq, Eq)]
@@ -24,8 +25,7 @@ impl Code {
 
     /// The code without its padding, fit for a screen and a file name.
     pub fn name(&self) -> String {
-        let text = String::from_utf8_lossy(&self.padded);
-        text.trim_end().escape_debug().to_string()
+        shown(self.padded.trim_ascii_end())
     }
 }
 
@@ -81,6 +81,7 @@ fn read_option<'a>(
 ) -> Result<(), Stop> {
     let always = ["--help", "--version"].contains(&name);
     if !always && !options.contains(&name) {
+        let name = shown(name.as_bytes());
         return Err(Stop::could_not(format!("there is no option {name} here")));
     }
     if always || name == "--all" {
@@ -111,8 +112,18 @@ fn set_value(arguments: &mut Arguments, name: &str, value: &OsStr) -> Result<(),
         "--nth" => once(&mut arguments.nth, name, number(name, value)?),
         "--count" => once(&mut arguments.count, name, number(name, value)?),
         "--code" => once(&mut arguments.code, name, Code::new(value.as_bytes())),
-        _ => once(&mut arguments.out, name, PathBuf::from(value)),
+        _ => once(&mut arguments.out, name, folder(name, value)?),
     }
+}
+
+/// A folder. An empty name would be the folder in which the command runs, and
+/// mostly comes from a variable that was not set.
+fn folder(name: &str, value: &OsStr) -> Result<PathBuf, Stop> {
+    if value.is_empty() {
+        let words = format!("{name} takes a folder, not an empty name");
+        return Err(Stop::could_not(words));
+    }
+    Ok(PathBuf::from(value))
 }
 
 /// Sets what was not set before.

@@ -243,34 +243,76 @@ pub fn pack(given: &Arguments) -> Outcome {
     }
 }
 
-/// Cuts the packs of these codes. A refused code is told and the others go on;
-/// a pack that cannot be written ends the run, since the next could not be
-/// written either.
+/// Cuts the packs of these codes into a folder and tells how many. Only a folder
+/// that cannot be made ends the run before.
 fn cut(pair: &Pair, codes: &[Code], folder: &Path) -> Outcome {
-    let mut progress = Progress::new(codes.len());
-    let (mut written, mut refused) = (0u64, 0u64);
+    let mut packs = Packs {
+        folder,
+        progress: Progress::new(codes.len()),
+        written: 0,
+        refused: 0,
+        failed: 0,
+    };
     let ask = |code: &Code| ask::build(&pair.table, &pair.points, &code.padded, LIKELY_PACK);
-    let ended = in_order(codes, ask, |code, pack| {
-        progress.step(&code.name());
-        match pack {
-            Ok(pack) => {
-                make_folder(folder)?;
-                write_whole(folder, &format!("{}.pack", code.name()), &pack)?;
-                written += 1;
-            }
+    let ended = in_order(codes, ask, |code, pack| packs.take(code, pack));
+    packs.tell_counts();
+    ended.map(|()| match packs.failed {
+        0 => Ended::after(packs.refused),
+        _ => Ended::CouldNot,
+    })
+}
+
+/// Packs on their way into a folder. A code that is refused and a pack that
+/// cannot be written are told, and the others go on.
+struct Packs<'a> {
+    folder: &'a Path,
+    progress: Progress,
+    written: u64,
+    refused: u64,
+    failed: u64,
+}
+
+impl Packs<'_> {
+    fn take(&mut self, code: &Code, pack: Result<Vec<u8>, Refusal>) -> Result<(), Stop> {
+        let name = code.name();
+        self.progress.step(&name);
+        let pack = match pack {
+            Ok(pack) => pack,
             Err(why) => {
-                refused += 1;
-                progress.clear();
-                tell(&words(&why, &format!("code {}", code.name())));
+                self.refused += 1;
+                self.tell(&Stop::Refused(words(&why, &format!("code {name}"))));
+                return Ok(());
+            }
+        };
+        if self.written + self.failed == 0 {
+            make_folder(self.folder)?;
+        }
+        match write_whole(self.folder, &format!("{name}.pack"), &pack) {
+            Ok(()) => self.written += 1,
+            Err(stop) => {
+                self.failed += 1;
+                self.tell(&stop);
             }
         }
         Ok(())
-    });
-    progress.clear();
-    tell(&format!(
-        "packs written: {written}, codes refused: {refused}"
-    ));
-    ended.map(|()| Ended::after(refused))
+    }
+
+    fn tell(&self, stop: &Stop) {
+        self.progress.clear();
+        stop.tell();
+    }
+
+    fn tell_counts(&self) {
+        self.progress.clear();
+        let (written, refused) = (self.written, self.refused);
+        let failed = match self.failed {
+            0 => String::new(),
+            failed => format!(", packs not written: {failed}"),
+        };
+        tell(&format!(
+            "packs written: {written}, codes refused: {refused}{failed}"
+        ));
+    }
 }
 
 /// `ttw show`: the labels of a pack.

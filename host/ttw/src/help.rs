@@ -58,10 +58,12 @@ Cuts the pack of an outward code into FOLDER/AB1.pack, with --all one for each
 code that has live views. The folder is made where it is missing.
 
 A pack with one label that cannot be printed is not cut: the code is refused,
-with the view to mend, and the other codes go on. A pack file is written under
-another name first and renamed when it is whole and on the disk, so that a
-refused code, a full disk or a kill leaves an older pack as it was. After a kill
-a file such as .AB1.pack.3f09c1d2a47be586.part may stay behind; it can be deleted.
+with the view to mend, and the other codes go on. So they do where a pack cannot
+be written; the exit status is then 2. A pack file is written under another name
+first and renamed when it is whole and on the disk, so that a refused code, a
+full disk or a kill leaves an older pack as it was. After a kill a file such as
+.AB1.pack.3f09c1d2a47be586.part may stay behind; it can be deleted. A pack that
+replaces an older one has its mode and, where this may be given, its owner.
 ";
 
 pub const SHOW: &str = "\

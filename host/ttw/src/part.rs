@@ -5,24 +5,48 @@
 //! what was told as written stays written.
 
 use crate::system::random;
-use std::fs::{self, File, OpenOptions};
+use std::fs::{self, File, Metadata, OpenOptions, Permissions};
 use std::io::{self, Write};
+use std::os::unix::fs::{fchown, MetadataExt, OpenOptionsExt, PermissionsExt};
 use std::path::{Path, PathBuf};
 
 /// How often a name is tried that someone else took. One name in 2 to the 64 is
 /// taken by chance, so that more than one is no chance.
 const TRIES: usize = 8;
 
-/// Writes these bytes as the file of that name.
+/// The mode of a file that replaces none, of which the system takes the bits
+/// that the user's mask has; and the bits of a mode that are kept.
+const NEW_MODE: u32 = 0o666;
+const KEPT_MODE: u32 = 0o777;
+
+/// Writes these bytes as the file of that name. It has the mode of the file that
+/// it replaces and, where this may be given, its owner.
 pub fn write_whole(folder: &Path, name: &str, bytes: &[u8]) -> io::Result<()> {
     // Opened first: where the folder cannot be brought to the disk, nothing is
     // written.
     let place = File::open(folder)?;
-    let mut part = Part::create(folder, name)?;
+    let path = folder.join(name);
+    let older = fs::symlink_metadata(&path).ok().filter(Metadata::is_file);
+    let mode = older.as_ref().map(|older| older.mode() & KEPT_MODE);
+    let mut part = Part::create(folder, name, mode.unwrap_or(NEW_MODE))?;
     part.file.write_all(bytes)?;
+    if let Some(older) = older {
+        keep_owner(&part.file, &older);
+    }
+    if let Some(mode) = mode {
+        part.file.set_permissions(Permissions::from_mode(mode))?;
+    }
     part.file.sync_all()?;
-    part.rename(&folder.join(name))?;
+    part.rename(&path)?;
     sync_folder(&place)
+}
+
+/// Gives a file to the owner and the group of an older one. Mostly only root may
+/// give a file away; a group of one's own may be kept all the same.
+fn keep_owner(file: &File, older: &Metadata) {
+    if fchown(file, Some(older.uid()), Some(older.gid())).is_err() {
+        let _ = fchown(file, None, Some(older.gid()));
+    }
 }
 
 /// Makes the folder where it is missing, with those above it, and brings each to
@@ -71,11 +95,13 @@ struct Part {
 impl Part {
     /// A new file: what stands under its name already is neither opened nor
     /// followed, and another name is tried.
-    fn create(folder: &Path, name: &str) -> io::Result<Part> {
+    fn create(folder: &Path, name: &str, mode: u32) -> io::Result<Part> {
+        let mut new = OpenOptions::new();
+        new.write(true).create_new(true).mode(mode);
         let mut tries = 1;
         loop {
             let path = folder.join(format!(".{name}.{:016x}.part", random()?));
-            match OpenOptions::new().write(true).create_new(true).open(&path) {
+            match new.open(&path) {
                 Err(why) if why.kind() == io::ErrorKind::AlreadyExists && tries < TRIES => {
                     tries += 1;
                 }

@@ -9,6 +9,8 @@ pub enum Ended {
     Done,
     /// Something was refused, and has been told.
     Refused,
+    /// Something could not be written, and has been told.
+    CouldNot,
 }
 
 impl Ended {
@@ -36,6 +38,15 @@ impl Stop {
     pub fn could_not(words: String) -> Stop {
         Stop::CouldNot(words)
     }
+
+    /// Tells why.
+    pub fn tell(&self) {
+        match self {
+            Stop::Refused(words) => tell(words),
+            Stop::CouldNot(words) => tell(&format!("ttw: {words}")),
+            Stop::Unread => {}
+        }
+    }
 }
 
 /// An error of printing.
@@ -54,18 +65,13 @@ pub type Outcome = Result<Ended, Stop>;
 /// Tells what has to be told, and gives the exit status: 0 done, 1 something
 /// was refused, 2 could not.
 pub fn status(outcome: Outcome) -> ExitCode {
+    if let Err(stop) = &outcome {
+        stop.tell();
+    }
     match outcome {
         Ok(Ended::Done) => ExitCode::SUCCESS,
-        Ok(Ended::Refused) => ExitCode::from(1),
-        Err(Stop::Refused(words)) => {
-            tell(&words);
-            ExitCode::from(1)
-        }
-        Err(Stop::CouldNot(words)) => {
-            tell(&format!("ttw: {words}"));
-            ExitCode::from(2)
-        }
-        Err(Stop::Unread) => ExitCode::from(2),
+        Ok(Ended::Refused) | Err(Stop::Refused(_)) => ExitCode::from(1),
+        Ok(Ended::CouldNot) | Err(Stop::CouldNot(_) | Stop::Unread) => ExitCode::from(2),
     }
 }
 

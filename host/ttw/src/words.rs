@@ -1,5 +1,6 @@
 //! Refusals in plain words. The number in brackets is the one under which
-//! docs/REFUSALS.md says what to do.
+//! docs/REFUSALS.md says what to do. And names from outside, as they may stand
+//! in a message.
 
 use crate::ask::Refusal;
 
@@ -74,4 +75,19 @@ fn damaged(step: u64) -> &'static str {
         2 => "the rows are damaged",
         _ => "the points are damaged",
     }
+}
+
+/// A name from outside, fit for a screen: what could steer a terminal is shown
+/// as `\u{1b}`, a byte that is no text as `\xff`.
+pub fn shown(name: &[u8]) -> String {
+    let mut shown = String::new();
+    for part in name.utf8_chunks() {
+        part.valid().chars().for_each(|c| match c {
+            '\'' | '"' => shown.push(c),
+            _ => shown.extend(c.escape_debug()),
+        });
+        let bytes = part.invalid().iter();
+        bytes.for_each(|byte| shown += &format!("\\x{byte:02x}"));
+    }
+    shown
 }

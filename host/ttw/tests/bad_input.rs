@@ -3,10 +3,13 @@
 mod support;
 
 use paper::make::{damaged_packs, exact_pair, worked_pair, Pair, Rng, TableRow, View};
+use std::ffi::OsStr;
 use std::fs;
+use std::os::unix::ffi::OsStrExt;
+use std::path::Path;
 use std::process::{Command, Stdio};
 use std::time::{Duration, Instant};
-use support::{is_installed, Folder, Run, TTW};
+use support::{is_installed, Folder, Run, NOT_WRITTEN, TTW};
 
 fn worked() -> Folder {
     Folder::with_pair(&worked_pair())
@@ -79,7 +82,7 @@ fn files_and_folders_of_someone_else() {
         let pack = "pack changes1 changes2 --all --out packs";
         let run = as_nobody(&folder, pack).expect("as before");
         let told = format!("ttw: cannot write packs/AB1.pack: {denied}");
-        run.only_tells(2, &format!("packs written: 0, codes refused: 0\n{told}"));
+        run.only_tells(2, &format!("{told}\n{NOT_WRITTEN}"));
         assert!(folder.names("packs").is_empty());
     }
 }
@@ -239,7 +242,7 @@ fn damaged_packs_name_the_step() {
 }
 
 /// Wrong usage, and what is told about it.
-const MISUSES: [(&[&str], &str); 18] = [
+const MISUSES: [(&[&str], &str); 20] = [
     (&[], "no command is given; see: ttw help"),
     (&["chekc"], "there is no command \"chekc\"; see: ttw help"),
     (&["help", "me"], "there is no help on \"me\"; see: ttw help"),
@@ -282,6 +285,14 @@ const MISUSES: [(&[&str], &str); 18] = [
         "--view stands alone, without --code and --nth",
     ),
     (&["pack", "a", "b", "--all"], "pack needs --out FOLDER"),
+    (
+        &["pack", "a", "b", "--all", "--out", ""],
+        "--out takes a folder, not an empty name",
+    ),
+    (
+        &["pack", "a", "b", "--all", "--out="],
+        "--out takes a folder, not an empty name",
+    ),
     (
         &["pack", "a", "b", "--out", "c"],
         "pack needs either --code or --all",
@@ -340,6 +351,67 @@ fn a_refused_code_does_not_stop_the_others_and_keeps_its_older_pack() {
 }
 
 #[test]
+fn a_pack_that_cannot_be_written_does_not_stop_the_others() {
+    let folder = Folder::with_pair(&pair_with_one_bad_code());
+    fs::create_dir(folder.0.join("A1.pack")).expect("a folder");
+    fs::create_dir(folder.0.join("A8.pack")).expect("a folder");
+    let run = folder.ttw(&["pack", "changes1", "changes2", "--all", "--out", "."]);
+    let told: Vec<&str> = run.told.lines().collect();
+    let why = "Is a directory (os error 21)";
+    assert_eq!(told[0], format!("ttw: cannot write ./A1.pack: {why}"));
+    assert!(told[1].starts_with("code A5: view 5: "), "{told:?}");
+    assert_eq!(told[2], format!("ttw: cannot write ./A8.pack: {why}"));
+    let counts = "packs written: 6, codes refused: 1, packs not written: 2";
+    assert_eq!((told[3], told.len(), run.status), (counts, 4, Some(2)));
+    assert_eq!(folder.names(".").len(), 2 + 8, "nothing else stays behind");
+    for n in [2, 3, 4, 6, 7, 9] {
+        assert!(folder.read(&format!("A{n}.pack")).len() > 21, "A{n}");
+    }
+}
+
+#[test]
+fn names_do_not_steer_the_terminal() {
+    let folder = worked();
+    let told = |arguments: &[&OsStr]| {
+        let run = folder.ttw(arguments);
+        assert_eq!(run.status, Some(2));
+        run.told
+    };
+    let name = OsStr::from_bytes(b"a\x1b]0;b\x07\n\xff\xc2\x9b\xe2\x80\xae\\\xc3\xa9'\"");
+    let safe = "a\\u{1b}]0;b\\u{7}\\n\\xff\\u{9b}\\u{202e}\\\\\u{e9}'\"";
+    let none = "No such file or directory (os error 2)";
+    let [show, check, pack] = ["show", "check", "pack"].map(OsStr::new);
+    let [changes1, changes2] = ["changes1", "changes2"].map(OsStr::new);
+    let read = format!("ttw: cannot read {safe}: {none}\n");
+    assert_eq!(told(&[show, name]), read);
+    assert_eq!(told(&[check, changes1, name]), read);
+    let option = [OsStr::from_bytes(b"--"), name].join(OsStr::new(""));
+    let unknown = format!("ttw: there is no option --{safe} here\n");
+    assert_eq!(told(&[show, &option]), unknown.replace("\\xff", "\u{fffd}"));
+    folder.put("file", b"");
+    let below = Path::new("file").join(name);
+    let arguments = ["--all", "--out"].map(OsStr::new);
+    let arguments = [
+        pack,
+        changes1,
+        changes2,
+        arguments[0],
+        arguments[1],
+        below.as_os_str(),
+    ];
+    let last = format!("ttw: cannot make file/{safe}: Not a directory (os error 20)\n");
+    assert!(told(&arguments).ends_with(&last));
+    for word in [
+        &["\u{1b}"][..],
+        &["help", "\u{1b}"],
+        &["show", "a", "--nth", "\u{1b}"],
+    ] {
+        let words: Vec<&OsStr> = word.iter().map(OsStr::new).collect();
+        assert!(told(&words).contains("\\u{1b}"), "{word:?}");
+    }
+}
+
+#[test]
 fn a_message_that_cannot_be_told_leaves_the_status() {
     let unread = worked().shell("\"$TTW\" check nothing changes2 2>/dev/full");
     assert_eq!(unread.status, Some(2));
@@ -363,10 +435,7 @@ fn a_disk_on_which_nothing_more_can_be_written() {
     let pack = "exec \"$TTW\" pack changes1 changes2 --all --out .";
     let run = folder.shell(&format!("trap '' XFSZ; ulimit -f 0; {pack}"));
     let why = "cannot write ./AB1.pack: File too large (os error 27)";
-    run.only_tells(
-        2,
-        &format!("packs written: 0, codes refused: 0\nttw: {why}"),
-    );
+    run.only_tells(2, &format!("ttw: {why}\n{NOT_WRITTEN}"));
     assert_eq!(folder.read("AB1.pack"), b"older");
     assert_eq!(folder.names("."), ["AB1.pack", "changes1", "changes2"]);
 }
@@ -390,7 +459,7 @@ fn a_full_disk() {
         return; // Not allowed here; the test above stands in.
     }
     let why = "cannot write disk/AB1.pack: No space left on device (os error 28)";
-    let told = format!("packs written: 0, codes refused: 0\nttw: {why}\n");
+    let told = format!("ttw: {why}\n{NOT_WRITTEN}\n");
     assert_eq!((run.status, run.told), (Some(2), told));
     assert_eq!(run.out, "older\nAB1.pack\nrest\n");
 }

@@ -101,6 +101,11 @@ fn the_example_prints_labels_and_says_refusals() {
         2,
         "handset: cannot load none.pack: No such file or directory",
     );
+    let steering = run(Command::new(&program).arg("\u{1b}[31m\u{e9}"));
+    steering.only_tells(
+        2,
+        "handset: cannot load \\x1b[31m\\xc3\\xa9: No such file or directory",
+    );
     let misuses: [&[&str]; 4] = [
         &[],
         &["AB1.pack", "x"],

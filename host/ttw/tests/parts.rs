@@ -5,8 +5,10 @@ mod support;
 
 use paper::make::worked_pair;
 use std::fs;
+use std::os::unix::fs::{chown, symlink, MetadataExt, PermissionsExt};
+use std::path::PathBuf;
 use support::faults::{Faults, Seen};
-use support::Folder;
+use support::{Folder, NOT_WRITTEN};
 
 const CUT: [&str; 7] = [
     "pack", "changes1", "changes2", "--code", "AB1", "--out", "packs",
@@ -31,8 +33,7 @@ fn cut_alone(folder: &Folder, seen: &Seen) {
 /// Fails unless the run told this and left the older pack alone.
 #[track_caller]
 fn older_stays(folder: &Folder, seen: &Seen, why: &str) {
-    let told =
-        format!("packs written: 0, codes refused: 0\nttw: cannot write packs/AB1.pack: {why}");
+    let told = format!("ttw: cannot write packs/AB1.pack: {why}\n{NOT_WRITTEN}");
     seen.run.only_tells(2, &told);
     assert_eq!(folder.names("packs"), ["AB1.pack"]);
     assert_eq!(folder.read("packs/AB1.pack"), b"older");
@@ -150,7 +151,7 @@ fn a_folder_that_does_not_reach_the_disk_is_told() {
         faults.ttw(&[("FAULTS_FAIL", &fail), ("FAULTS_FILE", "packs")], &CUT)
     };
     let why = "cannot write packs/AB1.pack: Input/output error (os error 5)";
-    let told = format!("packs written: 0, codes refused: 0\nttw: {why}");
+    let told = format!("ttw: {why}\n{NOT_WRITTEN}");
     failing("5").run.only_tells(2, &told);
     assert_eq!(folder.names("packs"), ["AB1.pack"]);
     // Error 22: this file system has no way to sync a folder.
@@ -163,10 +164,80 @@ fn a_link_under_the_packs_own_name_is_replaced_and_not_followed() {
     folder.put("victim", b"someone's");
     let pack = folder.0.join("packs/AB1.pack");
     fs::remove_file(&pack).expect("removed");
-    std::os::unix::fs::symlink("../victim", &pack).expect("a link");
+    symlink("../victim", &pack).expect("a link");
     folder
         .ttw(&CUT)
         .only_tells(0, "packs written: 1, codes refused: 0");
     assert_eq!(folder.read("victim"), b"someone's");
     assert!(fs::symlink_metadata(&pack).expect("a pack").is_file());
+}
+
+/// The mode of the pack.
+fn mode(folder: &Folder) -> u32 {
+    let pack = fs::metadata(folder.0.join("packs/AB1.pack")).expect("a pack");
+    pack.mode() & 0o7777
+}
+
+#[test]
+fn a_replaced_pack_keeps_its_mode() {
+    let folder = desk();
+    let faults = Faults::new(&folder);
+    for kept in [0o600, 0o640, 0o444, 0o664, 0o666] {
+        let pack: PathBuf = folder.0.join("packs/AB1.pack");
+        fs::set_permissions(&pack, fs::Permissions::from_mode(kept)).expect("a mode");
+        let seen = faults.ttw(&[], &CUT);
+        cut_alone(&folder, &seen);
+        assert_eq!(mode(&folder), kept);
+        // Nobody may read the part who may not read the pack.
+        let created = format!("exclusive {kept:o}");
+        assert!(seen.calls[0].ends_with(&created), "{:?}", seen.calls);
+    }
+}
+
+#[test]
+fn a_new_pack_has_the_mode_that_the_mask_leaves() {
+    let folder = Folder::with_pair(&worked_pair());
+    let run = folder.shell(&format!("umask 027; \"$TTW\" {}", CUT.join(" ")));
+    run.only_tells(0, "packs written: 1, codes refused: 0");
+    assert_eq!(mode(&folder), 0o640);
+}
+
+#[test]
+fn a_replaced_pack_keeps_its_owner_where_it_may_be_given() {
+    let folder = desk();
+    let faults = Faults::new(&folder);
+    let pack = folder.0.join("packs/AB1.pack");
+    // Root may; where this test may not, the owner that there is will do.
+    let _ = chown(&pack, Some(65_534), Some(65_533));
+    let older = fs::metadata(&pack).expect("the older pack");
+    let (owner, group) = (older.uid(), older.gid());
+    let seen = faults.ttw(&[], &CUT);
+    cut_alone(&folder, &seen);
+    let newer = fs::metadata(&pack).expect("the newer pack");
+    assert_eq!((newer.uid(), newer.gid()), (owner, group));
+    let part = seen.parts()[0];
+    let given = format!("owner {part} {owner} {group}");
+    assert!(seen.calls.contains(&given), "{:?}", seen.calls);
+    // Error 1: not permitted, and then the group alone.
+    let seen = faults.ttw(&[("FAULTS_FAIL", "fchown 1 1 1")], &CUT);
+    cut_alone(&folder, &seen);
+    let given = format!("owner {} -1 {group}", seen.parts()[0]);
+    assert!(seen.calls.contains(&given), "{:?}", seen.calls);
+    let seen = faults.ttw(&[("FAULTS_FAIL", "fchown 1 2 1")], &CUT);
+    cut_alone(&folder, &seen);
+}
+
+#[test]
+fn a_link_gives_neither_mode_nor_owner() {
+    let folder = desk();
+    let victim = folder.put("victim", b"someone's");
+    fs::set_permissions(&victim, fs::Permissions::from_mode(0o400)).expect("a mode");
+    let pack = folder.0.join("packs/AB1.pack");
+    fs::remove_file(&pack).expect("removed");
+    symlink("../victim", &pack).expect("a link");
+    let seen = Faults::new(&folder).ttw(&[], &CUT);
+    cut_alone(&folder, &seen);
+    assert_ne!(mode(&folder), 0o400);
+    assert!(seen.calls[0].ends_with("exclusive 666"), "{:?}", seen.calls);
+    assert!(!seen.calls.iter().any(|call| call.starts_with("owner")));
 }

@@ -22,6 +22,9 @@ pub fn root() -> PathBuf {
 /// The command.
 pub const TTW: &str = env!("CARGO_BIN_EXE_ttw");
 
+/// How a run ends in which the one pack could not be written.
+pub const NOT_WRITTEN: &str = "packs written: 0, codes refused: 0, packs not written: 1";
+
 /// A folder of its own for one test, removed with all it holds.
 pub struct Folder(pub PathBuf);
 
