@@ -24,7 +24,7 @@ pub fn check(given: &Arguments) -> Outcome {
     let table = ask::table(&pair.table).map_err(refused)?;
     let points = ask::points(&pair.points).map_err(refused)?;
     let views = ask::views(&pair.points).map_err(refused)?;
-    print(&format!(
+    print(format!(
         "table: {table} records\npoints: {points} records, {views} views\n"
     ))
 }
@@ -34,7 +34,7 @@ pub fn codes(given: &Arguments) -> Outcome {
     let pair = Pair::read_accepted(&given.files)?;
     let codes = live_codes(&pair)?;
     let line = |(code, live): &(Code, u64)| format!("{} {live}\n", code.name());
-    print(&codes.iter().map(line).collect::<String>())
+    print(codes.iter().map(line).collect::<String>())
 }
 
 /// The codes with live views, rising.
@@ -101,7 +101,7 @@ fn labels_from_nth(pair: &Pair, code: &Code, k: u64, count: Option<u64>) -> Outc
 /// A label alone, so that it can be sent on as it is.
 fn print_one(subject: &str, label: Result<Vec<u8>, Refusal>) -> Outcome {
     let label = label.map_err(|why| Stop::Refused(words(&why, subject)))?;
-    print(&label)
+    print(label)
 }
 
 /// So many labels one behind the other, as the library writes them. A refused

@@ -108,5 +108,5 @@ const STATUS: &str = "\
 0  done
 1  something was refused; what and why is told
 2  could not: wrong usage, or a file could not be read or written, or what was
-   to be printed could not be
+   to be printed could not be, or no memory was left
 ";

@@ -5,6 +5,7 @@ mod arguments;
 mod commands;
 mod files;
 mod help;
+mod memory;
 mod order;
 mod output;
 mod pair;
@@ -67,8 +68,14 @@ const COMMANDS: [Command; 5] = [
 ];
 
 fn main() -> ExitCode {
+    system::begin();
     let given: Vec<OsString> = std::env::args_os().skip(1).collect();
-    stop::status(run(&given))
+    match order::work_on_a_stack(move || stop::status(run(&given))) {
+        Ok(status) => status.unwrap_or(ExitCode::from(2)),
+        Err(why) => stop::status(Err(Stop::could_not(format!(
+            "there is no stack to work on: {why}"
+        )))),
+    }
 }
 
 fn run(given: &[OsString]) -> Outcome {

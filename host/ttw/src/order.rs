@@ -1,10 +1,36 @@
-//! Many questions asked on all cores, their answers taken in order.
+//! Many questions asked on all cores, their answers taken in order. Whatever asks
+//! the library does so on a stack that is long enough.
 
+use std::hint::black_box;
+use std::io;
 use std::num::NonZero;
 use std::thread::{self, Builder};
 
 /// How many questions a core takes at a time.
 const AT_A_TIME: usize = 4;
+
+/// Bytes of a stack. The header says what the library takes, at most 192 KiB for
+/// building; the rest is for what stands above it.
+const STACK: usize = 1 << 20;
+
+/// Memory that a thread takes before it begins. Where the C library does not get
+/// it, it ends the process.
+const BEGINNING: usize = 1 << 16;
+
+/// A thread to be started. Its stack hangs neither on the limit of the first
+/// thread's nor on `RUST_MIN_STACK`.
+fn on_a_stack() -> Builder {
+    // What was asked for and given back stays with the process.
+    drop(black_box(Vec::<u8>::with_capacity(BEGINNING)));
+    Builder::new().stack_size(STACK)
+}
+
+/// Does the work on such a stack, and answers with nothing where it panics.
+pub fn work_on_a_stack<A: Send + 'static>(
+    work: impl FnOnce() -> A + Send + 'static,
+) -> io::Result<Option<A>> {
+    Ok(on_a_stack().spawn(work)?.join().ok())
+}
 
 /// Asks each question and hands it with its answer to `take`, in order, until
 /// `take` fails. The library's calls share nothing, so they may run at once.
@@ -30,8 +56,7 @@ fn answers<Q: Sync, A: Send>(batch: &[Q], ask: &(impl Fn(&Q) -> A + Sync)) -> Ve
             .chunks(AT_A_TIME)
             .map(|part| {
                 let work = move || part.iter().map(ask).collect::<Vec<A>>();
-                let thread = Builder::new().spawn_scoped(scope, work);
-                thread.map_err(|_| work())
+                on_a_stack().spawn_scoped(scope, work).map_err(|_| work())
             })
             .collect();
         asked

@@ -4,11 +4,13 @@
 //! one, as it was. Behind the rename the folder reaches the disk too, so that
 //! what was told as written stays written.
 
-use crate::system::random;
+use crate::system::{part_stands, random};
+use std::ffi::{CStr, CString, OsStr};
 use std::fs::{self, File, Metadata, OpenOptions, Permissions};
 use std::io::{self, Write};
+use std::os::unix::ffi::{OsStrExt, OsStringExt};
 use std::os::unix::fs::{fchown, MetadataExt, OpenOptionsExt, PermissionsExt};
-use std::path::{Path, PathBuf};
+use std::path::Path;
 
 /// How often a name is tried that someone else took. One name in 2 to the 64 is
 /// taken by chance, so that more than one is no chance.
@@ -85,10 +87,11 @@ fn sync_folder(folder: &File) -> io::Result<()> {
     }
 }
 
-/// A file that has not got its name yet. It goes where it does not get it.
+/// A file that has not got its name yet. It goes where it does not get it, also
+/// where the process gives up; there is one at a time.
 struct Part {
     file: File,
-    path: PathBuf,
+    path: CString,
     named: bool,
 }
 
@@ -101,23 +104,27 @@ impl Part {
         let mut tries = 1;
         loop {
             let path = folder.join(format!(".{name}.{:016x}.part", random()?));
-            match new.open(&path) {
+            let path = CString::new(path.into_os_string().into_vec())?;
+            match new.open(path_of(&path)) {
                 Err(why) if why.kind() == io::ErrorKind::AlreadyExists && tries < TRIES => {
                     tries += 1;
                 }
-                file => {
-                    return file.map(|file| Part {
-                        file,
-                        path,
-                        named: false,
-                    })
-                }
+                file => return file.map(|file| Part::stands(file, path)),
             }
         }
     }
 
+    fn stands(file: File, path: CString) -> Part {
+        part_stands(Some(&path));
+        Part {
+            file,
+            path,
+            named: false,
+        }
+    }
+
     fn rename(&mut self, path: &Path) -> io::Result<()> {
-        fs::rename(&self.path, path)?;
+        fs::rename(path_of(&self.path), path)?;
         self.named = true;
         Ok(())
     }
@@ -127,7 +134,12 @@ impl Drop for Part {
     /// That the writing failed is told already.
     fn drop(&mut self) {
         if !self.named {
-            let _ = fs::remove_file(&self.path);
+            let _ = fs::remove_file(path_of(&self.path));
         }
+        part_stands(None);
     }
+}
+
+fn path_of(path: &CStr) -> &Path {
+    Path::new(OsStr::from_bytes(path.to_bytes()))
 }

@@ -1,21 +1,36 @@
 //! What the command asks of the system and Rust's library has no way for.
 
-use std::ffi::{c_int, c_void};
+use std::ffi::{c_char, c_int, c_void, CStr};
 use std::io;
 use std::os::fd::{IntoRawFd, OwnedFd};
-use std::sync::atomic::{AtomicBool, Ordering};
+use std::ptr;
+use std::sync::atomic::{AtomicBool, AtomicPtr, Ordering};
 
 const STANDARD_OUTPUT: c_int = 1;
+const STANDARD_ERROR: c_int = 2;
 /// The command of `fcntl` for how a file was opened, and the bits of its answer
 /// that say whether it can be written.
 const HOW_OPENED: c_int = 3;
 const ACCESS: c_int = 3;
 const READ_ONLY: c_int = 0;
+/// The signals of memory that is not there, that of a file that may not grow, and
+/// what has a signal left alone or ignored.
+const FAULTS: [c_int; 2] = [7, 11];
+const FILE_SIZE: c_int = 25;
+const DEFAULT: usize = 0;
+const IGNORED: usize = 1;
+/// The allocator's number for how many stores of memory there may be.
+const MOST_STORES: c_int = -8;
 
 extern "C" {
+    fn _exit(status: c_int) -> !;
     fn close(file: c_int) -> c_int;
     fn fcntl(file: c_int, command: c_int, ...) -> c_int;
     fn getrandom(bytes: *mut c_void, length: usize, flags: u32) -> isize;
+    fn mallopt(parameter: c_int, value: c_int) -> c_int;
+    fn signal(number: c_int, handler: usize) -> usize;
+    fn unlink(path: *const c_char) -> c_int;
+    fn write(file: c_int, bytes: *const c_void, length: usize) -> isize;
 }
 
 /// A number that nobody can guess.
@@ -29,16 +44,44 @@ pub fn random() -> io::Result<u64> {
     Ok(u64::from_ne_bytes(bytes))
 }
 
+/// Runs before Rust's library does, which before `main` already hides a closed
+/// standard output and ends the process where memory is short.
+#[used]
+#[link_section = ".init_array"]
+static BEFORE_RUST: extern "C" fn() = before_rust;
+
+extern "C" fn before_rust() {
+    ask_for_output();
+    set_signals(&FAULTS, IGNORED);
+}
+
+/// What has to be set once Rust's library has begun: faults end the process
+/// again, and a write beyond the limit of a file's size does not, but fails as
+/// on a full disk. And all threads take from one store of memory, where a store
+/// for each would ask for much more than is used.
+pub fn begin() {
+    set_signals(&FAULTS, DEFAULT);
+    set_signals(&[FILE_SIZE], IGNORED);
+    // SAFETY: it sets a number of the allocator.
+    unsafe { mallopt(MOST_STORES, 1) };
+}
+
+/// Where faults are left alone, Rust's library asks for a stack to handle them
+/// on, once for each thread, and ends the process by a signal if there is none.
+/// That these are ignored while it looks spares it the stack.
+fn set_signals(numbers: &[c_int], handler: usize) {
+    for number in numbers {
+        // SAFETY: no handler runs, the signals are ignored or left alone.
+        unsafe { signal(*number, handler) };
+    }
+}
+
 /// Whether standard output could be written when the process began.
 static WRITABLE: AtomicBool = AtomicBool::new(false);
 
-/// Runs before `main` and before Rust's library, which opens `/dev/null` in the
-/// place of a closed standard output: what is printed there is lost.
-#[used]
-#[link_section = ".init_array"]
-static BEFORE_MAIN: extern "C" fn() = ask_for_output;
-
-extern "C" fn ask_for_output() {
+/// Rust's library opens `/dev/null` in the place of a closed standard output, and
+/// what is printed there is lost.
+fn ask_for_output() {
     // SAFETY: it asks how a file was opened, if it is open at all.
     let how = unsafe { fcntl(STANDARD_OUTPUT, HOW_OPENED) };
     let writable = how >= 0 && how & ACCESS != READ_ONLY;
@@ -58,5 +101,30 @@ pub fn close_told(file: impl Into<OwnedFd>) -> io::Result<()> {
     match unsafe { close(file) } {
         0 => Ok(()),
         _ => Err(io::Error::last_os_error()),
+    }
+}
+
+/// The path of the part that stands on the disk now.
+static PART: AtomicPtr<c_char> = AtomicPtr::new(ptr::null_mut());
+
+/// Says which part has to go where the process gives up; none is none. Its path
+/// has to stay until the next one is said.
+pub fn part_stands(path: Option<&CStr>) {
+    let path = path.map_or(ptr::null(), CStr::as_ptr);
+    PART.store(path.cast_mut(), Ordering::SeqCst);
+}
+
+/// Ends the process where there is no memory, and asks for none: takes the part
+/// away, says why, status 2.
+pub fn give_up() -> ! {
+    const WORDS: &[u8] = b"ttw: no memory is left\n";
+    let part = PART.load(Ordering::SeqCst);
+    // SAFETY: the path stays as long as it is said; the words are a constant.
+    unsafe {
+        if !part.is_null() {
+            unlink(part);
+        }
+        write(STANDARD_ERROR, WORDS.as_ptr().cast(), WORDS.len());
+        _exit(2)
     }
 }

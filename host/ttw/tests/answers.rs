@@ -245,15 +245,3 @@ fn help_and_version_are_everywhere() {
         assert_eq!(folder.ttw(&["help", topic]).status, Some(0));
     }
 }
-
-#[test]
-fn a_system_without_threads_is_enough() {
-    let pair = exact_pair(&mut Rng::new(64), 300, 300);
-    let folder = Folder::with_pair(&pair);
-    let usual = folder.ttw(&["labels", "changes1", "changes2"]);
-    // No address space is left for the stack of a thread.
-    let line = "ulimit -v 3000000; exec \"$TTW\" labels changes1 changes2";
-    let without = folder.shell(&format!("export RUST_MIN_STACK=4000000000; {line}"));
-    assert_eq!(without.status, usual.status);
-    assert!(without.out == usual.out, "{}", without.told);
-}

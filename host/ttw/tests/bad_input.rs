@@ -428,19 +428,6 @@ fn output_that_nobody_reads() {
 }
 
 #[test]
-fn a_disk_on_which_nothing_more_can_be_written() {
-    let folder = worked();
-    folder.put("AB1.pack", b"older");
-    // No file may grow: each write fails as it does on a full disk.
-    let pack = "exec \"$TTW\" pack changes1 changes2 --all --out .";
-    let run = folder.shell(&format!("trap '' XFSZ; ulimit -f 0; {pack}"));
-    let why = "cannot write ./AB1.pack: File too large (os error 27)";
-    run.only_tells(2, &format!("ttw: {why}\n{NOT_WRITTEN}"));
-    assert_eq!(folder.read("AB1.pack"), b"older");
-    assert_eq!(folder.names("."), ["AB1.pack", "changes1", "changes2"]);
-}
-
-#[test]
 fn a_full_disk() {
     let folder = worked();
     fs::create_dir(folder.0.join("disk")).expect("a folder");
@@ -456,7 +443,7 @@ fn a_full_disk() {
         exit $status'";
     let run = folder.shell(line);
     if run.status == Some(77) || run.told.contains("unshare") {
-        return; // Not allowed here; the test above stands in.
+        return; // Not allowed here; a limit of a file's size stands in.
     }
     let why = "cannot write disk/AB1.pack: No space left on device (os error 28)";
     let told = format!("ttw: {why}\n{NOT_WRITTEN}\n");

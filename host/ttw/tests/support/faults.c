@@ -2,11 +2,13 @@
  * and has those fail that the environment names:
  *
  *   FAULTS_LOG=FILE                     each such call becomes a line of this file
- *   FAULTS_FAIL=CALL FIRST LAST ERROR   of the calls of that name the FIRST to the LAST fail with this error number
+ *   FAULTS_FAIL=CALL FIRST LAST ERROR   of the calls of that name the FIRST to the LAST fail with this error number;
+ *                                       `memory` is what is asked for while a part stands
  *   FAULTS_FILE=TEXT                    with FAULTS_FAIL: counted are calls on files with this in their name alone
  *   FAULTS_PLACE=KIND TIMES             before the first so many creations of a part something stands in its place:
  *                                       link (to the file `victim`) or fifo
  *   FAULTS_PID=NUMBER                   the process has this number
+ *   FAULTS_MEMORY=BYTES                 the program has no more memory than this at a time
  */
 #define _GNU_SOURCE
 #include <dlfcn.h>
@@ -14,6 +16,7 @@
 #include <fcntl.h>
 #include <limits.h>
 #include <link.h>
+#include <malloc.h>
 #include <pthread.h>
 #include <stdarg.h>
 #include <stdint.h>
@@ -33,11 +36,15 @@ extern void *__libc_malloc(size_t size);
 extern void *__libc_calloc(size_t count, size_t size);
 extern void *__libc_realloc(void *old, size_t size);
 extern void *__libc_memalign(size_t alignment, size_t size);
+extern void __libc_free(void *old);
 
 static char failing[32];
 static int first, last, error, seen;
 static char place[8];
 static int places;
+/* How much memory the program may have, 0 for any, and how much it has. */
+static size_t memory, taken;
+static int part_stands;
 /* Where the program's own code stands. */
 static uintptr_t code_start, code_end;
 
@@ -60,12 +67,14 @@ __attribute__((constructor)) static void read_environment(void)
 {
     const char *fail = getenv("FAULTS_FAIL");
     const char *placed = getenv("FAULTS_PLACE");
+    const char *most = getenv("FAULTS_MEMORY");
 
     dl_iterate_phdr(find_code, NULL);
     if (fail != NULL && sscanf(fail, "%31s %d %d %d", failing, &first, &last, &error) != 4)
         abort();
     if (placed != NULL && sscanf(placed, "%7s %d", place, &places) != 2)
         abort();
+    memory = most == NULL ? 0 : strtoul(most, NULL, 10);
     alarm(SECONDS);
 }
 
@@ -145,7 +154,10 @@ int open64(const char *path, int flags, ...)
         occupy(path);
         say("create %s %s %o\n", base(path), (flags & O_EXCL) != 0 ? "exclusive" : "shared", mode);
     }
-    return fails("open", base(path)) ? -1 : REAL(open64)(path, flags, mode);
+    if (fails("open", base(path)))
+        return -1;
+    part_stands |= (flags & O_EXCL) != 0;
+    return REAL(open64)(path, flags, mode);
 }
 
 int fsync(int file)
@@ -189,36 +201,56 @@ int pthread_create(pthread_t *thread, const pthread_attr_t *attributes, void *(*
 }
 
 /* Memory is refused to the program alone: the C library itself gives up where it gets none for a thread's own data. */
-static int refused(void *caller)
+static int is_refused(void *caller, size_t size)
 {
-    uintptr_t place = (uintptr_t)caller;
+    uintptr_t at = (uintptr_t)caller;
+    int is_more = memory != 0 && taken + size > memory;
 
-    if (failing[0] != 'm' || place < code_start || place >= code_end || !fails("memory", ""))
+    if (at < code_start || at >= code_end || !(is_more || (part_stands && fails("memory", ""))))
         return 0;
     say("no memory\n");
     errno = ENOMEM;
     return 1;
 }
 
+/* Counts memory that was given. */
+static void *given(void *piece)
+{
+    __sync_add_and_fetch(&taken, malloc_usable_size(piece));
+    return piece;
+}
+
+/* Counts memory that goes back. */
+static void *going(void *piece)
+{
+    __sync_sub_and_fetch(&taken, malloc_usable_size(piece));
+    return piece;
+}
+
 void *malloc(size_t size)
 {
-    return refused(__builtin_return_address(0)) ? NULL : __libc_malloc(size);
+    return is_refused(__builtin_return_address(0), size) ? NULL : given(__libc_malloc(size));
 }
 
 void *calloc(size_t count, size_t size)
 {
-    return refused(__builtin_return_address(0)) ? NULL : __libc_calloc(count, size);
+    return is_refused(__builtin_return_address(0), count * size) ? NULL : given(__libc_calloc(count, size));
 }
 
 void *realloc(void *old, size_t size)
 {
-    return refused(__builtin_return_address(0)) ? NULL : __libc_realloc(old, size);
+    return is_refused(__builtin_return_address(0), size) ? NULL : given(__libc_realloc(going(old), size));
 }
 
-int posix_memalign(void **memory, size_t alignment, size_t size)
+int posix_memalign(void **piece, size_t alignment, size_t size)
 {
-    if (refused(__builtin_return_address(0)))
+    if (is_refused(__builtin_return_address(0), size))
         return ENOMEM;
-    *memory = __libc_memalign(alignment, size);
-    return *memory == NULL ? ENOMEM : 0;
+    *piece = given(__libc_memalign(alignment, size));
+    return *piece == NULL ? ENOMEM : 0;
+}
+
+void free(void *old)
+{
+    __libc_free(going(old));
 }
