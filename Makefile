@@ -8,11 +8,14 @@ SEED = 1
 
 CARGO = ../scripts/x86-64 cargo --offline --quiet
 
+# For scripts/install, whatever bytes it has. DESTDIR, where it is given, make hands on by itself.
+export PREFIX
+
 help:
 	@echo 'make run       print the labels of the sample files and cut their packs'
 	@echo 'make test      prove every crate, try the must-fail edits, run the host tests'
 	@echo 'make ttw       build the command ttw: host/target/release/ttw'
-	@echo 'make install   copy library, header, pkg-config file and ttw below PREFIX=/usr/local'
+	@echo 'make install   copy library, header, pkg-config file and ttw below PREFIX=/usr/local, staged in DESTDIR'
 	@echo 'make bench     time each call beside a plain compiled version'
 	@echo 'make fuzz      try the calls on mutated input for SECONDS=60 from SEED=1'
 	@echo 'make annotate  print the pack of docs/PACK.md byte by byte'
@@ -41,7 +44,7 @@ ttw: library
 	@cd host && $(CARGO) build --release --package ttw
 
 install: ttw
-	@scripts/install '$(PREFIX)'
+	@scripts/install "$$PREFIX"
 
 # The same for the handset's machine. What stands below /usr/local is this machine's, so PREFIX has to be said.
 library-arm:
@@ -53,7 +56,7 @@ test-arm:
 install-arm:
 	@[ '$(origin PREFIX)' != file ] || { echo 'usage: make install-arm PREFIX=..' >&2; exit 2; }
 	@$(MAKE) --no-print-directory library-arm
-	@scripts/install --arm '$(PREFIX)'
+	@scripts/install --arm "$$PREFIX"
 
 bench: library
 	@cd host && $(CARGO) run --release --package ttw-bench

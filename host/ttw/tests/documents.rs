@@ -22,7 +22,8 @@ fn desk() -> Folder {
         symlink(root().join(name), folder.0.join(name)).expect("a link");
     }
     let mut install = Command::new(root().join("scripts/install"));
-    run(install.args(["usr", TTW]).current_dir(&folder.0)).prints("");
+    install.args(["usr", TTW]).env_remove("DESTDIR");
+    run(install.current_dir(&folder.0)).prints("");
     let rt = folder.put("usr/bin/rt", b"#!/bin/sh\nexit 0\n");
     fs::set_permissions(rt, fs::Permissions::from_mode(0o755)).expect("a program");
     folder
