@@ -27,7 +27,7 @@ struct pack {
     size_t length;
 };
 
-/* Reads an open file. The library takes no null pointer, so an empty file gets a byte too. */
+/* Reads an open file. For an empty one malloc may answer null, which the library takes with a length of 0. */
 static int read_pack(FILE *file, struct pack *pack)
 {
     long length;
@@ -36,8 +36,8 @@ static int read_pack(FILE *file, struct pack *pack)
         return 0;
     rewind(file);
     pack->length = (size_t)length;
-    pack->bytes = malloc(pack->length + 1);
-    if (pack->bytes == NULL)
+    pack->bytes = malloc(pack->length);
+    if (pack->bytes == NULL && pack->length > 0)
         return 0;
     return fread(pack->bytes, 1, pack->length, file) == pack->length;
 }

@@ -1,10 +1,10 @@
 /* Ttwibonal: reads Royal Mail's Changes files, prints labels and cuts packs for handsets.
  *
- * A slice is a pointer and a length; a length of 0 takes any pointer that is not null. Every call may be made with any
- * bytes and any numbers, and has nothing to check beforehand. Nothing is kept between calls and nothing is shared, so
- * calls may run on several threads at once, on the same slices too where they only read them. No call writes into the
- * slices that it only reads, asks the system for memory, or opens a file. What a call writes (`out`, `*bytes`) may overlap
- * nothing else that it is lent.
+ * A slice is a pointer and a length; a length of 0 takes any pointer, null too. `bytes`, where a call takes it, is the
+ * place of a number and may not be null. Every call may be made with any bytes and any numbers, and has nothing to check
+ * beforehand. Nothing is kept between calls and nothing is shared, so calls may run on several threads at once, on the
+ * same slices too where they only read them. No call writes into the slices that it only reads, asks the system for
+ * memory, or opens a file. What a call writes (`out`, `*bytes`) may overlap nothing else that it is lent.
  *
  * Stack: a call on files takes less than 2,048 bytes, labels from files less than 4,096, opening a pack or labels from a
  * pack less than 80 KiB, building a pack less than 192 KiB. A thread that is to build needs its stack sized for that.

@@ -2,9 +2,7 @@
 //! warning, linked with the library and run on document 01's pair.
 
 use paper::make::worked_pair;
-use std::path::{Path, PathBuf};
-use std::process::{id, Command, Output};
-use std::{env, fs};
+use trials::c::{printed, Folder};
 
 const PRINTED: &str = "\
 table: 7
@@ -66,65 +64,13 @@ table with another header: refused 2, file 1, second 0, detail 1
 points with another letter: refused 4, file 2, second 41, detail 3
 ";
 
-/// A folder of its own for one run of a test, removed with all it holds.
-struct Folder(PathBuf);
-
-impl Folder {
-    fn new(name: &str) -> Folder {
-        let path = env::temp_dir().join(format!("ttwibonal-{name}-{}", id()));
-        fs::create_dir(&path).expect("a new folder");
-        Folder(path)
-    }
-
-    /// A file of these bytes in the folder.
-    fn file(&self, name: &str, bytes: &[u8]) -> PathBuf {
-        let path = self.0.join(name);
-        fs::write(&path, bytes).expect("a written file");
-        path
-    }
-}
-
-impl Drop for Folder {
-    fn drop(&mut self) {
-        // A folder that stays behind is no reason to fail.
-        let _ = fs::remove_dir_all(&self.0);
-    }
-}
-
-/// What a command printed; it has to end well and to print no error.
-fn printed(command: &mut Command) -> String {
-    let Output {
-        status,
-        stdout,
-        stderr,
-    } = command.output().expect("the command starts");
-    let errors = String::from_utf8_lossy(&stderr);
-    assert!(status.success() && errors.is_empty(), "{status}: {errors}");
-    String::from_utf8_lossy(&stdout).into_owned()
-}
-
-/// The C program, compiled into the folder.
-fn compiled(folder: &Folder) -> PathBuf {
-    let here = Path::new(env!("CARGO_MANIFEST_DIR"));
-    let program = folder.0.join("header");
-    let mut cc = Command::new("cc");
-    cc.args(["-std=c11", "-Wall", "-Wextra", "-Werror", "-pedantic"])
-        .arg("-I")
-        .arg(here.join("../../include"))
-        .arg(here.join("tests/header.c"))
-        .arg(here.join("../../target/staticlib/libttwibonal.a"))
-        .arg("-o")
-        .arg(&program);
-    assert_eq!(printed(&mut cc), "");
-    program
-}
-
 #[test]
 fn a_c_program_asks_every_call_about_document_01s_pair() {
     let folder = Folder::new("header");
     let pair = worked_pair();
-    let table = folder.file("changes1", &pair.table);
-    let points = folder.file("changes2", &pair.points);
-    let mut program = Command::new(compiled(&folder));
-    assert_eq!(printed(program.arg(table).arg(points)), PRINTED);
+    let mut program = folder.program("header");
+    program
+        .arg(folder.file("changes1", &pair.table))
+        .arg(folder.file("changes2", &pair.points));
+    assert_eq!(printed(&mut program), PRINTED);
 }

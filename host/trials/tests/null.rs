@@ -1,0 +1,67 @@
+//! A null pointer with length 0: each call takes it for each of its slices, and
+//! answers as it does for any other slice of no bytes.
+
+use paper::make::{worked_pack, worked_pair};
+use trials::c::{printed, Folder};
+
+/// Call and slice, then the answer's refusal, file and detail. Slices: t table,
+/// p points, k pack, c code, o out.
+const ANSWERS: &str = "\
+ttw_table t: 1 1 0
+ttw_points p: 1 2 0
+ttw_views p: 1 2 0
+ttw_letter p: 1 2 0
+ttw_live p: 1 2 0
+ttw_live c: 12 0 0
+ttw_label t: 1 1 0
+ttw_label p: 1 2 0
+ttw_label o: 10 0 52
+ttw_code_label t: 1 1 0
+ttw_code_label p: 1 2 0
+ttw_code_label c: 12 0 0
+ttw_code_label o: 10 0 52
+ttw_labels t: 1 1 0
+ttw_labels p: 1 2 0
+ttw_labels o: 10 0 52
+ttw_code_labels t: 1 1 0
+ttw_code_labels p: 1 2 0
+ttw_code_labels c: 12 0 0
+ttw_code_labels o: 10 0 52
+ttw_build t: 1 1 0
+ttw_build p: 1 2 0
+ttw_build c: 12 0 0
+ttw_build o: 10 0 129
+ttw_pack k: 11 0 1
+ttw_pack_label k: 11 0 1
+ttw_pack_label o: 10 0 52
+ttw_pack_labels k: 11 0 1
+ttw_pack_labels o: 10 0 52
+";
+
+#[test]
+fn every_call_takes_a_null_pointer_with_length_0() {
+    let folder = Folder::new("null");
+    let pair = worked_pair();
+    let mut program = folder.program("null");
+    program
+        .arg(folder.file("changes1", &pair.table))
+        .arg(folder.file("changes2", &pair.points))
+        .arg(folder.file("pack", &worked_pack()));
+    assert_eq!(printed(&mut program), ANSWERS);
+}
+
+/// So that a call that is added is tried too.
+#[test]
+fn the_calls_tried_are_those_of_the_header() {
+    let header = include_str!("../../../include/ttwibonal.h");
+    let declared = header
+        .lines()
+        .filter_map(|line| line.strip_prefix("uint64_t ")?.split('(').next());
+    let mut declared: Vec<&str> = declared.collect();
+    let asked = ANSWERS.lines().filter_map(|line| line.split(' ').next());
+    let mut asked: Vec<&str> = asked.collect();
+    declared.sort_unstable();
+    asked.sort_unstable();
+    asked.dedup();
+    assert_eq!(asked, declared);
+}
