@@ -1,22 +1,20 @@
 //! One case: inputs from a seed and a number, and every call on them.
 
 use crate::edge::{Edge, Flush};
-use crate::mutate;
+use crate::files::{number_of, Files};
+use crate::reached::Reached;
+use crate::{files, limits, mutate};
 use paper::make::{self, Rng};
 use paper::{packed, packed_run, Refusal, Run};
 use ttw::calls;
 
-/// What a case's calls were answered with: how often each refusal, 0 for a
-/// value.
-pub type Reached = [u64; 13];
-
 /// The inputs of a case.
 pub struct Case {
-    pub table: Vec<u8>,
-    pub points: Vec<u8>,
-    pub pack: Vec<u8>,
-    pub code: Vec<u8>,
-    pub number: u64,
+    pub files: Files,
+    /// A pack that may be mutated, and one at a limit.
+    pub packs: [Vec<u8>; 2],
+    /// The number of a point.
+    pub point: u64,
     pub room: usize,
     /// How many labels a run asks for, and the room for them.
     pub count: u64,
@@ -26,37 +24,17 @@ pub struct Case {
 /// The case of that number.
 pub fn make(seed: u64, number: u64) -> Case {
     let mut rng = Rng::new(seed.wrapping_mul(0x9E37_79B9) ^ number.wrapping_mul(0xD129_0B26_11D3));
-    let most = *rng.pick(&[4, 12, 30, 60, 200]);
-    let pair = make::pair(&mut rng, most);
-    let code = code_of(&mut rng, &pair);
-    let mut pack = pack_of(&mut rng, &pair, &code);
-    let (mut table, mut points) = (pair.table, pair.points);
-    if rng.one_in(2) {
-        mutate::file(&mut rng, &mut table, 169);
-    }
-    if rng.one_in(2) {
-        mutate::file(&mut rng, &mut points, 168);
-    }
+    let files = files::of_case(&mut rng, number);
+    let mut pack = pack_of(&mut rng, &files.pair, &files.code);
     mutate::pack(&mut rng, &mut pack);
+    let limit = &limits::ALL[number as usize % limits::ALL.len()];
     Case {
-        table,
-        points,
-        pack,
-        code,
-        number: number_of(&mut rng),
+        files,
+        packs: [pack, limits::pack(&mut rng, limit)],
+        point: number_of(&mut rng, 8),
         room: rng.below(600),
-        count: number_of(&mut rng),
+        count: number_of(&mut rng, 8),
         run_room: rng.below(2_000),
-    }
-}
-
-/// Mostly a code of the pair, sometimes another or a malformed one.
-fn code_of(rng: &mut Rng, pair: &make::Pair) -> Vec<u8> {
-    match rng.below(8) {
-        0 => make::bad_outward(rng),
-        1 => make::outward(rng),
-        _ if pair.views.is_empty() => b"AB1 ".to_vec(),
-        _ => make::padded(&rng.pick(&pair.views).outward, 4),
     }
 }
 
@@ -72,15 +50,6 @@ fn pack_of(rng: &mut Rng, pair: &make::Pair, code: &[u8]) -> Vec<u8> {
     }
 }
 
-/// Mostly a low number, as of a view that there may be.
-fn number_of(rng: &mut Rng) -> u64 {
-    match rng.below(10) {
-        0 => u64::MAX - rng.below(2) as u64,
-        1 => 1 << (rng.below(64)),
-        _ => rng.below(12) as u64,
-    }
-}
-
 /// Asks every call about the case, its slices flush at either end.
 pub fn run(case: &Case, reached: &mut Reached) {
     for flush in Flush::BOTH {
@@ -89,6 +58,9 @@ pub fn run(case: &Case, reached: &mut Reached) {
         lent.ask_labels(case, reached);
         lent.ask_runs(case, reached);
         lent.ask_build(case, reached);
+        for pack in &case.packs {
+            ask_pack(case, pack, flush, reached);
+        }
     }
 }
 
@@ -97,7 +69,6 @@ struct Lent {
     flush: Flush,
     table: Edge,
     points: Edge,
-    pack: Edge,
     code: Edge,
 }
 
@@ -105,94 +76,96 @@ impl Lent {
     fn new(case: &Case, flush: Flush) -> Lent {
         Lent {
             flush,
-            table: Edge::readable(&case.table, flush),
-            points: Edge::readable(&case.points, flush),
-            pack: Edge::readable(&case.pack, flush),
-            code: Edge::readable(&case.code, flush),
+            table: Edge::readable(&case.files.table, flush),
+            points: Edge::readable(&case.files.points, flush),
+            code: Edge::readable(&case.files.code, flush),
         }
     }
 
     /// The calls that only read.
     fn ask_reading_calls(&self, case: &Case, reached: &mut Reached) {
         let (table, points) = (self.table.bytes(), self.points.bytes());
-        let (pack, code) = (self.pack.bytes(), self.code.bytes());
+        let code = self.code.bytes();
         let count = |plain: Result<usize, Refusal>| plain.map(|value| value as u64);
-        let view = case.number;
+        let view = case.files.view;
         let mut same = |call, ours, plain| same(call, ours, plain, reached);
         same(
             "table",
             calls::table(table),
-            count(paper::check_table(&case.table)),
+            count(paper::check_table(&case.files.table)),
         );
         same(
             "points",
             calls::points(points),
-            count(paper::check_points(&case.points)),
+            count(paper::check_points(&case.files.points)),
         );
         same(
             "views",
             calls::views(points),
-            count(paper::views(&case.points)),
+            count(paper::views(&case.files.points)),
         );
-        let letter = paper::letter(&case.points, view).map(u64::from);
+        let letter = paper::letter(&case.files.points, view).map(u64::from);
         same("letter", calls::letter(points, view), letter);
-        let live = count(paper::live(&case.points, &case.code));
+        let live = count(paper::live(&case.files.points, &case.files.code));
         same("live", calls::live(points, code), live);
-        same("pack", calls::pack(pack), count(paper::open(&case.pack)));
     }
 
     /// The calls that print a label.
     fn ask_labels(&self, case: &Case, reached: &mut Reached) {
         let (table, points) = (self.table.bytes(), self.points.bytes());
-        let (pack, code) = (self.pack.bytes(), self.code.bytes());
-        let Case {
-            number: k, room, ..
-        } = *case;
+        let code = self.code.bytes();
+        let (view, k, room) = (case.files.view, case.files.nth, case.room);
         let mut written = |call, room, ours: &dyn Fn(&mut [u8]) -> u64, plain: &Plain| {
             written(call, self.flush, room, ours, plain, reached)
         };
         written(
             "label",
             room,
-            &|out| calls::label(table, points, k, out),
-            &|out| paper::label(&case.table, &case.points, k, out),
+            &|out| calls::label(table, points, view, out),
+            &|out| paper::label(&case.files.table, &case.files.points, view, out),
         );
         written(
             "code label",
             room,
             &|out| calls::code_label(table, points, code, k, out),
-            &|out| paper::code_label(&case.table, &case.points, &case.code, k, out),
-        );
-        written(
-            "pack label",
-            room,
-            &|out| calls::pack_label(pack, k, out),
-            &|out| paper::pack_label(&case.pack, k, out),
+            &|out| {
+                paper::code_label(
+                    &case.files.table,
+                    &case.files.points,
+                    &case.files.code,
+                    k,
+                    out,
+                )
+            },
         );
     }
 
     /// The calls that print a run of labels.
     fn ask_runs(&self, case: &Case, reached: &mut Reached) {
         let (table, points) = (self.table.bytes(), self.points.bytes());
-        let (pack, code) = (self.pack.bytes(), self.code.bytes());
-        let (first, count) = (case.number, case.count);
+        let code = self.code.bytes();
+        let (view, k, count) = (case.files.view, case.files.nth, case.count);
         let mut run = |call, ours: &Ours, plain: &PlainRun| {
             run_written(call, self.flush, case.run_room, ours, plain, reached)
         };
         run(
             "labels",
-            &|out, bytes| calls::labels(table, points, first, count, out, bytes),
-            &|out| paper::labels(&case.table, &case.points, first, count, out),
+            &|out, bytes| calls::labels(table, points, view, count, out, bytes),
+            &|out| paper::labels(&case.files.table, &case.files.points, view, count, out),
         );
         run(
             "code labels",
-            &|out, bytes| calls::code_labels(table, points, code, first, count, out, bytes),
-            &|out| paper::code_labels(&case.table, &case.points, &case.code, first, count, out),
-        );
-        run(
-            "pack labels",
-            &|out, bytes| calls::pack_labels(pack, first, count, out, bytes),
-            &|out| paper::pack_labels(&case.pack, first, count, out),
+            &|out, bytes| calls::code_labels(table, points, code, k, count, out, bytes),
+            &|out| {
+                paper::code_labels(
+                    &case.files.table,
+                    &case.files.points,
+                    &case.files.code,
+                    k,
+                    count,
+                    out,
+                )
+            },
         );
     }
 
@@ -201,7 +174,9 @@ impl Lent {
         let (table, points) = (self.table.bytes(), self.points.bytes());
         let code = self.code.bytes();
         let ours = |out: &mut [u8]| calls::build(table, points, code, out);
-        let plain = |out: &mut [u8]| paper::build(&case.table, &case.points, &case.code, out);
+        let plain = |out: &mut [u8]| {
+            paper::build(&case.files.table, &case.files.points, &case.files.code, out)
+        };
         let mut build = |room| written("build", self.flush, room, &ours, &plain, reached);
         let answer = build(case.room);
         if answer >> 56 == 10 {
@@ -212,13 +187,37 @@ impl Lent {
     }
 }
 
+/// The calls on a pack.
+fn ask_pack(case: &Case, pack: &[u8], flush: Flush, reached: &mut Reached) {
+    let lent = Edge::readable(pack, flush);
+    let (ours, k, count) = (lent.bytes(), case.point, case.count);
+    let points = paper::open(pack).map(|points| points as u64);
+    same("pack", calls::pack(ours), points, reached);
+    written(
+        "pack label",
+        flush,
+        case.room,
+        &|out| calls::pack_label(ours, k, out),
+        &|out| paper::pack_label(pack, k, out),
+        reached,
+    );
+    run_written(
+        "pack labels",
+        flush,
+        case.run_room,
+        &|out, bytes| calls::pack_labels(ours, k, count, out, bytes),
+        &|out| paper::pack_labels(pack, k, count, out),
+        reached,
+    );
+}
+
 /// A call of the second program that writes.
 type Plain<'a> = dyn Fn(&mut [u8]) -> Result<usize, Refusal> + 'a;
 
 /// Asks both programs to write into a buffer of telling bytes at an edge, and
 /// compares answer and buffer.
 fn written(
-    call: &str,
+    call: &'static str,
     flush: Flush,
     room: usize,
     ours: &dyn Fn(&mut [u8]) -> u64,
@@ -242,7 +241,7 @@ type PlainRun<'a> = dyn Fn(&mut [u8]) -> Result<Run, Refusal> + 'a;
 /// The same for a run, which also tells how many bytes it wrote: that number
 /// lies at an edge too.
 fn run_written(
-    call: &str,
+    call: &'static str,
     flush: Flush,
     room: usize,
     ours: &Ours,
@@ -258,7 +257,7 @@ fn run_written(
         answer == plain,
         "{call}: the library answers {answer:#x}, the second program {plain:#x}"
     );
-    reached[(answer >> 56) as usize] += 1;
+    reached.count(call, answer);
     assert_eq!(*bytes.number_mut(), expected_bytes, "{call}: bytes told");
     assert!(lent.bytes() == expected, "{call}: the buffers differ");
     assert!(
@@ -272,10 +271,10 @@ fn telling(room: usize) -> Vec<u8> {
     (0..room).map(|i| (i * 7 + 1) as u8).collect()
 }
 
-fn same(call: &str, answer: u64, plain: Result<u64, Refusal>, reached: &mut Reached) {
+fn same(call: &'static str, answer: u64, plain: Result<u64, Refusal>, reached: &mut Reached) {
     assert!(
         answer == packed(plain),
         "{call}: the library answers {answer:#x}, the second program {plain:?}"
     );
-    reached[(answer >> 56) as usize] += 1;
+    reached.count(call, answer);
 }

@@ -1,12 +1,15 @@
-//! `fuzz [--seconds S | --cases N] [--seed N] [--case N]`: runs cases until the
-//! time is over or so many were run, or one case alone.
+//! `fuzz [--seconds S | --cases N] [--seed N] [--case N] [--enough N]`: runs cases
+//! until the time is over or so many were run, or one case alone. Says how often
+//! each kind of answer came; where enough cases do not reach all of them, that is
+//! a failure.
 
+use fuzz::reached::{Reached, ENOUGH};
 use fuzz::{case, trap};
 use std::panic::{self, AssertUnwindSafe};
 use std::process::ExitCode;
 use std::time::{Duration, Instant};
 
-const USAGE: &str = "usage: fuzz [--seconds S | --cases N] [--seed N] [--case N]";
+const USAGE: &str = "usage: fuzz [--seconds S | --cases N] [--seed N] [--case N] [--enough N]";
 
 /// What is to be run.
 struct Plan {
@@ -14,6 +17,8 @@ struct Plan {
     first: u64,
     cases: u64,
     time: Duration,
+    /// After so many cases each kind of answer has to have come.
+    enough: u64,
 }
 
 fn plan(arguments: &[String]) -> Option<Plan> {
@@ -22,6 +27,7 @@ fn plan(arguments: &[String]) -> Option<Plan> {
         first: 1,
         cases: u64::MAX - 1,
         time: Duration::from_secs(60),
+        enough: ENOUGH,
     };
     for pair in arguments.chunks(2) {
         let [name, value] = pair else { return None };
@@ -31,6 +37,7 @@ fn plan(arguments: &[String]) -> Option<Plan> {
             "--seed" => plan.seed = value,
             "--cases" => (plan.cases, plan.time) = (value, Duration::MAX),
             "--case" => (plan.first, plan.cases) = (value, 1),
+            "--enough" => plan.enough = value,
             _ => return None,
         }
     }
@@ -44,7 +51,7 @@ fn main() -> ExitCode {
         return ExitCode::from(2);
     };
     trap::watch();
-    let mut reached = case::Reached::default();
+    let mut reached = Reached::default();
     let start = Instant::now();
     let mut done = 0;
     while done < plan.cases && start.elapsed() < plan.time {
@@ -58,9 +65,17 @@ fn main() -> ExitCode {
         done += 1;
     }
     println!("cases: {done}, seed {}, all answered alike", plan.seed);
-    println!("values: {}", reached[0]);
-    for (refusal, times) in reached.iter().enumerate().skip(1) {
-        println!("refusal {refusal}: {times}");
+    print!("{reached}");
+    judge(done, plan.enough, &reached)
+}
+
+/// A failure where enough cases reached too little.
+fn judge(done: u64, enough: u64, reached: &Reached) -> ExitCode {
+    let missing = reached.missing();
+    if done < enough || missing.is_empty() {
+        return ExitCode::SUCCESS;
     }
-    ExitCode::SUCCESS
+    eprintln!("not reached in {done} cases:");
+    missing.iter().for_each(|kind| eprintln!("{kind}"));
+    ExitCode::FAILURE
 }

@@ -1,5 +1,5 @@
-//! A short run that ends, is repeatable and reaches every refusal; and that the
-//! edges and the trap would tell.
+//! A short run that ends, is repeatable and reaches every kind of answer; and
+//! that the edges and the trap would tell.
 
 use fuzz::edge::{Edge, Flush};
 use fuzz::trap;
@@ -11,22 +11,56 @@ fn fuzz(arguments: &[&str]) -> Output {
     fuzz.args(arguments).output().expect("the command starts")
 }
 
+/// How often a call was asked.
+fn asked(out: &str, call: &str) -> u64 {
+    let start = format!("{call}: ");
+    let lines = out.lines().filter(|line| line.starts_with(&start));
+    let times = lines.filter_map(|line| line.rsplit(": ").next());
+    times
+        .map(|times| times.parse::<u64>().expect("a number"))
+        .sum()
+}
+
 #[test]
-fn two_thousand_cases_reach_every_refusal_and_repeat() {
+fn two_thousand_cases_reach_every_kind_of_answer_and_repeat() {
     let run = fuzz(&["--cases", "2000", "--seed", "7"]);
     let out = String::from_utf8_lossy(&run.stdout).into_owned();
-    assert!(
-        run.status.success(),
-        "{}",
-        String::from_utf8_lossy(&run.stderr)
-    );
+    let told = String::from_utf8_lossy(&run.stderr).into_owned();
+    assert!(run.status.success() && told.is_empty(), "{told}");
     assert!(out.starts_with("cases: 2000, seed 7, all answered alike\n"));
-    assert_eq!(out.lines().count(), 14);
-    assert!(!out.lines().any(|line| line.ends_with(": 0")), "{out}");
+    for line in [
+        "\nbuild: refusal 9, field 5: ",
+        "\ncode label: refusal 8, rule 2: ",
+        "\nlabels: refusal 6 of the points: ",
+        "\npack: refusal 11, step 3: ",
+        "\npack labels: value: ",
+        "\ntable: refusal 4 of the table, at ",
+    ] {
+        assert!(out.contains(line), "{line}");
+    }
+    // At both edges, the two packs of a case each.
+    assert_eq!(asked(&out, "table"), 2 * 2_000);
+    assert_eq!(asked(&out, "pack"), 2 * 2 * 2_000);
     let again = fuzz(&["--cases", "2000", "--seed", "7"]);
     assert_eq!(again.stdout, run.stdout);
     let other = fuzz(&["--cases", "2000", "--seed", "8"]);
     assert_ne!(other.stdout, run.stdout);
+    assert!(other.status.success());
+}
+
+#[test]
+fn cases_that_reach_too_little_are_a_failure() {
+    let few = fuzz(&["--cases", "40", "--seed", "7", "--enough", "40"]);
+    assert_eq!(few.status.code(), Some(1));
+    assert!(few.stdout.starts_with(b"cases: 40, seed 7, "));
+    let told = String::from_utf8_lossy(&few.stderr).into_owned();
+    assert!(told.starts_with("not reached in 40 cases:\n"), "{told}");
+    assert!(
+        told.contains("\ntable: refusal 4 of the table, byte "),
+        "{told}"
+    );
+    let unjudged = fuzz(&["--cases", "40", "--seed", "7"]);
+    assert!(unjudged.status.success());
 }
 
 #[test]

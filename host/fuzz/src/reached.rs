@@ -1,0 +1,158 @@
+//! What the calls were answered with, and what enough cases have to reach.
+
+use crate::malformed;
+use std::collections::BTreeMap;
+use std::fmt;
+
+/// After so many cases each kind of answer comes.
+pub const ENOUGH: u64 = 2_000;
+
+/// A kind of answer.
+#[derive(Clone, Copy, Debug, PartialEq, Eq, PartialOrd, Ord)]
+pub struct Kind {
+    pub call: &'static str,
+    /// The refusal's number; 0 is a value.
+    pub number: u8,
+    /// The file to blame.
+    pub file: u8,
+    /// Rule, field or step; the byte of a malformed record. Of other refusals,
+    /// which name a record or a length, 0.
+    pub detail: u64,
+}
+
+impl fmt::Display for Kind {
+    fn fmt(&self, out: &mut fmt::Formatter) -> fmt::Result {
+        let Kind {
+            call,
+            number,
+            detail,
+            ..
+        } = self;
+        if *number == 0 {
+            return write!(out, "{call}: value");
+        }
+        write!(out, "{call}: refusal {number}")?;
+        match self.file {
+            1 => write!(out, " of the table")?,
+            2 => write!(out, " of the points")?,
+            _ => {}
+        }
+        match number {
+            4 if *detail > 0 => write!(out, ", byte {detail}"),
+            8 => write!(out, ", rule {detail}"),
+            9 => write!(out, ", field {detail}"),
+            11 => write!(out, ", step {detail}"),
+            _ => Ok(()),
+        }
+    }
+}
+
+/// How often each kind of answer came.
+#[derive(Default)]
+pub struct Reached(BTreeMap<Kind, u64>);
+
+impl Reached {
+    /// Counts an answer as the library packs it.
+    pub fn count(&mut self, call: &'static str, answer: u64) {
+        let number = (answer >> 56) as u8;
+        let detail = match number {
+            4 => answer >> 32 & 0xF_FFFF,
+            8 | 9 | 11 => answer & 0xFFFF_FFFF,
+            _ => 0,
+        };
+        let file = if number == 0 { 0 } else { answer >> 52 & 0xF } as u8;
+        let kind = Kind {
+            call,
+            number,
+            file,
+            detail,
+        };
+        *self.0.entry(kind).or_default() += 1;
+    }
+
+    /// The kinds in order, the malformed records of a call and a file as one,
+    /// each with how often it came and in how many details.
+    fn told(&self) -> BTreeMap<Kind, (u64, usize)> {
+        let mut told: BTreeMap<Kind, (u64, usize)> = BTreeMap::new();
+        for (kind, times) in &self.0 {
+            let detail = if kind.number == 4 { 0 } else { kind.detail };
+            let (sum, details) = told.entry(Kind { detail, ..*kind }).or_default();
+            *sum += times;
+            *details += 1;
+        }
+        told
+    }
+
+    /// What enough cases have to reach and these did not.
+    pub fn missing(&self) -> Vec<Kind> {
+        let told = self.told();
+        let is_missing = |kind: &Kind| !told.contains_key(kind) && !self.0.contains_key(kind);
+        wanted().into_iter().filter(is_missing).collect()
+    }
+}
+
+impl fmt::Display for Reached {
+    fn fmt(&self, out: &mut fmt::Formatter) -> fmt::Result {
+        for (kind, (times, details)) in self.told() {
+            match kind.number {
+                4 => writeln!(out, "{kind}, at {details} bytes: {times}")?,
+                _ => writeln!(out, "{kind}: {times}")?,
+            }
+        }
+        Ok(())
+    }
+}
+
+fn kind(call: &'static str, number: u8, file: u8, detail: u64) -> Kind {
+    Kind {
+        call,
+        number,
+        file,
+        detail,
+    }
+}
+
+/// The refusals that each call gives besides a value: those of a table file (t),
+/// of a point file (p), of a view's rows (v), of a pack (k); and single ones.
+const CALLS: [(&str, &str, &[u8]); 13] = [
+    ("table", "t", &[]),
+    ("points", "p", &[]),
+    ("views", "p", &[]),
+    ("letter", "p", &[7]),
+    ("live", "p", &[12]),
+    ("label", "tpv", &[7, 10]),
+    ("code label", "tpv", &[7, 10, 12]),
+    ("labels", "tpv", &[7, 10]),
+    ("code labels", "tpv", &[7, 10, 12]),
+    ("build", "tpv", &[10, 12]),
+    ("pack", "k", &[]),
+    ("pack label", "k", &[7, 10]),
+    ("pack labels", "k", &[7, 10]),
+];
+
+/// Every kind of answer that there is; of malformed records each byte for the
+/// checks of the files, and any for the other calls.
+pub fn wanted() -> Vec<Kind> {
+    let at = |call, file| move |byte| kind(call, 4, file, byte);
+    let table = malformed::bytes(1).into_iter().map(at("table", 1));
+    let points = malformed::bytes(2).into_iter().map(at("points", 2));
+    let mut wanted: Vec<Kind> = table.chain(points).collect();
+    for (call, groups, single) in CALLS {
+        let mut add = |number, file, details: std::ops::RangeInclusive<u64>| {
+            wanted.extend(details.map(|detail| kind(call, number, file, detail)));
+        };
+        add(0, 0, 0..=0);
+        single.iter().for_each(|number| add(*number, 0, 0..=0));
+        for group in groups.chars() {
+            match group {
+                't' => (1..=5).for_each(|number| add(number, 1, 0..=0)),
+                'p' => (1..=6).for_each(|number| add(number, 2, 0..=0)),
+                'v' => [(8, 3), (9, 7)]
+                    .into_iter()
+                    .for_each(|(number, last)| add(number, 0, 1..=last)),
+                _ => add(11, 0, 1..=3),
+            }
+        }
+    }
+    wanted
+}
