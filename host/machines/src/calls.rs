@@ -39,49 +39,49 @@ pub const CALLS: [Call; 13] = [
     Call {
         name: "ttw_table",
         stack: FILES,
-        lend: |case| lent(&[&case.table], &[], &[]),
+        lend: |case| lent(&[&case.files.table], &[], &[]),
         plain: |r, _, _| count(paper::check_table(&r[0])),
     },
     Call {
         name: "ttw_points",
         stack: FILES,
-        lend: |case| lent(&[&case.points], &[], &[]),
+        lend: |case| lent(&[&case.files.points], &[], &[]),
         plain: |r, _, _| count(paper::check_points(&r[0])),
     },
     Call {
         name: "ttw_views",
         stack: FILES,
-        lend: |case| lent(&[&case.points], &[], &[]),
+        lend: |case| lent(&[&case.files.points], &[], &[]),
         plain: |r, _, _| count(paper::views(&r[0])),
     },
     Call {
         name: "ttw_letter",
         stack: FILES,
-        lend: |case| lent(&[&case.points], &[case.number], &[]),
+        lend: |case| lent(&[&case.files.points], &[case.files.view], &[]),
         plain: |r, n, _| packed(paper::letter(&r[0], n[0]).map(u64::from)),
     },
     Call {
         name: "ttw_live",
         stack: FILES,
-        lend: |case| lent(&[&case.points, &case.code], &[], &[]),
+        lend: |case| lent(&[&case.files.points, &case.files.code], &[], &[]),
         plain: |r, _, _| count(paper::live(&r[0], &r[1])),
     },
     Call {
         name: "ttw_label",
         stack: LABELS,
-        lend: |case| lent(&[&case.table, &case.points], &[case.number], &[case.room]),
+        lend: |case| lent(&pair(case), &[case.files.view], &[case.room]),
         plain: |r, n, w| count(paper::label(&r[0], &r[1], n[0], &mut w[0])),
     },
     Call {
         name: "ttw_code_label",
         stack: LABELS,
-        lend: |case| lent(&files(case), &[case.number], &[case.room]),
+        lend: |case| lent(&files(case), &[case.files.nth], &[case.room]),
         plain: |r, n, w| count(paper::code_label(&r[0], &r[1], &r[2], n[0], &mut w[0])),
     },
     Call {
         name: "ttw_labels",
         stack: LABELS,
-        lend: |case| lent_to_run(&[&case.table, &case.points], case),
+        lend: |case| lent_to_run(&pair(case), case.files.view, case),
         plain: |r, n, w| {
             let run = paper::labels(&r[0], &r[1], n[0], n[1], &mut w[0]);
             told(run, &mut w[1])
@@ -90,7 +90,7 @@ pub const CALLS: [Call; 13] = [
     Call {
         name: "ttw_code_labels",
         stack: LABELS,
-        lend: |case| lent_to_run(&files(case), case),
+        lend: |case| lent_to_run(&files(case), case.files.nth, case),
         plain: |r, n, w| {
             let run = paper::code_labels(&r[0], &r[1], &r[2], n[0], n[1], &mut w[0]);
             told(run, &mut w[1])
@@ -105,19 +105,19 @@ pub const CALLS: [Call; 13] = [
     Call {
         name: "ttw_pack",
         stack: PACKS,
-        lend: |case| lent(&[&case.pack], &[], &[]),
+        lend: |case| lent(&[&case.packs[0]], &[], &[]),
         plain: |r, _, _| count(paper::open(&r[0])),
     },
     Call {
         name: "ttw_pack_label",
         stack: PACKS,
-        lend: |case| lent(&[&case.pack], &[case.number], &[case.room]),
+        lend: |case| lent(&[&case.packs[0]], &[case.point], &[case.room]),
         plain: |r, n, w| count(paper::pack_label(&r[0], n[0], &mut w[0])),
     },
     Call {
         name: "ttw_pack_labels",
         stack: PACKS,
-        lend: |case| lent_to_run(&[&case.pack], case),
+        lend: |case| lent_to_run(&[&case.packs[0]], case.point, case),
         plain: |r, n, w| {
             let run = paper::pack_labels(&r[0], n[0], n[1], &mut w[0]);
             told(run, &mut w[1])
@@ -125,9 +125,14 @@ pub const CALLS: [Call; 13] = [
     },
 ];
 
+/// The slices of a call on a pair of files.
+fn pair(case: &Case) -> [&Vec<u8>; 2] {
+    [&case.files.table, &case.files.points]
+}
+
 /// The slices of a call on a pair of files and a code.
 fn files(case: &Case) -> [&Vec<u8>; 3] {
-    [&case.table, &case.points, &case.code]
+    [&case.files.table, &case.files.points, &case.files.code]
 }
 
 /// Slices, numbers, and so many telling bytes for each slice to write.
@@ -141,8 +146,8 @@ fn lent(reads: &[&Vec<u8>], numbers: &[u64], rooms: &[usize]) -> Lent {
 
 /// What a run of labels is lent beside its slices to read: where to start, how
 /// many, room for them and for the number of their bytes.
-fn lent_to_run(reads: &[&Vec<u8>], case: &Case) -> Lent {
-    let numbers = [case.number, case.count];
+fn lent_to_run(reads: &[&Vec<u8>], first: u64, case: &Case) -> Lent {
+    let numbers = [first, case.count];
     lent(reads, &numbers, &[case.run_room, 8])
 }
 

@@ -42,12 +42,13 @@ enum Put {
 impl Put {
     fn into_case(self, mut case: Case) -> Case {
         match self {
-            Put::Table(file) => case.table = file,
-            Put::Points(file) => case.points = file,
+            Put::Table(file) => case.files.table = file,
+            Put::Points(file) => case.files.points = file,
             Put::Pair(table, points, view) => {
-                (case.table, case.points, case.number) = (table, points, view);
+                (case.files.table, case.files.points) = (table, points);
+                (case.files.view, case.files.nth) = (view, view);
             }
-            Put::Pack(pack, point) => (case.pack, case.number) = (pack, point),
+            Put::Pack(pack, point) => (case.packs[0], case.point) = (pack, point),
         }
         case
     }
@@ -55,12 +56,20 @@ impl Put {
 
 /// The cases of a part.
 pub fn cases(part: Part) -> impl Iterator<Item = Case> {
-    let fuzzed = (1..=part.fuzzed).map(|number| case::make(SEED, number));
+    let fuzzed = (1..=part.fuzzed).map(fuzzed_case);
     let puts = puts().into_iter().step_by(part.one_in);
     let put = puts
         .zip(part.fuzzed + 1..)
-        .map(|(put, number)| put.into_case(case::make(SEED, number)));
+        .map(|(put, number)| put.into_case(fuzzed_case(number)));
     fuzzed.chain(put)
+}
+
+/// The case of that number, in turn with its mutated pack and with the one at a
+/// limit in front.
+fn fuzzed_case(number: u64) -> Case {
+    let mut case = case::make(SEED, number);
+    case.packs.swap(0, (number % 2) as usize);
+    case
 }
 
 fn puts() -> Vec<Put> {
@@ -140,8 +149,9 @@ pub fn largest() -> Case {
     let mut pack = vec![0; 1 << 20];
     let length = paper::build(&pair.table, &pair.points, &code, &mut pack).expect("a pack");
     pack.truncate(length);
-    let mut case = Put::Pair(pair.table, pair.points, 5).into_case(case::make(SEED, 1));
-    (case.code, case.pack, case.room) = (code, pack, length);
+    let mut case = Put::Pair(pair.table, pair.points, 5).into_case(fuzzed_case(1));
+    (case.files.code, case.packs[0], case.point) = (code, pack, 5);
+    case.room = length;
     (case.count, case.run_room) = (40, 40 * 499);
     case
 }
