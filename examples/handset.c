@@ -166,7 +166,7 @@ int main(int argc, char **argv)
     status = say(&pack, argc - 1, k, count);
     free(pack.bytes);
     /* An error of an earlier write is kept by ferror alone, one of the last by fclose. */
-    if (ferror(stdout) | fclose(stdout)) {
+    if (ferror(stdout) != 0 || fclose(stdout) != 0) {
         fputs("handset: cannot print\n", stderr);
         return COULD_NOT;
     }

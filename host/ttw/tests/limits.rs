@@ -30,9 +30,11 @@ fn a_threads_stack_hangs_on_no_setting() {
     let folder = desk();
     same_under(&folder, "export RUST_MIN_STACK=1");
     same_under(&folder, "export RUST_MIN_STACK=4000000000000");
-    same_under(&folder, "ulimit -s 64");
-    same_under(&folder, "ulimit -s 64; export RUST_MIN_STACK=1");
-    same_under(&folder, "ulimit -s unlimited");
+    // An emulator needs a stack of its own.
+    if !is_emulated() {
+        same_under(&folder, "ulimit -s 64");
+        same_under(&folder, "ulimit -s 64; export RUST_MIN_STACK=1");
+    }
 }
 
 #[test]
@@ -70,7 +72,7 @@ fn packs_are_whole(folder: &Folder) {
 fn told_of_no_memory(folder: &Folder, faults: &Faults, command: &[&str]) -> u32 {
     let mut told = 0;
     loop {
-        let most = (told * 997 + 1).to_string();
+        let most = (told * 2_003 + 1).to_string();
         let seen = faults.ttw(&[("FAULTS_MEMORY", &most)], command);
         packs_are_whole(folder);
         if !seen.calls.contains(&"no memory".to_string()) {
