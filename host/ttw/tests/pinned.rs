@@ -110,5 +110,5 @@ fn all_manifests_have_the_pinned_rust() {
             manifests += 1;
         }
     }
-    assert_eq!(manifests, 5);
+    assert_eq!(manifests, 6);
 }
