@@ -7,7 +7,8 @@
  * memory, or opens a file. What a call writes (`out`, `*bytes`) may overlap nothing else that it is lent.
  *
  * Stack: a call on files takes less than 2,048 bytes, labels from files less than 4,096, opening a pack or labels from a
- * pack less than 80 KiB, building a pack less than 192 KiB. A thread that is to build needs its stack sized for that.
+ * pack less than 80 KiB, building a pack or listing codes less than 192 KiB. A thread that is to do either needs its stack
+ * sized for that.
  *
  * Each call answers one number. Take it apart with the macros below and never compare whole words: later calls fill bits
  * that are 0 today.
@@ -67,6 +68,12 @@ uint64_t ttw_letter(const uint8_t *points, size_t points_len, uint64_t view);
 /* How many live views an outward code has. The code is 4 bytes, padded with spaces. Refusals: 1 to 6, file 2; then 12,
  * the code is malformed. */
 uint64_t ttw_live(const uint8_t *points, size_t points_len, const uint8_t *code, size_t code_len);
+
+/* The outward codes that have live views, rising, written into `out`: each its 4 bytes, padded with spaces, and then how
+ * many live views it has in 4 bytes, the most significant first. The value is how many codes there are, and each takes 8
+ * bytes; what stands behind them in `out` is as it was. Refusals: 1 to 6, file 2; then 10, `out` is shorter than that (the
+ * bytes needed). A refused call leaves all of `out` as it was. */
+uint64_t ttw_codes(const uint8_t *points, size_t points_len, uint8_t *out, size_t out_len);
 
 /* Labels, one at a time. `out` is the one slice that is written: a refused call leaves all of it as it was, an accepted
  * one everything behind the bytes that it wrote. A label has at most 499 bytes: its lines, each ended by byte 10.

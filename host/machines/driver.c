@@ -22,6 +22,7 @@
     CALL(ttw_views, READ(0))                                                                  \
     CALL(ttw_letter, READ(0), NUMBER(0))                                                      \
     CALL(ttw_live, READ(0), READ(1))                                                          \
+    CALL(ttw_codes, READ(0), WRITE(0))                                                        \
     CALL(ttw_label, READ(0), READ(1), NUMBER(0), WRITE(0))                                    \
     CALL(ttw_code_label, READ(0), READ(1), READ(2), NUMBER(0), WRITE(0))                      \
     CALL(ttw_labels, READ(0), READ(1), NUMBER(0), NUMBER(1), WRITE(0), TELL(1))               \

@@ -18,6 +18,7 @@ use Rattle.pack.specs.Cutting.{packBuilt}
 use Rattle.pack_runs.specs.Runs.{packRun}
 use Rattle.changes_list.specs.Listing.{viewsAnswer, letterAnswer, liveAnswer}
 use Rattle.changes_pair.specs.Pair.{pairOf}
+use Rattle.changes_codes.specs.Codes.{codesOutcome}
 
 -- each with its arguments, but for what is written
 pub data Call : Type 0 where
@@ -26,6 +27,7 @@ pub data Call : Type 0 where
   of-views : (points : List ℕ) → Call
   of-letter : (points : List ℕ) (view : ℕ) → Call
   of-live : (points code : List ℕ) → Call
+  of-codes : (points : List ℕ) → Call
   of-label : (table points : List ℕ) (view : ℕ) → Call
   of-code-label : (table points code : List ℕ) (k : ℕ) → Call
   of-labels : (table points : List ℕ) (first count : ℕ) → Call
@@ -57,6 +59,7 @@ outcomeOf (of-points points) out = reading (checked pointFormat points) out
 outcomeOf (of-views points) out = reading (viewsAnswer points) out
 outcomeOf (of-letter points view) out = reading (letterAnswer points view) out
 outcomeOf (of-live points code) out = reading (liveAnswer points code) out
+outcomeOf (of-codes points) out = writing (codesOutcome points out)
 outcomeOf (of-label table points view) out = writing (viewLabel (pairOf table points) view out)
 outcomeOf (of-code-label table points code k) out = writing (codeLabel (pairOf table points) code k out)
 outcomeOf (of-labels table points first count) out = running (viewsRun (pairOf table points) first count out)

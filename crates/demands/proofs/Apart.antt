@@ -37,7 +37,7 @@ use Rattle.pack.specs.Opening.{trailerGood, allRowsGood, allPointsGood, pointCo
 use Rattle.pack.specs.Points.{isPoint, pointPlace, elementsAt, pointLabel, packLabel}
 use Rattle.pack_runs.specs.Runs.{packRun}
 use Rattle.changes_pair.specs.Pair.{pairOf}
-use Rattle.call.specs.Call.{Call, of-table, of-points, of-views, of-letter, of-live, of-label, of-code-label, of-labels, of-code-labels, of-build, of-pack, of-pack-label, of-pack-labels, outcomeOf}
+use Rattle.call.specs.Call.{Call, of-table, of-points, of-views, of-letter, of-live, of-codes, of-label, of-code-label, of-labels, of-code-labels, of-build, of-pack, of-pack-label, of-pack-labels, outcomeOf}
 use Rattle.demands.specs.Apart.{OfLabel, OfWhole, ToldApart, Apart}
 
 -- an answer whose refusal is of a kind
@@ -229,6 +229,7 @@ told-apart (of-points points) out = tt
 told-apart (of-views points) out = tt
 told-apart (of-letter points view) out = tt
 told-apart (of-live points code) out = tt
+told-apart (of-codes points) out = tt
 told-apart (of-label table points view) out = tt
 told-apart (of-code-label table points code k) out = tt
 told-apart (of-labels table points first count) out =

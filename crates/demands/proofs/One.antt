@@ -3,12 +3,13 @@
 use Prim.Native.Nat.{ℕ}
 use mathlib.Core.Path.{_≡_, refl, sym, ap, _∙_}
 use mathlib.Core.Bool.{Bool, true, false, cond}
-use mathlib.Core.List.{List}
+use mathlib.Core.List.{List, _++_}
 use mathlib.Core.Option.{Option, none, some}
-use lib.Dec.{eqb}
+use lib.Dec.{eqb, leb}
+use lib.ListN.{length, drop}
 use Rattle.field_outward.specs.Outward.{outwardFault}
 use Rattle.refusal.specs.declared.Reason.{Reason}
-use Rattle.refusal.specs.declared.Reason.the-variants.{NoSuchNumber, BadCode}
+use Rattle.refusal.specs.declared.Reason.the-variants.{NoSuchNumber, Room, BadCode}
 use Rattle.refusal.specs.declared.Answer.{Answer}
 use Rattle.refusal.specs.declared.Answer.the-variants.{Value, Refused}
 use Rattle.refusal.specs.declared.Verdict.{Verdict}
@@ -30,8 +31,11 @@ use Rattle.pack.specs.Cutting.{firstBad, cutWith, cutOutcome, packBuilt}
 use Rattle.pack.specs.Opening.{opened}
 use Rattle.pack.specs.Points.{elementsAt, pointPlace, isPoint, pointLabel, packLabel}
 use Rattle.pack_runs.specs.Runs.{packRun}
+use Rattle.file.specs.Check.{checked}
+use Rattle.file.specs.Formats.{pointFormat}
+use Rattle.changes_codes.specs.Codes.{roomed, codesOutcome}
 use Rattle.changes_pair.specs.Pair.{pairOf}
-use Rattle.call.specs.Call.{Call, of-table, of-points, of-views, of-letter, of-live, of-label, of-code-label, of-labels, of-code-labels, of-build, of-pack, of-pack-label, of-pack-labels, Saying, one, run, Called, outcomeOf, bytesOf, comesTo}
+use Rattle.call.specs.Call.{Call, of-table, of-points, of-views, of-letter, of-live, of-codes, of-label, of-code-label, of-labels, of-code-labels, of-build, of-pack, of-pack-label, of-pack-labels, Saying, one, run, Called, outcomeOf, bytesOf, comesTo}
 use Rattle.demands.specs.One.{Allows, IsRefused, IsUnasked, RefusedWhole}
 
 -- "for every input, refusals too, it allows one answer and one content of lent memory"
@@ -80,6 +84,21 @@ kth-kept look views k out = by-case (kth views k)
     by-case : (found : Option Address) → Kept IsRefused (labelOutcome look found out) out
     by-case none = λ r. refl
     by-case (some a) = resolved-kept (resolve look a) out
+
+roomed-kept : (n : ℕ) (bytes out : List ℕ) → Kept IsRefused (roomed n bytes out) out
+unfolding roomed
+roomed-kept n bytes out = by-test (leb (length bytes) (length out))
+  where
+    by-test : (t : Bool)
+        → Kept IsRefused
+        (cond t (said (Value n) (bytes ++ drop (length bytes) out)) (said (Refused 0 (Room (length bytes))) out))
+        out
+    by-test true = λ r. absurd r
+    by-test false = λ r. refl
+
+codes-kept : (points out : List ℕ) → Kept IsRefused (codesOutcome points out) out
+unfolding codesOutcome
+codes-kept points out = after-kept IsRefused Refused out _ (roomed-kept _ _ out) (checked pointFormat points)
 
 cut-kept : (v : Verdict) (pack out : List ℕ) → Kept IsRefused (cutWith v pack out) out
 cut-kept Fine pack out = room-kept pack out
@@ -151,6 +170,7 @@ kept (of-points points) out = λ r. refl
 kept (of-views points) out = λ r. refl
 kept (of-letter points view) out = λ r. refl
 kept (of-live points code) out = λ r. refl
+kept (of-codes points) out = codes-kept points out
 kept (of-label table points view) out = view-kept (pairOf table points) out view
 kept (of-code-label table points code k) out = code-label-kept (pairOf table points) out code k
 kept (of-labels table points first count) out = views-kept (pairOf table points) out first count

@@ -4,7 +4,7 @@ use changes_label::label_in_code;
 use changes_runs::labels_in_code;
 ghost use mathlib.Core.Path.{_≡_};
 ghost use mathlib.Core.List.{[]};
-ghost use Rattle.call.specs.Call.{of-table, of-points, of-views, of-letter, of-live, of-label, of-code-label, of-build, of-pack, of-pack-label, of-labels, of-code-labels, of-pack-labels, called, comesTo};
+ghost use Rattle.call.specs.Call.{of-table, of-points, of-views, of-letter, of-live, of-codes, of-label, of-code-label, of-build, of-pack, of-pack-label, of-labels, of-code-labels, of-pack-labels, called, comesTo};
 
 // How many records a table file has.
 #[no_mangle]
@@ -44,6 +44,14 @@ pub extern "C" fn ttw_live(points: &[u8], code: &[u8]) -> u64
     ensures { λ r. ⌜ called r [] 0 ≡ comesTo (of-live (now (points .entry)) (now (code .entry))) [] 0 ⌝ }
 {
     refusal::packed_answer(changes_list::live_in(points, code)) as u64
+}
+
+// The outward codes with live views, rising, written into `out` with how many live views each has.
+#[no_mangle]
+pub extern "C" fn ttw_codes(points: &[u8], out: &mut [u8]) -> u64
+    ensures { λ r. ⌜ called r (now (out .exit)) 0 ≡ comesTo (of-codes (now (points .entry))) (now (out .entry)) 0 ⌝ }
+{
+    refusal::packed_answer(changes_codes::codes_in(points, out)) as u64
 }
 
 // The label of a view, printed into `out`.

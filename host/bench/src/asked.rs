@@ -26,7 +26,7 @@ const fn call(name: &'static str, library: Question, plain: Question) -> Call {
 }
 
 /// Every call that the header declares, in its order.
-pub const CALLS: [Call; 13] = [
+pub const CALLS: [Call; 14] = [
     Call {
         file: Some(|input| &input.pair.table),
         ..call("ttw_table", library::table, plain::table)
@@ -38,6 +38,7 @@ pub const CALLS: [Call; 13] = [
     call("ttw_views", library::views, plain::views),
     call("ttw_letter", library::letter, plain::letter),
     call("ttw_live", library::live, plain::live),
+    call("ttw_codes", library::codes, plain::codes),
     call("ttw_label", library::label, plain::label),
     call("ttw_code_label", library::code_label, plain::code_label),
     call("ttw_labels", library::labels, plain::labels),
@@ -73,6 +74,10 @@ mod library {
 
     pub fn live(input: &Input, _: &mut [u8]) -> u64 {
         calls::live(&input.pair.points, CODE)
+    }
+
+    pub fn codes(input: &Input, room: &mut [u8]) -> u64 {
+        calls::codes(&input.pair.points, room)
     }
 
     pub fn label(input: &Input, _: &mut [u8]) -> u64 {
@@ -142,6 +147,10 @@ mod plain {
 
     pub fn live(input: &Input, _: &mut [u8]) -> u64 {
         answer(paper::live(&input.pair.points, CODE))
+    }
+
+    pub fn codes(input: &Input, room: &mut [u8]) -> u64 {
+        answer(paper::codes(&input.pair.points, room))
     }
 
     pub fn label(input: &Input, _: &mut [u8]) -> u64 {

@@ -8,7 +8,6 @@ mod sqlite;
 
 use asked::{Call, Question};
 use input::{far_pack, pair_of_many_codes, Input};
-use std::collections::BTreeSet;
 use std::hint::black_box;
 use std::time::Instant;
 
@@ -121,25 +120,19 @@ fn print_far_pack() {
 /// pack of each.
 fn print_every_code() {
     let pair = pair_of_many_codes();
-    let codes: BTreeSet<String> = pair
-        .views
-        .iter()
-        .map(|view| format!("{:<4}", view.outward))
-        .collect();
-    let mut bytes = 0;
+    let (mut codes, mut bytes) = (0, 0);
     let seconds = timed(|| {
-        let live = codes
-            .iter()
-            .filter(|code| ttw::ask::live(&pair.points, code.as_bytes()) != Ok(0));
-        for code in live {
-            let pack = ttw::ask::build(&pair.table, &pair.points, code.as_bytes(), 1 << 16);
+        let live = ttw::ask::codes(&pair.points).expect("codes");
+        for (code, _) in &live {
+            let pack = ttw::ask::build(&pair.table, &pair.points, code, 1 << 16);
             bytes += pack.expect("a pack").len();
         }
+        codes = live.len();
         bytes as u64
     });
     println!(
         "\nevery code of 20,000 records of each file, on one core: {} codes, {bytes} bytes, {seconds:.1} s",
-        codes.len()
+        codes
     );
 }
 

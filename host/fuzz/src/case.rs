@@ -110,7 +110,7 @@ impl Lent {
         same("live", calls::live(points, code), live);
     }
 
-    /// The calls that print a label.
+    /// The calls that write codes or a label.
     fn ask_labels(&self, case: &Case, reached: &mut Reached) {
         let (table, points) = (self.table.bytes(), self.points.bytes());
         let code = self.code.bytes();
@@ -118,6 +118,9 @@ impl Lent {
         let mut written = |call, room, ours: &dyn Fn(&mut [u8]) -> u64, plain: &Plain| {
             written(call, self.flush, room, ours, plain, reached)
         };
+        written("codes", room, &|out| calls::codes(points, out), &|out| {
+            paper::codes(&case.files.points, out)
+        });
         written(
             "label",
             room,

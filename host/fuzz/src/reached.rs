@@ -114,12 +114,13 @@ fn kind(call: &'static str, number: u8, file: u8, detail: u64) -> Kind {
 
 /// The refusals that each call gives besides a value: those of a table file (t),
 /// of a point file (p), of a view's rows (v), of a pack (k); and single ones.
-const CALLS: [(&str, &str, &[u8]); 13] = [
+const CALLS: [(&str, &str, &[u8]); 14] = [
     ("table", "t", &[]),
     ("points", "p", &[]),
     ("views", "p", &[]),
     ("letter", "p", &[7]),
     ("live", "p", &[12]),
+    ("codes", "p", &[10]),
     ("label", "tpv", &[7, 10]),
     ("code label", "tpv", &[7, 10, 12]),
     ("labels", "tpv", &[7, 10]),

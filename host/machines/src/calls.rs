@@ -32,10 +32,10 @@ const FILES: u64 = 2_048;
 const LABELS: u64 = 4_096;
 /// opening a pack or labels from a pack less than this,
 const PACKS: u64 = 80 << 10;
-/// building a pack less than this.
+/// building a pack or listing codes less than this.
 const BUILDING: u64 = 192 << 10;
 
-pub const CALLS: [Call; 13] = [
+pub const CALLS: [Call; 14] = [
     Call {
         name: "ttw_table",
         stack: FILES,
@@ -65,6 +65,12 @@ pub const CALLS: [Call; 13] = [
         stack: FILES,
         lend: |case| lent(&[&case.files.points, &case.files.code], &[], &[]),
         plain: |r, _, _| count(paper::live(&r[0], &r[1])),
+    },
+    Call {
+        name: "ttw_codes",
+        stack: BUILDING,
+        lend: |case| lent(&[&case.files.points], &[], &[case.room]),
+        plain: |r, _, w| count(paper::codes(&r[0], &mut w[0])),
     },
     Call {
         name: "ttw_label",

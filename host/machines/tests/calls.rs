@@ -41,7 +41,7 @@ fn the_header_says_how_much_stack_a_call_may_take() {
         "a call on files takes less than 2,048 bytes",
         "labels from files less than 4,096",
         "opening a pack or labels from a pack less than 80 KiB",
-        "building a pack less than 192 KiB",
+        "building a pack or listing codes less than 192 KiB",
     ] {
         assert!(said.contains(promise), "{promise}");
     }

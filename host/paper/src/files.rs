@@ -8,6 +8,7 @@ use crate::fields::{outward_fault, trimmed, value};
 use crate::layout::{point, table, FileRules, FEWEST_RECORDS, MOST_RECORDS, POINTS, TABLE};
 use crate::records::{is_header, is_trailer};
 use crate::refusal::Refusal;
+use std::collections::BTreeMap;
 
 pub use crate::records::{point_fault, table_fault};
 
@@ -45,6 +46,25 @@ pub fn live(points: &[u8], code: &[u8]) -> Result<usize, Refusal> {
     let points = PointFile::accept(points)?;
     check_code(code)?;
     Ok(points.live_views(code).count())
+}
+
+/// The outward codes with live views, rising, into `out`: each its 4 bytes and how
+/// many live views it has in 4, the most significant first. The value is how many
+/// codes there are; 10 where `out` is shorter.
+pub fn codes(points: &[u8], out: &mut [u8]) -> Result<usize, Refusal> {
+    let mut counted: BTreeMap<&[u8], u32> = BTreeMap::new();
+    for view in PointFile::accept(points)?.views().filter(View::is_live) {
+        *counted.entry(&view.record[point::OUTWARD]).or_default() += 1;
+    }
+    let needed = 8 * counted.len();
+    if out.len() < needed {
+        return Err(Refusal::new(10, needed as u64));
+    }
+    for ((code, count), entry) in counted.iter().zip(out.chunks_exact_mut(8)) {
+        entry[..4].copy_from_slice(code);
+        entry[4..].copy_from_slice(&count.to_be_bytes());
+    }
+    Ok(counted.len())
 }
 
 /// A code is given as 4 bytes, padded; another length is malformed: 12.

@@ -72,7 +72,7 @@ pub mod report;
 pub mod runs;
 
 pub use build::build;
-pub use files::{check_points, check_table, letter, live, point_fault, table_fault, views};
+pub use files::{check_points, check_table, codes, letter, live, point_fault, table_fault, views};
 pub use label::{label_bytes, lines, Elements};
 pub use pack::{open, pack_label};
 pub use pair::{code_label, label, label_of};

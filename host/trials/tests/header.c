@@ -46,12 +46,15 @@ static void say_letters(const uint8_t *points, size_t length)
 
 static void say_codes(const uint8_t *points, size_t length)
 {
+    uint8_t listed[160];
     const uint8_t codes[3][4] = {{'A', 'B', '1', ' '}, {'D', 'N', '5', '5'}, {'Q', 'A', '1', ' '}};
 
     say("live in AB1", ttw_live(points, length, codes[0], sizeof codes[0]));
     say("live in DN55", ttw_live(points, length, codes[1], sizeof codes[1]));
     say("live in QA1", ttw_live(points, length, codes[2], sizeof codes[2]));
     say("live in AB1 without padding", ttw_live(points, length, codes[0], 3));
+    say("codes", ttw_codes(points, length, listed, sizeof listed));
+    printf("first code: %.4s %d\n", (const char *)listed, listed[7]);
 }
 
 static void say_label(const char *what, const uint8_t *label, uint64_t answer)

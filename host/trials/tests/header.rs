@@ -15,6 +15,8 @@ live in AB1: 1
 live in DN55: 0
 live in QA1: refused 12, file 0, second 0, detail 0
 live in AB1 without padding: refused 12, file 0, second 0, detail 0
+codes: 1
+first code: AB1  1
 label 1: 52
 ATTIC FLAT
 110-114 QUARRY LANE

@@ -34,6 +34,10 @@ static uint64_t ask_live(struct lent *l)
 {
     return ttw_live(l->points.bytes, l->points.length, l->code.bytes, l->code.length);
 }
+static uint64_t ask_codes(struct lent *l)
+{
+    return ttw_codes(l->points.bytes, l->points.length, l->out.bytes, l->out.length);
+}
 static uint64_t ask_label(struct lent *l)
 {
     return ttw_label(l->table.bytes, l->table.length, l->points.bytes, l->points.length, 1, l->out.bytes,
@@ -80,6 +84,7 @@ static const struct call {
     {"ttw_views", ask_views, "p"},
     {"ttw_letter", ask_letter, "p"},
     {"ttw_live", ask_live, "pc"},
+    {"ttw_codes", ask_codes, "po"},
     {"ttw_label", ask_label, "tpo"},
     {"ttw_code_label", ask_code_label, "tpco"},
     {"ttw_labels", ask_labels, "tpo"},

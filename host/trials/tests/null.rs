@@ -13,6 +13,8 @@ ttw_views p: 1 2 0
 ttw_letter p: 1 2 0
 ttw_live p: 1 2 0
 ttw_live c: 12 0 0
+ttw_codes p: 1 2 0
+ttw_codes o: 10 0 8
 ttw_label t: 1 1 0
 ttw_label p: 1 2 0
 ttw_label o: 10 0 52

@@ -81,6 +81,22 @@ pub fn label(table: &[u8], points: &[u8], view: u64) -> Result<Vec<u8>, Refusal>
     printed(|out| calls::label(table, points, view, out))
 }
 
+/// The outward codes with live views, rising, each with how many it has.
+pub fn codes(points: &[u8]) -> Result<Vec<([u8; 4], u64)>, Refusal> {
+    // No code needs more than a record.
+    let mut out = vec![0; points.len()];
+    let count = answer(calls::codes(points, &mut out))?;
+    let entries = out.chunks_exact(8).take(count as usize);
+    let number = |bytes: &[u8]| u32::from_be_bytes(bytes.try_into().expect("4 bytes"));
+    let entry = |bytes: &[u8]| {
+        (
+            number(&bytes[..4]).to_be_bytes(),
+            number(&bytes[4..]).into(),
+        )
+    };
+    Ok(entries.map(entry).collect())
+}
+
 /// The label of the k-th live view in a code.
 pub fn code_label(table: &[u8], points: &[u8], code: &[u8], k: u64) -> Result<Vec<u8>, Refusal> {
     printed(|out| calls::code_label(table, points, code, k, out))

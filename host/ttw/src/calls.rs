@@ -8,6 +8,7 @@ extern "C" {
     fn ttw_views(points: *const u8, points_len: usize) -> u64;
     fn ttw_letter(points: *const u8, points_len: usize, view: u64) -> u64;
     fn ttw_live(points: *const u8, points_len: usize, code: *const u8, code_len: usize) -> u64;
+    fn ttw_codes(points: *const u8, points_len: usize, out: *mut u8, out_len: usize) -> u64;
     fn ttw_label(
         table: *const u8,
         table_len: usize,
@@ -110,6 +111,12 @@ pub fn letter(points: &[u8], view: u64) -> u64 {
 pub fn live(points: &[u8], code: &[u8]) -> u64 {
     // SAFETY: as above, for both slices.
     unsafe { ttw_live(points.as_ptr(), points.len(), code.as_ptr(), code.len()) }
+}
+
+/// The outward codes with live views, rising, written into `out`.
+pub fn codes(points: &[u8], out: &mut [u8]) -> u64 {
+    // SAFETY: as above; `out` is a slice of its own, lent for the call alone.
+    unsafe { ttw_codes(points.as_ptr(), points.len(), out.as_mut_ptr(), out.len()) }
 }
 
 /// The label of a view, printed into `out`.

@@ -39,17 +39,9 @@ pub fn codes(given: &Arguments) -> Outcome {
 
 /// The codes with live views, rising.
 fn live_codes(pair: &Pair) -> Result<Vec<(Code, u64)>, Stop> {
-    let mut codes = Vec::new();
-    let ask = |code: &Vec<u8>| ask::live(&pair.points, code);
-    in_order(&pair.candidates(), ask, |code, live| {
-        let code = Code::new(code);
-        let live = live.map_err(|why| Stop::Refused(words(&why, &code.name())))?;
-        if live > 0 {
-            codes.push((code, live));
-        }
-        Ok::<(), Stop>(())
-    })?;
-    Ok(codes)
+    let codes = ask::codes(&pair.points).map_err(|why| Stop::Refused(words(&why, "files")))?;
+    let named = |(code, live): ([u8; 4], u64)| (Code::new(&code), live);
+    Ok(codes.into_iter().map(named).collect())
 }
 
 /// `ttw labels`: one label, a run of them, those of a code, or all.

@@ -2,14 +2,9 @@
 
 use crate::files::read_changes;
 use crate::stop::Stop;
-use std::collections::BTreeSet;
 use std::path::PathBuf;
 use ttw::ask::{self, Refusal};
 use ttw::words::words;
-
-/// Bytes of a point record, and where its outward code stands.
-const POINT_RECORD: usize = 168;
-const OUTWARD: std::ops::Range<usize> = 14..18;
 
 /// A table file and a point file as they were read.
 pub struct Pair {
@@ -36,18 +31,5 @@ impl Pair {
         }
         let lines: Vec<String> = refusals.iter().map(|why| words(why, "files")).collect();
         Err(Stop::Refused(lines.join("\n")))
-    }
-
-    /// What stands in the outward fields of the point file between header and
-    /// trailer, rising: the codes that may have live views.
-    pub fn candidates(&self) -> Vec<Vec<u8>> {
-        let records = self.points.chunks_exact(POINT_RECORD);
-        let between = records.len().saturating_sub(2);
-        let codes: BTreeSet<Vec<u8>> = records
-            .skip(1)
-            .take(between)
-            .map(|record| record[OUTWARD].to_vec())
-            .collect();
-        codes.into_iter().collect()
     }
 }

@@ -1,0 +1,83 @@
+-- What is known of the codes of a point file by the answer: a value is how many there are, they stand in the buffer, and they
+-- are all there are.
+-- Assumes nothing.
+use Prim.Native.Nat.{ℕ, _*_, _≤_}
+use mathlib.Core.Path.{_≡_, refl, sym, ap, _∙_}
+use mathlib.Core.Bool.{Bool, true, false, cond}
+use mathlib.Core.List.{List, _++_}
+use native.Mathlib.Omega.{arith}
+use lib.Dec.{leb}
+use lib.ListN.{length, drop}
+use Rattle.refusal.specs.declared.Reason.the-variants.{Room}
+use Rattle.refusal.specs.declared.Answer.{Answer}
+use Rattle.refusal.specs.declared.Answer.the-variants.{Value, Refused}
+use Rattle.refusal.proofs.Answers.{refused-value, same-value}
+use Rattle.file.specs.Check.{checked}
+use Rattle.file.specs.Formats.{pointFormat}
+use Rattle.refusal.specs.Outcome.{said, afterwards}
+use Rattle.refusal.proofs.Outcomes.{answer-of, afterwards-value}
+use Rattle.file.specs.Accepted.{Accepted}
+use Rattle.file.proofs.Accepted.{accepted, accepts}
+use Rattle.tally.specs.Tally.{Entry, codes, counts}
+use Rattle.tally.proofs.Tallies.{codes-length, counts-length}
+use Rattle.changes_codes.specs.Codes.{codesIn, entryBytes, roomed, entriesOutcome, codesOutcome}
+use Rattle.changes_codes.specs.Told.{Told}
+use Rattle.changes_codes.proofs.Pairs.{pairs-are, pairs-long, fits}
+use Rattle.changes_codes.proofs.Told.{codes-told}
+
+-- eight bytes for each code
+pub entries-long : (es : List Entry) → length (entryBytes es) ≡ 8 * length es
+entries-long es =
+    ap length (sym (pairs-are es))
+    ∙ (pairs-long (codes es) (counts es) (counts-length es ∙ sym (codes-length es)) ∙ ap (8 *_) (codes-length es))
+
+pub record Answered (points out : List ℕ) (n : ℕ) : Type 0 where
+  pub is-accepted : Accepted pointFormat points
+  pub many : n ≡ length (codesIn points)
+  pub written : codesOutcome points out .memory ≡ entryBytes (codesIn points) ++ drop (8 * n) out
+  pub told : Told points (codesIn points)
+
+-- entries in a buffer, by the answer: how many there are, and that they stand there
+entries-written : (es : List Entry) (out : List ℕ) (n : ℕ) → entriesOutcome es out .answer ≡ Value n
+    → (n ≡ length es) × (entriesOutcome es out .memory ≡ entryBytes es ++ drop (8 * n) out)
+unfolding roomed
+entries-written es out n e = by-test (leb (length (entryBytes es)) (length out)) e
+  where
+    by-test : (t : Bool)
+        → cond t (said (Value (length es)) (entryBytes es ++ drop (length (entryBytes es)) out))
+        (said (Refused 0 (Room (length (entryBytes es)))) out)
+        .answer
+        ≡ Value n
+        → (n ≡ length es)
+        × (cond t (said (Value (length es)) (entryBytes es ++ drop (length (entryBytes es)) out))
+        (said (Refused 0 (Room (length (entryBytes es)))) out)
+        .memory
+        ≡ entryBytes es ++ drop (8 * n) out)
+    by-test true e =
+        let many : n ≡ length es = sym (same-value (length es) n e) in
+        let size : length (entryBytes es) ≡ 8 * n = entries-long es ∙ ap (8 *_) (sym many) in
+        (many, ap (λ k. entryBytes es ++ drop k out) size)
+    by-test false e = absurd (refused-value 0 n (Room (length (entryBytes es))) e)
+
+module _ (points out : List ℕ) where
+  pub answered : (n : ℕ) → codesOutcome points out .answer ≡ Value n → Answered points out n
+  unfolding codesOutcome
+  answered n e = by-answer (checked pointFormat points) refl e
+    where
+      by-answer : (first : Answer) → checked pointFormat points ≡ first
+          → afterwards Refused first out (entriesOutcome (codesIn points) out) .answer ≡ Value n
+          → Answered points out n
+      by-answer (Value m) h e =
+          let a = accepted pointFormat points m h in
+          let w = entries-written (codesIn points) out n e in
+          record { is-accepted = a; many = w .0; written = simp h (w .1); told = codes-told points a }
+      by-answer (Refused file why) h e = absurd (refused-value file n why e)
+
+  -- an accepted file and room enough are answered with a value
+  pub answers : Accepted pointFormat points → 8 * length (codesIn points) ≤ length out
+      → codesOutcome points out .answer ≡ Value (length (codesIn points))
+  unfolding codesOutcome
+  answers a room =
+      answer-of
+      (afterwards-value Refused out _ (accepts pointFormat points a)
+      ∙ fits (length (codesIn points)) (entryBytes (codesIn points)) out (omega (arith, entries-long (codesIn points))))

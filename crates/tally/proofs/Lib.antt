@@ -1,0 +1,3 @@
+pub mod Order
+pub mod Tallies
+pub mod Worked

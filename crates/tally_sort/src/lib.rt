@@ -1,0 +1,2 @@
+// Numbers put in rising order.
+pub mod inner;
