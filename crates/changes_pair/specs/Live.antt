@@ -5,6 +5,7 @@ use mathlib.Core.Path.{_≡_}
 use mathlib.Core.Bool.{true}
 use mathlib.Core.List.{List, [], _∷_}
 use Rattle.file_record.specs.Parts.{recordAt}
+use Rattle.file_record.specs.Names.Point
 use Rattle.changes_views.specs.Views.{lastOf, wanted, viewNumber}
 use Rattle.source.specs.Address.{Address}
 use Rattle.changes_source.specs.Addresses.{addressAt, addressesIn, kept}
@@ -26,7 +27,7 @@ viewsAt points (place ∷ places) = viewAt points place ∷ viewsAt points place
 pub record WantedPlace (code points : List ℕ) (place : ℕ) : Type 0 where
   pub low : 1 ≤ place
   pub high : place < lastOf points
-  pub is-wanted : wanted code (recordAt 168 points place) ≡ true
+  pub is-wanted : wanted code (recordAt Point.width points place) ≡ true
 
 abbrev pub WantedPlaces : List ℕ → List ℕ → List ℕ → Type 0
 WantedPlaces code points [] = Unit {0}

@@ -9,12 +9,23 @@ use lib.ListN.{length, getD}
 use Rattle.field.specs.Digits.{value}
 use Rattle.field.specs.Text.{part}
 use Rattle.file_record.specs.Parts.{recordAt}
+use Rattle.file_record.specs.Names.Point
+use Rattle.file_record.specs.Names.View
+use Rattle.file_record.specs.Names.Organisation as Follower
 use Rattle.file.specs.Formats.{needed}
 use Rattle.source.specs.declared.DeliveryPoint.{DeliveryPoint}
 
 -- where its seven keys of eight digits start, in offset order
 abbrev pub keyPlaces : List ℕ
-keyPlaces = 42 ∷ 50 ∷ 58 ∷ 66 ∷ 74 ∷ 86 ∷ 94 ∷ []
+keyPlaces =
+    View.locality
+    ∷ View.thoroughfare
+    ∷ View.descriptor
+    ∷ View.dependent
+    ∷ View.dependentDescriptor
+    ∷ View.building
+    ∷ View.subBuilding
+    ∷ []
 
 -- what the keys at these places of a record say
 abbrev pub keysAt : List ℕ → List ℕ → List ℕ
@@ -23,7 +34,7 @@ keysAt rec (at ∷ more) = value (part rec at (at + 8)) ∷ keysAt rec more
 
 -- where record i of a point file starts; 0 where there is none
 abbrev pub startAt : List ℕ → ℕ → ℕ
-startAt points i = cond (ltb i (length points / 168)) (i * 168) 0
+startAt points i = cond (ltb i (length points / Point.width)) (i * Point.width) 0
 
 -- whether a follower stands behind a view's record
 abbrev pub organised : List ℕ → Bool
@@ -34,18 +45,18 @@ abbrev pub deliveryOf : List ℕ → ℕ → DeliveryPoint
 deliveryOf rec at =
     record {
       keys = keysAt rec keyPlaces;
-      number = value (part rec 82 86);
-      «address_key» = value (part rec 24 32);
-      «organisation_key» = value (part rec 32 40);
-      «postcode_type» = getD rec 23 0;
-      concatenation = eqb (getD rec 106 0) 89;
-      postcode = at + 14;
-      suffix = at + 21;
-      «po_box» = at + 107;
+      number = value (part rec View.number View.building);
+      «address_key» = value (part rec Point.addressKey Point.organisationKey);
+      «organisation_key» = value (part rec Point.organisationKey Point.letter);
+      «postcode_type» = getD rec Point.postcodeType 0;
+      concatenation = eqb (getD rec View.concatenation 0) 89;
+      postcode = at + Point.outward;
+      suffix = at + Point.suffix;
+      «po_box» = at + View.box;
       organised = organised rec;
-      organisation = at + 210;
+      organisation = at + (Point.width + Follower.name);
       lacking = false;
     }
 
 unfoldable pub deliveryAt : List ℕ → ℕ → DeliveryPoint
-deliveryAt points i = deliveryOf (recordAt 168 points i) (startAt points i)
+deliveryAt points i = deliveryOf (recordAt Point.width points i) (startAt points i)

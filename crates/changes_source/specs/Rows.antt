@@ -2,6 +2,8 @@
 -- Assumes nothing.
 use Prim.Native.Nat.{ℕ}
 use mathlib.Core.List.{List}
+use Rattle.file_record.specs.Names.Table
+use Rattle.file_record.specs.Names.Locality
 use Rattle.source.specs.Address.{Lookup}
 use Rattle.shelf.specs.declared.Shelf.{Shelf}
 use Rattle.shelf.specs.Stock.{Stock, stockOf, lookIn}
@@ -10,7 +12,16 @@ use Rattle.shelf.specs.Stock.{Stock, stockOf, lookIn}
 -- nine digits. "filler 45, post town 30, dependent locality 35, double dependent locality 35"; the other texts stand behind
 -- the letter.
 abbrev pub tableShelf : Shelf
-tableShelf = record { width = 169; key = 0; digits = 9; base = 0; letter = 23; locality = 69; text = 24 }
+tableShelf =
+    record {
+      width = Table.width;
+      key = Table.type;
+      digits = 9;
+      base = 0;
+      letter = Table.letter;
+      locality = Locality.town;
+      text = Table.text;
+    }
 
 abbrev pub tableStock : List ℕ → Stock
 tableStock table = stockOf tableShelf table
