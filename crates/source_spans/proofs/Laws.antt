@@ -1,52 +1,48 @@
 -- Laws of spans: a field of a record as a part of the record's file, and the organisation of a delivery point.
 -- Assumes nothing.
-use Prim.Native.Nat.{ℕ, zero, suc, _+_, _-_, _*_, _/_, min, _≤_, _<_}
+use Prim.Native.Nat.{ℕ, _+_, _-_, _*_, _/_, min, _≤_, _<_}
 use mathlib.Core.Path.{_≡_, refl, sym, ap, _∙_}
 use mathlib.Core.Bool.{Bool, true, false, cond}
 use mathlib.Core.List.{List, [], _∷_}
 use native.Mathlib.Omega.{arith}
-use lib.ListN.{length, take, drop}
-use lib.Seq.{take-nil, drop-nil, drop-drop}
+use lib.ListN.{length, length-take, length-drop}
+use lib.Seq.{take-nil, drop-nil}
 use Rattle.field.specs.Text.{trim, part, textIn}
 use Rattle.file_record.specs.Parts.{recordAt}
-use Rattle.file_record.proofs.Records.{record-here, record-none}
+use Rattle.field.proofs.Fronts.{front-text}
+use Rattle.file_record.proofs.Records.{part-part, record-none, record-length, record-part}
 use Rattle.source.specs.Address.{none-needed, named, lacking}
 use Rattle.source.specs.Resolve.{nameOf, departmentOf}
 
--- a part of a part
-drop-take : (m n : ℕ) (l : List ℕ) → drop m (take n l) ≡ take (n - m) (drop m l)
-drop-take zero n l = rw (let z : n - 0 ≡ n = omega arith in z)
-drop-take (suc m) zero l = rw (let z : 0 - suc m ≡ 0 = omega arith in z)
-drop-take (suc m) (suc n) [] = sym (take-nil (suc n - suc m))
-drop-take (suc m) (suc n) (x ∷ xs) = rw (let z : suc n - suc m ≡ n - m = omega arith in z) (drop-take m n xs)
+module _ (w : ℕ) (file : List ℕ) (row from : ℕ) where
+  -- the bytes of a record that a text takes up, as bytes of the record's file
+  within : (t : List ℕ) → row < length file / w → part (recordAt w file row) from (from + length t) ≡ t
+      → part file (row * w + from) (row * w + from + length t) ≡ t
+  within [] h e = rw (let none : row * w + from + 0 - (row * w + from) ≡ 0 = omega arith in none)
+  within (x ∷ xs) h e =
+      let t = x ∷ xs in
+      let taken : min (from + length t - from) (length (recordAt w file row) - from) ≡ length t
+      = sym (simp (length-take, length-drop)) ∙ ap length e in
+      let fits : from + length t ≤ w = omega (arith, record-length w file row h, taken) in
+      let end : row * w + from + length t ≡ row * w + (from + length t) = omega arith in
+      rw end (sym (record-part w file row h from (from + length t) fits) ∙ e)
 
-take-twice : (n m : ℕ) (l : List ℕ) → take n (take m l) ≡ take (min n m) l
-take-twice zero m l = rw (let z : min 0 m ≡ 0 = omega arith in z)
-take-twice (suc n) zero l = rw (let z : min (suc n) 0 ≡ 0 = omega arith in z)
-take-twice (suc n) (suc m) [] = sym (take-nil (min (suc n) (suc m)))
-take-twice (suc n) (suc m) (x ∷ xs) =
-    rw (let z : min (suc n) (suc m) ≡ suc (min n m) = omega arith in z) (ap (x ∷_) (take-twice n m xs))
-
--- so many bytes of a part, no further than the part's end
-pub part-within : (file : List ℕ) (a w from n : ℕ)
-    → part (part file a (a + w)) from (from + n) ≡ part file (a + from) (min (a + from + n) (a + w))
-part-within file a w from n =
-    let all : a + w - a ≡ w = omega arith in
-    let some : from + n - from ≡ n = omega arith in
-    let end : min (a + from + n) (a + w) - (a + from) ≡ min n (w - from) = omega arith in
-    rw (all, some, end, drop-take from w (drop a file), drop-drop from a file)
-    (take-twice n (w - from) (drop (a + from) file))
-
-module _ (w : ℕ) (file : List ℕ) (row from n : ℕ) where
   -- the text of a field of a record that is there, and of one that is not
-  pub record-text : row < length file / w
-      → textIn file (row * w + from) (min (row * w + from + n) (row * w + w)) ≡ textIn (recordAt w file row) from (from + n)
-  unfolding textIn
-  record-text h = rw (record-here w file row h) (ap trim (sym (part-within file (row * w) w from n)))
+  pub record-text : row < length file / w → (end : ℕ)
+      → part file (row * w + from) (row * w + from + length (textIn (recordAt w file row) from end))
+      ≡ textIn (recordAt w file row) from end
+  record-text h end = within (textIn (recordAt w file row) from end) h (front-text (recordAt w file row) from end)
 
-  pub record-no-text : length file / w ≤ row → textIn (recordAt w file row) from (from + n) ≡ []
+  pub record-no-text : length file / w ≤ row → (end : ℕ) → textIn (recordAt w file row) from end ≡ []
   unfolding textIn
-  record-no-text h = rw (record-none w file row h, drop-nil {A = ℕ} from, take-nil {A = ℕ} (from + n - from))
+  record-no-text h end = rw (record-none w file row h, drop-nil {A = ℕ} from, take-nil {A = ℕ} (end - from))
+
+-- the text of a field is that of the field alone
+pub field-text : (own : List ℕ) (at n : ℕ) → textIn (part own at (at + n)) 0 n ≡ textIn own at (at + n)
+unfolding textIn
+field-text own at n =
+    let whole : part own (at + 0) (at + n) ≡ part own at (at + n) = rw (let z : at + 0 ≡ at = omega arith in z) in
+    ap trim (part-part own at n 0 n (omega arith) ∙ whole)
 
 -- name and department, by whether there is an organisation, and one that is not there
 pub name-said : (t u : Bool) (n d : List ℕ) → cond t n [] ≡ nameOf (cond t (named n d) (cond u lacking none-needed))

@@ -1,4 +1,5 @@
 // Spans of a delivery point whose texts lie within their slices.
+use file_record::inner::whole_record;
 use label::Span;
 use label::Spans;
 use shelf::Shelf;
@@ -29,7 +30,8 @@ fn own_span(own: &[u8], at: usize, width: usize) -> Span
     requires { ⌜ (width ≤ 255) × (at + width ≤ length (now own)) ⌝ }
     ensures { λ r. ⌜ OwnSays (now (own .entry)) r (textIn (now (own .entry)) at (at + width)) ⌝ }
 {
-    let text = field_read::read_text(own, at, at + width);
+    let field = file_record::part_of(own, at, at + width);
+    let text = field_read::read_text(field, 0, width);
     Span {
         first: false,
         at,
@@ -61,13 +63,11 @@ fn row_span(file: &[u8], s: Shelf, row: usize, from: usize, width: usize) -> Spa
     if file.len() / w <= row {
         return no_span(true);
     }
-    let start = row * w;
-    let at = start + from;
-    let end = field::lesser(at + width, start + w);
-    let text = field_read::read_text(file, at, end);
+    let rec = whole_record(file, w, row);
+    let text = field_read::read_text(rec, from, from + width);
     Span {
         first: true,
-        at,
+        at: row * w + from,
         len: text.len() as u8,
     }
 }

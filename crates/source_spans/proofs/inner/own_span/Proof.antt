@@ -2,26 +2,28 @@
 use borrow.Author.Needs.{needs}
 use Prim.Native.Nat.{_+_}
 use native.Mathlib.Omega.{arith}
+use Rattle.field.specs.Text.{part}
 use Rattle.field.proofs.Fronts.{text-in-bound, front-text}
+use Rattle.source_spans.proofs.Laws.{field-text}
 use Rattle.source_spans.proofs.inner.own_span.Statement.{statement}
 use Rattle.source_spans.proofs.inner.own_span.Tie as tie
 
-add-read-text : tie.Need-add-read-text
-add-read-text c = search needs
-
-read-text-requires : tie.Need-read-text-requires
-read-text-requires c κs = search needs
-
-cast-t6 : tie.Need-cast-t6
-cast-t6 c =
-    let e = c .before .before in
-    let a = e .args in
-    rw (c .read-text .ensures) (omega (arith, e .pre .0, text-in-bound (a .own .now) (a .at) (a .at + a .width)))
+cast-len : tie.Need-cast-t7
+cast-len c =
+    let at-field = c .before in
+    let at-start = at-field .before .before in
+    let a = at-start .args in
+    rw (c .read-text .ensures, at-field .part-of .ensures)
+    (omega (arith, at-start .pre .0, text-in-bound (part (a .own .now) (a .at) (a .at + a .width)) 0 (a .width)))
 
 returns : tie.Need-returns
 returns c =
-    let a = c .before .before .args in
-    λ first. rw (c .read-text .ensures) (front-text (a .own .now) (a .at) (a .at + a .width))
+    let at-field = c .before in
+    let a = at-field .before .before .args in
+    λ first. rw (c .read-text .ensures, at-field .part-of .ensures, field-text (a .own .now) (a .at) (a .width))
+    (front-text (a .own .now) (a .at) (a .at + a .width))
 
 pub own-span-spec : {M : Type 1} → statement M
-own-span-spec = tie.close (tie.spec add-read-text read-text-requires cast-t6 returns)
+own-span-spec =
+    tie.close
+    (tie.spec (λ c. search needs) (λ c κs. search needs) (λ c κs. search needs) cast-len returns)

@@ -3,12 +3,6 @@ use borrow.Author.Needs.{needs}
 use Rattle.source_spans.proofs.inner.own_span_if.Statement.{statement}
 use Rattle.source_spans.proofs.inner.own_span_if.Tie as tie
 
-own-span-requires : tie.Need-own-span-requires
-own-span-requires c κs = search needs
-
-no-span-requires : tie.Need-no-span-requires
-no-span-requires c κs = search needs
-
 returns : tie.Need-returns
 returns c = λ first. rw (c .own-span .ensures first) (simp (c .before .if1 .taken))
 
@@ -18,4 +12,4 @@ returns-2 c =
     λ first. rw (c .no-span .ensures first (e .args .own .now)) (simp (c .before .if1 .left))
 
 pub own-span-if-spec : {M : Type 1} → statement M
-own-span-if-spec = tie.close (tie.spec own-span-requires no-span-requires returns returns-2)
+own-span-if-spec = tie.close (tie.spec (λ c κs. search needs) (λ c κs. search needs) returns returns-2)
