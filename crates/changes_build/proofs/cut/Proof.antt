@@ -29,12 +29,6 @@ module _ (f : tie.After-fill-refs) where
             (f .fill-refs .ensures);
       }
 
-table-shelf-requires : tie.Need-table-shelf-requires
-table-shelf-requires c κs = search needs
-
-slice-aggregate-fill-refs : tie.Need-slice-aggregate-fill-refs
-slice-aggregate-fill-refs c = search needs
-
 fill-refs-requires : tie.Need-fill-refs-requires
 fill-refs-requires c κs =
     let t = c .before in
@@ -42,25 +36,10 @@ fill-refs-requires c κs =
     rw (t .table-shelf .ensures)
     (table-fits, fresh-long 20000 (s .args .table .now) (s .pre .of-table) (omega arith))
 
-slice-aggregate-mark-views : tie.Need-slice-aggregate-mark-views
-slice-aggregate-mark-views c = search needs
-
-slice-aggregate-mark-views-2 : tie.Need-slice-aggregate-mark-views-2
-slice-aggregate-mark-views-2 c = search needs
-
 mark-views-requires : tie.Need-mark-views-requires
 mark-views-requires c κs =
     let f = c .before .before .before in
     (known f, fresh-long 20000 (s f .args .table .now) (s f .pre .of-table) (omega arith))
-
-enum-told : tie.Need-enum-told
-enum-told c = search needs
-
-slice-aggregate-write-if-room : tie.Need-slice-aggregate-write-if-room
-slice-aggregate-write-if-room c = search needs
-
-slice-aggregate-write-if-room-2 : tie.Need-slice-aggregate-write-if-room-2
-slice-aggregate-write-if-room-2 c = search needs
 
 write-if-room-requires : tie.Need-write-if-room-requires
 write-if-room-requires c κs =
@@ -72,12 +51,6 @@ write-if-room-requires c κs =
       fresh-marked 20000 (a .table .now) (a .points .now) (a .code .now) _ refl (s f .pre)
           (sym (m .mark-views .ensures .said) ∙ told) (m .mark-views .ensures .marks-all told),
     )
-
-enum-known-reason : tie.Need-enum-known-reason
-enum-known-reason c = search needs
-
-same-length : tie.Need-same-length
-same-length c = search needs
 
 returns : tie.Need-returns
 returns c =
@@ -105,17 +78,17 @@ pub cut-spec : {M : Type 1} → statement M
 cut-spec =
     tie.close
     (tie.spec
-    table-shelf-requires
-    slice-aggregate-fill-refs
+    (λ c κs. search needs)
+    (λ c. search needs)
     fill-refs-requires
-    slice-aggregate-mark-views
-    slice-aggregate-mark-views-2
+    (λ c. search needs)
+    (λ c. search needs)
     mark-views-requires
-    enum-told
-    slice-aggregate-write-if-room
-    slice-aggregate-write-if-room-2
+    (λ c. search needs)
+    (λ c. search needs)
+    (λ c. search needs)
     write-if-room-requires
-    enum-known-reason
-    same-length
+    (λ c. search needs)
+    (λ c. search needs)
     returns
     returns-2)

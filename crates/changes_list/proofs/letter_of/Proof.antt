@@ -6,24 +6,6 @@ use Rattle.refusal.proofs.Outcomes.{after-value, after-refused}
 use Rattle.changes_list.proofs.letter_of.Statement.{statement}
 use Rattle.changes_list.proofs.letter_of.Tie as tie
 
-check-points-requires : tie.Need-check-points-requires
-check-points-requires c κs = search needs
-
-enum-told : tie.Need-enum-told
-enum-told c = search needs
-
-slice-aggregate-wanted-at : tie.Need-slice-aggregate-wanted-at
-slice-aggregate-wanted-at c = search needs
-
-wanted-at-requires : tie.Need-wanted-at-requires
-wanted-at-requires c κs = search needs
-
-letter-at-requires : tie.Need-letter-at-requires
-letter-at-requires c κs = search needs
-
-enum-known-file : tie.Need-enum-known-file
-enum-known-file c = search needs
-
 returns : tie.Need-returns
 unfolding letterAnswer
 returns c =
@@ -42,11 +24,11 @@ pub letter-of-spec : {M : Type 1} → statement M
 letter-of-spec =
     tie.close
     (tie.spec
-    check-points-requires
-    enum-told
-    slice-aggregate-wanted-at
-    wanted-at-requires
-    letter-at-requires
-    enum-known-file
+    (λ c κs. search needs)
+    (λ c. search needs)
+    (λ c. search needs)
+    (λ c κs. search needs)
+    (λ c κs. search needs)
+    (λ c. search needs)
     returns
     returns-2)

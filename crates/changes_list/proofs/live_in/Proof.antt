@@ -6,18 +6,6 @@ use Rattle.refusal.proofs.Outcomes.{after-value, after-refused}
 use Rattle.changes_list.proofs.live_in.Statement.{statement}
 use Rattle.changes_list.proofs.live_in.Tie as tie
 
-check-points-requires : tie.Need-check-points-requires
-check-points-requires c κs = search needs
-
-enum-told : tie.Need-enum-told
-enum-told c = search needs
-
-live-at-requires : tie.Need-live-at-requires
-live-at-requires c κs = search needs
-
-enum-known-file : tie.Need-enum-known-file
-enum-known-file c = search needs
-
 returns : tie.Need-returns
 unfolding liveAnswer
 returns c =
@@ -33,4 +21,4 @@ returns-2 c =
 pub live-in-spec : {M : Type 1} → statement M
 live-in-spec =
     tie.close
-    (tie.spec check-points-requires enum-told live-at-requires enum-known-file returns returns-2)
+    (tie.spec (λ c κs. search needs) (λ c. search needs) (λ c κs. search needs) (λ c. search needs) returns returns-2)

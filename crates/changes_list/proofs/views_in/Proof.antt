@@ -6,21 +6,6 @@ use Rattle.refusal.proofs.Outcomes.{after-value, after-refused}
 use Rattle.changes_list.proofs.views_in.Statement.{statement}
 use Rattle.changes_list.proofs.views_in.Tie as tie
 
-check-points-requires : tie.Need-check-points-requires
-check-points-requires c κs = search needs
-
-enum-told : tie.Need-enum-told
-enum-told c = search needs
-
-slice-aggregate-count-wanted : tie.Need-slice-aggregate-count-wanted
-slice-aggregate-count-wanted c = search needs
-
-count-wanted-requires : tie.Need-count-wanted-requires
-count-wanted-requires c κs = search needs
-
-enum-known-file : tie.Need-enum-known-file
-enum-known-file c = search needs
-
 returns : tie.Need-returns
 unfolding viewsAnswer
 returns c =
@@ -37,10 +22,10 @@ pub views-in-spec : {M : Type 1} → statement M
 views-in-spec =
     tie.close
     (tie.spec
-    check-points-requires
-    enum-told
-    slice-aggregate-count-wanted
-    count-wanted-requires
-    enum-known-file
+    (λ c κs. search needs)
+    (λ c. search needs)
+    (λ c. search needs)
+    (λ c κs. search needs)
+    (λ c. search needs)
     returns
     returns-2)

@@ -5,24 +5,6 @@ use borrow.Author.Tests.{ne-eqb}
 use Rattle.changes_points.proofs.point_rest_fault.Statement.{statement}
 use Rattle.changes_points.proofs.point_rest_fault.Tie as tie
 
-byte-of-requires : tie.Need-byte-of-requires
-byte-of-requires c κs = search needs
-
-view-fault-requires : tie.Need-view-fault-requires
-view-fault-requires c κs = search needs
-
-filled-at-requires : tie.Need-filled-at-requires
-filled-at-requires c κs = search needs
-
-organisation-fault-requires : tie.Need-organisation-fault-requires
-organisation-fault-requires c κs = search needs
-
-text-at-requires : tie.Need-text-at-requires
-text-at-requires c κs = search needs
-
-organisation-fault-requires-2 : tie.Need-organisation-fault-requires-2
-organisation-fault-requires-2 c κs = search needs
-
 returns : tie.Need-returns
 returns c =
     let m = c .before in
@@ -47,12 +29,12 @@ pub point-rest-fault-spec : {M : Type 1} → statement M
 point-rest-fault-spec =
     tie.close
     (tie.spec
-    byte-of-requires
-    view-fault-requires
-    filled-at-requires
-    organisation-fault-requires
-    text-at-requires
-    organisation-fault-requires-2
+    (λ c κs. search needs)
+    (λ c κs. search needs)
+    (λ c κs. search needs)
+    (λ c κs. search needs)
+    (λ c κs. search needs)
+    (λ c κs. search needs)
     returns
     returns-2
     returns-3

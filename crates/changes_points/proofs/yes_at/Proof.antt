@@ -6,15 +6,6 @@ use Rattle.file_fault.proofs.Laws.{one-byte}
 use Rattle.changes_points.proofs.yes_at.Statement.{statement}
 use Rattle.changes_points.proofs.yes_at.Tie as tie
 
-byte-of-requires : tie.Need-byte-of-requires
-byte-of-requires c κs = search needs
-
-is-yes-or-space-requires : tie.Need-is-yes-or-space-requires
-is-yes-or-space-requires c κs = search needs
-
-byte-fault-requires : tie.Need-byte-fault-requires
-byte-fault-requires c κs = search needs
-
 returns : tie.Need-returns
 returns c =
     let t = c .before in
@@ -24,4 +15,4 @@ returns c =
 
 pub yes-at-spec : {M : Type 1} → statement M
 yes-at-spec =
-    tie.close (tie.spec byte-of-requires is-yes-or-space-requires byte-fault-requires returns)
+    tie.close (tie.spec (λ c κs. search needs) (λ c κs. search needs) (λ c κs. search needs) returns)

@@ -5,24 +5,6 @@ use Rattle.file_fault.specs.Table.{doubleFault}
 use Rattle.changes_table.proofs.double_at.Statement.{statement}
 use Rattle.changes_table.proofs.double_at.Tie as tie
 
-part-of-requires : tie.Need-part-of-requires
-part-of-requires c κs = search needs
-
-part-of-requires-2 : tie.Need-part-of-requires-2
-part-of-requires-2 c κs = search needs
-
-all-are-requires : tie.Need-all-are-requires
-all-are-requires c κs = search needs
-
-all-are-requires-2 : tie.Need-all-are-requires-2
-all-are-requires-2 c κs = search needs
-
-add-result : tie.Need-add-result
-add-result c = search needs
-
-text-at-requires : tie.Need-text-at-requires
-text-at-requires c κs = search needs
-
 returns : tie.Need-returns
 unfolding doubleFault
 returns c =
@@ -47,11 +29,11 @@ pub double-at-spec : {M : Type 1} → statement M
 double-at-spec =
     tie.close
     (tie.spec
-    part-of-requires
-    part-of-requires-2
-    all-are-requires
-    all-are-requires-2
-    add-result
-    text-at-requires
+    (λ c κs. search needs)
+    (λ c κs. search needs)
+    (λ c κs. search needs)
+    (λ c κs. search needs)
+    (λ c. search needs)
+    (λ c κs. search needs)
     returns
     returns-2)

@@ -6,12 +6,6 @@ use native.Mathlib.Omega.{arith}
 use Rattle.changes_table.proofs.name_fault.Statement.{statement}
 use Rattle.changes_table.proofs.name_fault.Tie as tie
 
-filled-at-requires : tie.Need-filled-at-requires
-filled-at-requires c κs = search needs
-
-first-of-requires : tie.Need-first-of-requires
-first-of-requires c κs = search needs
-
 returns : tie.Need-returns
 returns c =
     let f = c .before in
@@ -19,4 +13,4 @@ returns c =
     rw (c .first-of .ensures, f .filled-at .ensures, (let size : 24 + (a .end - 24) ≡ a .end = omega arith in size))
 
 pub name-fault-spec : {M : Type 1} → statement M
-name-fault-spec = tie.close (tie.spec filled-at-requires first-of-requires returns)
+name-fault-spec = tie.close (tie.spec (λ c κs. search needs) (λ c κs. search needs) returns)

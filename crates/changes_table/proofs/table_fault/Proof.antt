@@ -5,23 +5,14 @@ use Rattle.file_fault.specs.Table.{tableFault}
 use Rattle.changes_table.proofs.table_fault.Statement.{statement}
 use Rattle.changes_table.proofs.table_fault.Tie as tie
 
-table-head-fault-requires : tie.Need-table-head-fault-requires
-table-head-fault-requires c κs = search needs
-
-table-rest-fault-requires : tie.Need-table-rest-fault-requires
-table-rest-fault-requires c κs = search needs
-
-first-of-requires : tie.Need-first-of-requires
-first-of-requires c κs = search needs
-
 returns : tie.Need-returns
 unfolding tableFault
 returns c =
-    let c₁ = c .before in
-    let c₂ = c₁ .before in
-    rw (c .first-of .ensures, c₁ .table-rest-fault .ensures, c₂ .table-head-fault .ensures)
+    let behind-table-rest-fault = c .before in
+    let behind-table-head-fault = behind-table-rest-fault .before in
+    rw (c .first-of .ensures, behind-table-rest-fault .table-rest-fault .ensures, behind-table-head-fault .table-head-fault .ensures)
 
 pub table-fault-spec : {M : Type 1} → statement M
 table-fault-spec =
     tie.close
-    (tie.spec table-head-fault-requires table-rest-fault-requires first-of-requires returns)
+    (tie.spec (λ c κs. search needs) (λ c κs. search needs) (λ c κs. search needs) returns)

@@ -5,24 +5,6 @@ use borrow.Author.Tests.{ne-eqb}
 use Rattle.changes_table.proofs.table_rest_fault.Statement.{statement}
 use Rattle.changes_table.proofs.table_rest_fault.Tie as tie
 
-byte-of-requires : tie.Need-byte-of-requires
-byte-of-requires c κs = search needs
-
-locality-fault-requires : tie.Need-locality-fault-requires
-locality-fault-requires c κs = search needs
-
-name-fault-requires : tie.Need-name-fault-requires
-name-fault-requires c κs = search needs
-
-name-fault-requires-2 : tie.Need-name-fault-requires-2
-name-fault-requires-2 c κs = search needs
-
-name-fault-requires-3 : tie.Need-name-fault-requires-3
-name-fault-requires-3 c κs = search needs
-
-name-fault-requires-4 : tie.Need-name-fault-requires-4
-name-fault-requires-4 c κs = search needs
-
 returns : tie.Need-returns
 returns c =
     let m = c .before in
@@ -57,12 +39,12 @@ pub table-rest-fault-spec : {M : Type 1} → statement M
 table-rest-fault-spec =
     tie.close
     (tie.spec
-    byte-of-requires
-    locality-fault-requires
-    name-fault-requires
-    name-fault-requires-2
-    name-fault-requires-3
-    name-fault-requires-4
+    (λ c κs. search needs)
+    (λ c κs. search needs)
+    (λ c κs. search needs)
+    (λ c κs. search needs)
+    (λ c κs. search needs)
+    (λ c κs. search needs)
     returns
     returns-2
     returns-3

@@ -6,21 +6,6 @@ use Rattle.file.specs.Formats.{formatOf}
 use Rattle.file_check.proofs.check.Statement.{statement}
 use Rattle.file_check.proofs.check.Tie as tie
 
-numbers-of-requires : tie.Need-numbers-of-requires
-numbers-of-requires c κs = search needs
-
-verdict-of-requires : tie.Need-verdict-of-requires
-verdict-of-requires c κs = search needs
-
-enum-told : tie.Need-enum-told
-enum-told c = search needs
-
-records-in-requires : tie.Need-records-in-requires
-records-in-requires c κs = search needs
-
-enum-known-reason : tie.Need-enum-known-reason
-enum-known-reason c = search needs
-
 returns : tie.Need-returns
 unfolding checked
 returns c =
@@ -41,10 +26,10 @@ pub check-spec : {M : Type 1} → statement M
 check-spec =
     tie.close
     (tie.spec
-    numbers-of-requires
-    verdict-of-requires
-    enum-told
-    records-in-requires
-    enum-known-reason
+    (λ c κs. search needs)
+    (λ c κs. search needs)
+    (λ c. search needs)
+    (λ c κs. search needs)
+    (λ c. search needs)
     returns
     returns-2)

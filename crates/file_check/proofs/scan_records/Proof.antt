@@ -1,5 +1,5 @@
--- `file_check::scan_records` meets its contract: up to i every record is fine, and the first that is not ends the walk.
--- Assumes nothing.
+-- `file_check::scan_records` meets its contract. The invariant: every record before i is fine, so that the scan from i on
+-- is the whole one. Assumes nothing.
 use borrow.Author.Needs.{needs}
 use Prim.Native.Nat.{_+_, _-_}
 use mathlib.Core.Path.{_≡_, refl, sym, ap, _∙_}
@@ -18,9 +18,6 @@ Inv-loop kind file n i₀ i = Onward (formatOf kind) file n 1 i
 abbrev μ-loop : tie.MeasureT-loop
 μ-loop kind file n i₀ i = n - 1 - i
 
-fresh-requires : tie.Need-fresh-requires Inv-loop μ-loop
-fresh-requires c κs = search needs
-
 standing-requires : tie.Need-standing-requires Inv-loop μ-loop
 standing-requires c κs =
     let s = c .before .before in
@@ -37,12 +34,6 @@ judge-requires c κs =
     let s = c .before .loop .inv .reached in
     (s .low, omega (arith, s .all), omega (arith, s .few))
 
-enum-told : tie.Need-enum-told Inv-loop μ-loop
-enum-told c = search needs
-
-enum-known-why : tie.Need-enum-known-why Inv-loop μ-loop
-enum-known-why c = search needs
-
 returns : tie.Need-returns Inv-loop μ-loop
 returns c =
     let w = c .before in
@@ -55,9 +46,6 @@ returns c =
     (ap (λ k. scan judge k 1) size
     ∙ (l .loop .inv .found
     ∙ scan-stop judge (a .n - 1) (l .loop .i) (omega arith) (w .why .given .0 .0) (sym (j .judge .ensures) ∙ w .why .given .1)))
-
-add-standing : tie.Need-add-standing Inv-loop μ-loop
-add-standing c = search needs
 
 standing-requires-2 : tie.Need-standing-requires-2 Inv-loop μ-loop
 standing-requires-2 c κs =
@@ -98,15 +86,15 @@ scan-records-spec =
     (tie.spec
     Inv-loop
     μ-loop
-    fresh-requires
+    (λ c κs. search needs)
     standing-requires
     loop-holds
     sub-loop
     judge-requires
-    enum-told
-    enum-known-why
+    (λ c. search needs)
+    (λ c. search needs)
     returns
-    add-standing
+    (λ c. search needs)
     standing-requires-2
     loop-less
     loop-again

@@ -1,4 +1,5 @@
--- `file_check::standing` meets its contract: up to i every record is fine, since each was asked. Assumes nothing.
+-- `file_check::standing` meets its contract. The invariant: every record from `from` to before i is fine, since each was
+-- asked. Assumes nothing.
 use borrow.Author.Needs.{needs}
 use Prim.Native.Nat.{_-_}
 use native.Mathlib.Omega.{arith}

@@ -8,38 +8,29 @@ use Rattle.file.proofs.Laws.{limit-few, at-least-two, within-limit, verdict-len
 use Rattle.file_check.proofs.verdict_of.Statement.{statement}
 use Rattle.file_check.proofs.verdict_of.Tie as tie
 
-is-whole-requires : tie.Need-is-whole-requires
-is-whole-requires c κs = search needs
-
 returns : tie.Need-returns
 returns c =
     let w = c .before in
     let a = w .before .before .args in
     sym (verdict-length (formatOf (a .kind)) (a .file .now) (sym (w .is-whole .ensures) ∙ not-true _ (c .if1 .taken)))
 
-records-in-requires : tie.Need-records-in-requires
-records-in-requires c κs = search needs
-
 record-in-requires : tie.Need-record-in-requires
 record-in-requires c κs =
-    let w₁ = c .before in
-    let w = w₁ .before in
+    let behind-if1 = c .before in
+    let w = behind-if1 .before in
     let a = w .before .before .args in
-    let whole-file = sym (w .is-whole .ensures) ∙ not-false _ (w₁ .if1 .left) in
+    let whole-file = sym (w .is-whole .ensures) ∙ not-false _ (behind-if1 .if1 .left) in
     omega (arith, at-least-two (formatOf (a .kind)) (a .file .now) whole-file)
-
-is-header-requires : tie.Need-is-header-requires
-is-header-requires c κs = search needs
 
 returns-2 : tie.Need-returns-2
 returns-2 c =
     let h = c .before in
     let r = h .before in
     let n = r .before in
-    let w₁ = n .before in
-    let w = w₁ .before in
+    let behind-if1 = n .before in
+    let w = behind-if1 .before in
     let a = w .before .before .args in
-    let whole-file = sym (w .is-whole .ensures) ∙ not-false _ (w₁ .if1 .left) in
+    let whole-file = sym (w .is-whole .ensures) ∙ not-false _ (behind-if1 .if1 .left) in
     sym
     (verdict-header (formatOf (a .kind)) (a .file .now) whole-file
     (rw (r .record-in .ensures) at (sym (h .is-header .ensures) ∙ not-true _ (c .if2 .taken))))
@@ -47,37 +38,34 @@ returns-2 c =
 sub-record-in : tie.Need-sub-record-in
 sub-record-in c =
     let n = c .before .before .before in
-    let w₁ = n .before in
-    let w = w₁ .before in
+    let behind-if1 = n .before in
+    let w = behind-if1 .before in
     let a = w .before .before .args in
-    let whole-file = sym (w .is-whole .ensures) ∙ not-false _ (w₁ .if1 .left) in
+    let whole-file = sym (w .is-whole .ensures) ∙ not-false _ (behind-if1 .if1 .left) in
     omega (arith, n .records-in .ensures, at-least-two (formatOf (a .kind)) (a .file .now) whole-file)
 
 record-in-requires-2 : tie.Need-record-in-requires-2
 record-in-requires-2 c κs =
     let n = c .before .before .before in
-    let w₁ = n .before in
-    let w = w₁ .before in
+    let behind-if1 = n .before in
+    let w = behind-if1 .before in
     let a = w .before .before .args in
-    let whole-file = sym (w .is-whole .ensures) ∙ not-false _ (w₁ .if1 .left) in
+    let whole-file = sym (w .is-whole .ensures) ∙ not-false _ (behind-if1 .if1 .left) in
     omega (arith, n .records-in .ensures, at-least-two (formatOf (a .kind)) (a .file .now) whole-file)
-
-is-trailer-requires : tie.Need-is-trailer-requires
-is-trailer-requires c κs = search needs
 
 returns-3 : tie.Need-returns-3
 returns-3 c =
     let e = c .before in
     let l = e .before in
-    let h₁ = l .before in
-    let h = h₁ .before in
+    let behind-if2 = l .before in
+    let h = behind-if2 .before in
     let r = h .before in
     let n = r .before in
-    let w₁ = n .before in
-    let w = w₁ .before in
+    let behind-if1 = n .before in
+    let w = behind-if1 .before in
     let a = w .before .before .args in
-    let whole-file = sym (w .is-whole .ensures) ∙ not-false _ (w₁ .if1 .left) in
-    let headed = rw (r .record-in .ensures) at (sym (h .is-header .ensures) ∙ not-false _ (h₁ .if2 .left)) in
+    let whole-file = sym (w .is-whole .ensures) ∙ not-false _ (behind-if1 .if1 .left) in
+    let headed = rw (r .record-in .ensures) at (sym (h .is-header .ensures) ∙ not-false _ (behind-if2 .if2 .left)) in
     rw (n .records-in .ensures)
     (sym
     (verdict-trailer (formatOf (a .kind)) (a .file .now) whole-file headed
@@ -86,45 +74,45 @@ returns-3 c =
 scan-records-requires : tie.Need-scan-records-requires
 scan-records-requires c κs =
     let n = c .before .before .before .before .before .before in
-    let w₁ = n .before in
-    let w = w₁ .before in
+    let behind-if1 = n .before in
+    let w = behind-if1 .before in
     let a = w .before .before .args in
-    let whole-file = sym (w .is-whole .ensures) ∙ not-false _ (w₁ .if1 .left) in
+    let whole-file = sym (w .is-whole .ensures) ∙ not-false _ (behind-if1 .if1 .left) in
     rw (n .records-in .ensures)
     (at-least-two (formatOf (a .kind)) (a .file .now) whole-file, omega (arith, within-limit (formatOf (a .kind)) (a .file .now) whole-file, limit-few (a .kind)), refl)
 
 returns-4 : tie.Need-returns-4
 returns-4 c =
-    let e₁ = c .before in
-    let e = e₁ .before in
+    let behind-if3 = c .before in
+    let e = behind-if3 .before in
     let l = e .before in
-    let h₁ = l .before in
-    let h = h₁ .before in
+    let behind-if2 = l .before in
+    let h = behind-if2 .before in
     let r = h .before in
     let n = r .before in
-    let w₁ = n .before in
-    let w = w₁ .before in
+    let behind-if1 = n .before in
+    let w = behind-if1 .before in
     let a = w .before .before .args in
-    let whole-file = sym (w .is-whole .ensures) ∙ not-false _ (w₁ .if1 .left) in
-    let headed = rw (r .record-in .ensures) at (sym (h .is-header .ensures) ∙ not-false _ (h₁ .if2 .left)) in
+    let whole-file = sym (w .is-whole .ensures) ∙ not-false _ (behind-if1 .if1 .left) in
+    let headed = rw (r .record-in .ensures) at (sym (h .is-header .ensures) ∙ not-false _ (behind-if2 .if2 .left)) in
     rw (c .scan-records .ensures, n .records-in .ensures)
     (sym
     (verdict-scan (formatOf (a .kind)) (a .file .now) whole-file headed
-    (rw (l .record-in2 .ensures, n .records-in .ensures) at (sym (e .is-trailer .ensures) ∙ not-false _ (e₁ .if3 .left)))))
+    (rw (l .record-in2 .ensures, n .records-in .ensures) at (sym (e .is-trailer .ensures) ∙ not-false _ (behind-if3 .if3 .left)))))
 
 pub verdict-of-spec : {M : Type 1} → statement M
 verdict-of-spec =
     tie.close
     (tie.spec
-    is-whole-requires
+    (λ c κs. search needs)
     returns
-    records-in-requires
+    (λ c κs. search needs)
     record-in-requires
-    is-header-requires
+    (λ c κs. search needs)
     returns-2
     sub-record-in
     record-in-requires-2
-    is-trailer-requires
+    (λ c κs. search needs)
     returns-3
     scan-records-requires
     returns-4)

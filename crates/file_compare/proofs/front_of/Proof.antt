@@ -7,9 +7,6 @@ use lib.ListN.{length}
 use Rattle.file_compare.proofs.front_of.Statement.{statement}
 use Rattle.file_compare.proofs.front_of.Tie as tie
 
-lesser-requires : tie.Need-lesser-requires
-lesser-requires c κs = search needs
-
 same-forty-requires : tie.Need-same-forty-requires
 same-forty-requires c κs =
     let n = c .before in
@@ -17,9 +14,6 @@ same-forty-requires c κs =
       omega (arith, n .lesser .ensures, min-le-left (length (a .a .now)) (length (a .b .now))),
       omega (arith, n .lesser .ensures, min-le-right (length (a .a .now)) (length (a .b .now))),
     )
-
-same-front-requires : tie.Need-same-front-requires
-same-front-requires c κs = search needs
 
 returns : tie.Need-returns
 returns c = c .same-forty .ensures
@@ -29,4 +23,4 @@ returns-2 c = c .same-front .ensures
 
 pub front-of-spec : {M : Type 1} → statement M
 front-of-spec =
-    tie.close (tie.spec lesser-requires same-forty-requires same-front-requires returns returns-2)
+    tie.close (tie.spec (λ c κs. search needs) same-forty-requires (λ c κs. search needs) returns returns-2)

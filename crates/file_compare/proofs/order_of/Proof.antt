@@ -16,12 +16,6 @@ Inv-loop a b n i₀ i = (i ≤ length a) × (i ≤ length b) × (n ≤ length a)
 abbrev μ-loop : tie.MeasureT-loop
 μ-loop a b n i₀ i = length a - i
 
-lesser-requires : tie.Need-lesser-requires Inv-loop μ-loop
-lesser-requires c κs = search needs
-
-front-of-requires : tie.Need-front-of-requires Inv-loop μ-loop
-front-of-requires c κs = search needs
-
 loop-holds : tie.Need-loop-holds Inv-loop μ-loop
 loop-holds c =
     let f = c .front-of .ensures in
@@ -35,23 +29,11 @@ loop-holds c =
       f .decided,
     )
 
-add-loop : tie.Need-add-loop Inv-loop μ-loop
-add-loop c = search needs
-
-eight-order-requires : tie.Need-eight-order-requires Inv-loop μ-loop
-eight-order-requires c κs = search needs
-
 returns : tie.Need-returns Inv-loop μ-loop
 returns c =
     let f = c .before in
     let l = f .before .before in
     sym (l .loop .inv .4 ∙ (f .eight-order .ensures ∙ simp (ne-eqb _ 0 (c .if1 .taken))))
-
-add-i : tie.Need-add-i Inv-loop μ-loop
-add-i c = search needs
-
-loop-less : tie.Need-loop-less Inv-loop μ-loop
-loop-less c = search needs
 
 loop-again : tie.Need-loop-again Inv-loop μ-loop
 loop-again c =
@@ -64,9 +46,6 @@ loop-again c =
       l .loop .inv .4 ∙ (f .eight-order .ensures ∙ simp (eq-eqb _ 0 (c .if1 .left))),
     )
 
-order-from-requires : tie.Need-order-from-requires Inv-loop μ-loop
-order-from-requires c κs = search needs
-
 returns-2 : tie.Need-returns-2 Inv-loop μ-loop
 returns-2 c =
     let l = c .before .before in
@@ -78,14 +57,14 @@ order-of-spec =
     (tie.spec
     Inv-loop
     μ-loop
-    lesser-requires
-    front-of-requires
+    (λ c κs. search needs)
+    (λ c κs. search needs)
     loop-holds
-    add-loop
-    eight-order-requires
+    (λ c. search needs)
+    (λ c κs. search needs)
     returns
-    add-i
-    loop-less
+    (λ c. search needs)
+    (λ c. search needs)
     loop-again
-    order-from-requires
+    (λ c κs. search needs)
     returns-2)

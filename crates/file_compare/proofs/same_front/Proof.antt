@@ -1,4 +1,5 @@
--- `file_compare::same_front` meets its contract. Assumes nothing.
+-- `file_compare::same_front` meets its contract. The invariant: the bytes before i are equal, so that the order of both is
+-- that of what is left of them. Assumes nothing.
 use borrow.Author.Needs.{needs}
 use Prim.Native.Nat.{_-_, _≤_}
 use mathlib.Core.Path.{_≡_, refl, sym, ap, _∙_}
@@ -16,9 +17,6 @@ Inv-loop a b n i₀ i = (i ≤ length a) × (i ≤ length b) × (n ≤ length a)
 abbrev μ-loop : tie.MeasureT-loop
 μ-loop a b n i₀ i = length a - i
 
-lesser-requires : tie.Need-lesser-requires Inv-loop μ-loop
-lesser-requires c κs = search needs
-
 loop-holds : tie.Need-loop-holds Inv-loop μ-loop
 loop-holds c =
     let a = c .before .before .before .args in
@@ -30,22 +28,10 @@ loop-holds c =
       refl,
     )
 
-add-loop : tie.Need-add-loop Inv-loop μ-loop
-add-loop c = search needs
-
-eight-same-requires : tie.Need-eight-same-requires Inv-loop μ-loop
-eight-same-requires c κs = search needs
-
 returns : tie.Need-returns Inv-loop μ-loop
 returns c =
     let l = c .before .before .before in
     record { in-a = l .loop .inv .0; in-b = l .loop .inv .1; decided = l .loop .inv .4 }
-
-add-i : tie.Need-add-i Inv-loop μ-loop
-add-i c = search needs
-
-loop-less : tie.Need-loop-less Inv-loop μ-loop
-loop-less c = search needs
 
 loop-again : tie.Need-loop-again Inv-loop μ-loop
 loop-again c =
@@ -69,12 +55,12 @@ same-front-spec =
     (tie.spec
     Inv-loop
     μ-loop
-    lesser-requires
+    (λ c κs. search needs)
     loop-holds
-    add-loop
-    eight-same-requires
+    (λ c. search needs)
+    (λ c κs. search needs)
     returns
-    add-i
-    loop-less
+    (λ c. search needs)
+    (λ c. search needs)
     loop-again
     returns-2)

@@ -8,10 +8,10 @@ use Rattle.file_ends.proofs.header_ok.Tie as tie
 returns : tie.Need-returns
 unfolding headerOk
 returns c =
-    let c₁ = c .before in
-    let c₂ = c₁ .before in
-    let c₃ = c₂ .before in
-    rw (c .order-of .ensures, c₁ .part-of2 .ensures, c₂ .identifier-of .ensures, c₃ .part-of .ensures)
+    let behind-part-of2 = c .before in
+    let behind-identifier-of = behind-part-of2 .before in
+    let behind-part-of = behind-identifier-of .before in
+    rw (c .order-of .ensures, behind-part-of2 .part-of2 .ensures, behind-identifier-of .identifier-of .ensures, behind-part-of .part-of .ensures)
 
 pub header-ok-spec : {M : Type 1} → statement M
 header-ok-spec = tie.close (tie.spec (search needs) (search needs) (search needs) (search needs) (search needs) returns)

@@ -8,11 +8,11 @@ use Rattle.file_ends.proofs.trailer_ok.Tie as tie
 returns : tie.Need-returns
 unfolding trailerOk
 returns c =
-    let c₁ = c .before in
-    let c₂ = c₁ .before in
-    let c₃ = c₂ .before in
-    let c₄ = c₃ .before in
-    rw (c .value-of .ensures, c₁ .digits-fault .ensures, c₂ .part-of2 .ensures, c₃ .identifier-of .ensures, c₄ .part-of .ensures)
+    let behind-digits-fault = c .before in
+    let behind-part-of2 = behind-digits-fault .before in
+    let behind-identifier-of = behind-part-of2 .before in
+    let behind-part-of = behind-identifier-of .before in
+    rw (c .value-of .ensures, behind-digits-fault .digits-fault .ensures, behind-part-of2 .part-of2 .ensures, behind-identifier-of .identifier-of .ensures, behind-part-of .part-of .ensures)
 
 pub trailer-ok-spec : {M : Type 1} → statement M
 trailer-ok-spec =

@@ -8,12 +8,6 @@ use Rattle.pack_open.proofs.Opened.{opened-all, opened-sized}
 use Rattle.pack_label.proofs.label_of_point.Statement.{statement}
 use Rattle.pack_label.proofs.label_of_point.Tie as tie
 
-open-pack-requires : tie.Need-open-pack-requires
-open-pack-requires c κs = search needs
-
-enum-known-count : tie.Need-enum-known-count
-enum-known-count c = search needs
-
 label-at-requires : tie.Need-label-at-requires
 label-at-requires c κs =
     let n = c .before .before in
@@ -21,12 +15,6 @@ label-at-requires c κs =
     let a = o .before .before .before .args in
     let value = sym (o .open-pack .ensures) ∙ n .count .given .1 in
     (opened-sized (a .pack .now) _ value, opened-all (a .pack .now) _ value .counted)
-
-enum-known-file : tie.Need-enum-known-file
-enum-known-file c = search needs
-
-same-length : tie.Need-same-length
-same-length c = search needs
 
 returns : tie.Need-returns
 unfolding packLabel
@@ -50,10 +38,10 @@ pub label-of-point-spec : {M : Type 1} → statement M
 label-of-point-spec =
     tie.close
     (tie.spec
-    open-pack-requires
-    enum-known-count
+    (λ c κs. search needs)
+    (λ c. search needs)
     label-at-requires
-    enum-known-file
-    same-length
+    (λ c. search needs)
+    (λ c. search needs)
     returns
     returns-2)

@@ -16,24 +16,6 @@ returns c =
     let start = c .before .before .before in
     sym (trailer-short (start .args .pack .now) (rw (start .pre .trailer) at (c .if1 .taken)))
 
-is-known-requires : tie.Need-is-known-requires
-is-known-requires c κs = search needs
-
-trailer-number-requires : tie.Need-trailer-number-requires
-trailer-number-requires c κs = search needs
-
-outward-of-requires : tie.Need-outward-of-requires
-outward-of-requires c κs = search needs
-
-outward-fault-requires : tie.Need-outward-fault-requires
-outward-fault-requires c κs = search needs
-
-trailer-number-requires-2 : tie.Need-trailer-number-requires-2
-trailer-number-requires-2 c κs = search needs
-
-trailer-number-requires-3 : tie.Need-trailer-number-requires-3
-trailer-number-requires-3 c κs = search needs
-
 -- once all is read, the sum is not too large
 module _ (c : tie.After-trailer-number3) where
   abbrev start : tie.Start
@@ -76,12 +58,12 @@ trailer-good-spec =
     tie.close
     (tie.spec
     returns
-    is-known-requires
-    trailer-number-requires
-    outward-of-requires
-    outward-fault-requires
-    trailer-number-requires-2
-    trailer-number-requires-3
+    (λ c κs. search needs)
+    (λ c κs. search needs)
+    (λ c κs. search needs)
+    (λ c κs. search needs)
+    (λ c κs. search needs)
+    (λ c κs. search needs)
     mul-end
     add-end
     add-end-2

@@ -1,4 +1,4 @@
--- `source_keys::first_lacking` meets its contract. The loop keeps: no key before i lacks its row.
+-- `source_keys::first_lacking` meets its contract. The invariant: no key before i lacks its row.
 -- Assumes nothing.
 use borrow.Author.Needs.{needs}
 use Prim.Native.Nat.{ℕ, suc, _-_, _≤_, _<_}

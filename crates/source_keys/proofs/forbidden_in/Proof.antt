@@ -8,9 +8,9 @@ use Rattle.source_keys.proofs.forbidden_in.Tie as tie
 returns : tie.Need-returns
 unfolding forbiddenIn
 returns c =
-    let c₁ = c .before in
-    let c₂ = c₁ .before in
-    rw (c .first-rule3 .ensures, c₁ .first-rule2 .ensures, c₂ .first-rule .ensures)
+    let behind-first-rule2 = c .before in
+    let behind-first-rule = behind-first-rule2 .before in
+    rw (c .first-rule3 .ensures, behind-first-rule2 .first-rule2 .ensures, behind-first-rule .first-rule .ensures)
 
 pub forbidden-in-spec : {M : Type 1} → statement M
 forbidden-in-spec =

@@ -13,10 +13,10 @@ returns c = simp (eq-eqb _ 0 (c .if1 .taken))
 returns-2 : tie.Need-returns-2
 unfolding missingIn
 returns-2 c =
-    let c₁ = c .before in
-    let c₂ = c₁ .before in
-    rw (c .first-rule2 .ensures, c₁ .first-rule .ensures, c₂ .first-lacking .ensures)
-    (simp (ne-eqb _ 0 (c₂ .before .if1 .left)))
+    let behind-first-rule = c .before in
+    let behind-first-lacking = behind-first-rule .before in
+    rw (c .first-rule2 .ensures, behind-first-rule .first-rule .ensures, behind-first-lacking .first-lacking .ensures)
+    (simp (ne-eqb _ 0 (behind-first-lacking .before .if1 .left)))
 
 pub missing-in-spec : {M : Type 1} → statement M
 missing-in-spec = tie.close (tie.spec (search needs) returns (search needs) (search needs) (search needs) returns-2)

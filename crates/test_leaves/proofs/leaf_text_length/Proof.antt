@@ -5,11 +5,8 @@ use lib.ListN.{length}
 use Rattle.test_leaves.proofs.leaf_text_length.Statement.{statement}
 use Rattle.test_leaves.proofs.leaf_text_length.Tie as tie
 
-read-text-requires : tie.Need-read-text-requires
-read-text-requires c κs = search needs
-
 returns : tie.Need-returns
 returns c = ap length (c .read-text .ensures)
 
 pub leaf-text-length-spec : {M : Type 1} → statement M
-leaf-text-length-spec = tie.close (tie.spec read-text-requires returns)
+leaf-text-length-spec = tie.close (tie.spec (λ c κs. search needs) returns)

@@ -7,10 +7,10 @@ use Rattle.build_bytes.proofs.fields.short_at.Tie as tie
 
 returns : tie.Need-returns
 returns c =
-    let c₁ = c .before .before in
-    let c₂ = c₁ .before .before .before .before in
-    let s = c₂ .before .before .before in
-    put-as (short-is (s .args .n)) (put-then (c₂ .byte-at .ensures) (c₁ .byte-at2 .ensures) (s .pre))
+    let behind-byte-at2 = c .before .before in
+    let behind-byte-at = behind-byte-at2 .before .before .before .before in
+    let s = behind-byte-at .before .before .before in
+    put-as (short-is (s .args .n)) (put-then (behind-byte-at .byte-at .ensures) (behind-byte-at2 .byte-at2 .ensures) (s .pre))
 
 pub short-at-spec : {M : Type 1} → statement M
 short-at-spec = tie.close (tie.spec (search needs) (search needs) (search needs) (search needs) (search needs) returns)

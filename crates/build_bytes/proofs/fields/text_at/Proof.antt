@@ -10,17 +10,17 @@ use Rattle.build_bytes.proofs.fields.text_at.Tie as tie
 
 sized-at-requires : tie.Need-sized-at-requires
 sized-at-requires c κs =
-    let c₁ = c .before in
-    let s = c₁ .before .before .before in
+    let behind-read-text = c .before in
+    let s = behind-read-text .before .before .before in
     let a = s .args in
-    rw (c₁ .read-text .ensures)
+    rw (behind-read-text .read-text .ensures)
     (omega (arith, text-in-bound (a .rec .now) (a .start) (a .end), s .pre .0), s .pre .1)
 
 returns : tie.Need-returns
 returns c =
-    let c₁ = c .before .before in
-    let c₂ = c₁ .before .before in
-    put-as (ap sized (c₂ .read-text .ensures)) (c₁ .sized-at .ensures)
+    let behind-sized-at = c .before .before in
+    let behind-read-text = behind-sized-at .before .before in
+    put-as (ap sized (behind-read-text .read-text .ensures)) (behind-sized-at .sized-at .ensures)
 
 pub text-at-spec : {M : Type 1} → statement M
 text-at-spec = tie.close (tie.spec (search needs) sized-at-requires (search needs) returns)

@@ -19,21 +19,21 @@ text-at-requires c κs =
 
 text-at-requires-2 : tie.Need-text-at-requires-2
 text-at-requires-2 c κs =
-    let c₁ = c .before .before .before in
-    let s = c₁ .before .before .before .before in
+    let behind-text-at = c .before .before .before in
+    let s = behind-text-at .before .before .before .before in
     let a = s .args in
     let second = textIn (a .rec .now) (a .middle) (a .end) in
-    let room = room-after (textsBytes (second ∷ [])) (c₁ .text-at .ensures) (s .pre .1) in
-    (s .pre .0 .1, room-as (c₁ .text-at .last .1 .1 .1 .1 .0) (c₁ .text-at .result) (texts-last second) room)
+    let room = room-after (textsBytes (second ∷ [])) (behind-text-at .text-at .ensures) (s .pre .1) in
+    (s .pre .0 .1, room-as (behind-text-at .text-at .last .1 .1 .1 .1 .0) (behind-text-at .text-at .result) (texts-last second) room)
 
 returns : tie.Need-returns
 returns c =
-    let c₂ = c .before .before in
-    let c₁ = c₂ .before .before .before .before in
-    let s = c₁ .before .before .before .before in
+    let behind-text-at2 = c .before .before in
+    let behind-text-at = behind-text-at2 .before .before .before .before in
+    let s = behind-text-at .before .before .before .before in
     let a = s .args in
     let second = textIn (a .rec .now) (a .middle) (a .end) in
-    put-then (c₁ .text-at .ensures) (put-as (texts-last second) (c₂ .text-at2 .ensures)) (s .pre .1)
+    put-then (behind-text-at .text-at .ensures) (put-as (texts-last second) (behind-text-at2 .text-at2 .ensures)) (s .pre .1)
 
 pub two-texts-at-spec : {M : Type 1} → statement M
 two-texts-at-spec = tie.close (tie.spec text-at-requires text-at-requires-2 (search needs) returns)

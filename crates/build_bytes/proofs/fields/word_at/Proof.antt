@@ -7,10 +7,10 @@ use Rattle.build_bytes.proofs.fields.word_at.Tie as tie
 
 returns : tie.Need-returns
 returns c =
-    let c₁ = c .before .before in
-    let c₂ = c₁ .before .before .before .before in
-    let s = c₂ .before .before .before in
-    put-as (word-is (s .args .n)) (put-then (c₂ .short-at .ensures) (c₁ .short-at2 .ensures) (s .pre))
+    let behind-short-at2 = c .before .before in
+    let behind-short-at = behind-short-at2 .before .before .before .before in
+    let s = behind-short-at .before .before .before in
+    put-as (word-is (s .args .n)) (put-then (behind-short-at .short-at .ensures) (behind-short-at2 .short-at2 .ensures) (s .pre))
 
 pub word-at-spec : {M : Type 1} → statement M
 word-at-spec = tie.close (tie.spec (search needs) (search needs) (search needs) returns)

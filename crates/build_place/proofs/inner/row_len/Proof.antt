@@ -14,9 +14,9 @@ use Rattle.build_place.proofs.inner.row_len.Tie as tie
 
 returns : tie.Need-returns
 returns c =
-    let t₂ = c .before .before .before in
-    let t₁ = t₂ .before .before .before in
-    let at-if = t₁ .before .before in
+    let behind-text-len2 = c .before .before .before in
+    let behind-text-len = behind-text-len2 .before .before .before in
+    let at-if = behind-text-len .before .before in
     let ref = at-if .before .ref-at .ensures in
     let rec = at-if .before .before .record-of in
     let a = at-if .before .before .before .before .args in
@@ -25,8 +25,8 @@ returns c =
     let size : (from to : ℕ) → length (textIn (rec .result .now) from to) ≡ length (textIn own from to) =
     λ from to. ap (λ (r : List ℕ). length (textIn r from to)) (rec .ensures) in
     let l = a .s .locality in
-    let town = t₁ .text-len .ensures in
-    let dependent = t₂ .text-len2 .ensures in
+    let town = behind-text-len .text-len .ensures in
+    let dependent = behind-text-len2 .text-len2 .ensures in
     let double = c .text-len3 .ensures in (
       omega (
         arith,

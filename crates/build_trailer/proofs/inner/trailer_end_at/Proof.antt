@@ -16,25 +16,25 @@ bytes-at-requires c κs =
 
 word-at-requires : tie.Need-word-at-requires
 word-at-requires c κs =
-    let c₁ = c .before .before .before in
-    let s = c₁ .before .before .before .before in
-    room-second (bytesOf 4 (s .args .bytes)) (newest ∷ []) (s .pre) (c₁ .bytes-at .ensures)
+    let behind-bytes-at = c .before .before .before in
+    let s = behind-bytes-at .before .before .before .before in
+    room-second (bytesOf 4 (s .args .bytes)) (newest ∷ []) (s .pre) (behind-bytes-at .bytes-at .ensures)
 
 byte-at-requires : tie.Need-byte-at-requires
 byte-at-requires c κs =
-    let c₂ = c .before .before .before in
-    let c₁ = c₂ .before .before .before .before in
-    let s = c₁ .before .before .before .before in
-    room-third (bytesOf 4 (s .args .bytes)) (newest ∷ []) (s .pre) (c₁ .bytes-at .ensures) (c₂ .word-at .ensures)
+    let behind-word-at = c .before .before .before in
+    let behind-bytes-at = behind-word-at .before .before .before .before in
+    let s = behind-bytes-at .before .before .before .before in
+    room-third (bytesOf 4 (s .args .bytes)) (newest ∷ []) (s .pre) (behind-bytes-at .bytes-at .ensures) (behind-word-at .word-at .ensures)
 
 returns : tie.Need-returns
 returns c =
-    let c₃ = c .before .before in
-    let c₂ = c₃ .before .before .before .before in
-    let c₁ = c₂ .before .before .before .before in
-    let s = c₁ .before .before .before .before in
-    put-three (bytesOf 4 (s .args .bytes)) (newest ∷ []) (s .pre) (c₁ .bytes-at .ensures) (c₂ .word-at .ensures)
-    (c₃ .byte-at .ensures)
+    let behind-byte-at = c .before .before in
+    let behind-word-at = behind-byte-at .before .before .before .before in
+    let behind-bytes-at = behind-word-at .before .before .before .before in
+    let s = behind-bytes-at .before .before .before .before in
+    put-three (bytesOf 4 (s .args .bytes)) (newest ∷ []) (s .pre) (behind-bytes-at .bytes-at .ensures) (behind-word-at .word-at .ensures)
+    (behind-byte-at .byte-at .ensures)
 
 pub trailer-end-at-spec : {M : Type 1} → statement M
 trailer-end-at-spec = tie.close (tie.spec bytes-at-requires word-at-requires byte-at-requires (search needs) returns)

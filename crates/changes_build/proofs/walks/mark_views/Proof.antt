@@ -33,15 +33,6 @@ Inv-loop table refs points code marks₀ last s at₀ marks at =
 abbrev μ-loop : tie.MeasureT-loop
 μ-loop table refs points code marks₀ last s at₀ marks at = last - at
 
-last-of-requires : tie.Need-last-of-requires Inv-loop μ-loop
-last-of-requires c κs = search needs
-
-table-shelf-requires : tie.Need-table-shelf-requires Inv-loop μ-loop
-table-shelf-requires c κs = search needs
-
-next-wanted-requires : tie.Need-next-wanted-requires Inv-loop μ-loop
-next-wanted-requires c κs = search needs
-
 loop-holds : tie.Need-loop-holds Inv-loop μ-loop
 loop-holds c =
     let a = c .before .before .before .before .before .before .before .before .args in
@@ -52,9 +43,6 @@ loop-holds c =
       next-next code points 1,
       marking-as (packed-start points code) (marking-start (tableStock (a .table .now)) (packedIn points code) (a .marks .now)),
     )
-
-delivery-at-requires : tie.Need-delivery-at-requires Inv-loop μ-loop
-delivery-at-requires c κs = search needs
 
 -- once the rows of the view at `at` are found
 module _ (r : tie.After-rows-by Inv-loop μ-loop) where
@@ -112,21 +100,6 @@ mark-point-requires c κs =
     (omega (arith, two, s r .pre .1, l r .loop .inv .0)) (omega (arith, s r .pre .1, l r .loop .inv .0))
     (t r .table-shelf .ensures) (r .rows-by .ensures)
 
-enum-told : tie.Need-enum-told Inv-loop μ-loop
-enum-told c = search needs
-
-enum-known-why : tie.Need-enum-known-why Inv-loop μ-loop
-enum-known-why c = search needs
-
-number-at-requires : tie.Need-number-at-requires Inv-loop μ-loop
-number-at-requires c κs = search needs
-
-with-view-requires : tie.Need-with-view-requires Inv-loop μ-loop
-with-view-requires c κs = search needs
-
-same-length : tie.Need-same-length Inv-loop μ-loop
-same-length c = search needs
-
 returns : tie.Need-returns Inv-loop μ-loop
 returns c =
     let w = c .before .before .before in
@@ -139,12 +112,6 @@ returns c =
           (sym (marking-stop (left r) (w .why .given .0 .0) bad));
       marks-all = λ e. absurd (bad-fine _ e);
     }
-
-add-next-wanted : tie.Need-add-next-wanted Inv-loop μ-loop
-add-next-wanted c = search needs
-
-next-wanted-requires-2 : tie.Need-next-wanted-requires-2 Inv-loop μ-loop
-next-wanted-requires-2 c κs = search needs
 
 loop-less : tie.Need-loop-less Inv-loop μ-loop
 loop-less c =
@@ -164,9 +131,6 @@ loop-again c =
           (m .mark-point .ensures .1 told ∙ ap (λ (rows : List ℕ). markRows rows (l r .loop .marks)) (rows-are r)),
     )
 
-same-length-2 : tie.Need-same-length-2 Inv-loop μ-loop
-same-length-2 c = search needs
-
 returns-2 : tie.Need-returns-2 Inv-loop μ-loop
 returns-2 c =
     let l = c .before in
@@ -182,22 +146,22 @@ mark-views-spec =
     (tie.spec
     Inv-loop
     μ-loop
-    last-of-requires
-    table-shelf-requires
-    next-wanted-requires
+    (λ c κs. search needs)
+    (λ c κs. search needs)
+    (λ c κs. search needs)
     loop-holds
-    delivery-at-requires
+    (λ c κs. search needs)
     rows-by-requires
     mark-point-requires
-    enum-told
-    enum-known-why
-    number-at-requires
-    with-view-requires
-    same-length
+    (λ c. search needs)
+    (λ c. search needs)
+    (λ c κs. search needs)
+    (λ c κs. search needs)
+    (λ c. search needs)
     returns
-    add-next-wanted
-    next-wanted-requires-2
+    (λ c. search needs)
+    (λ c κs. search needs)
     loop-less
     loop-again
-    same-length-2
+    (λ c. search needs)
     returns-2)

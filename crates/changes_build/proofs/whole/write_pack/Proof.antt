@@ -51,14 +51,14 @@ module _ (s : tie.Start) where
   room = pack-room st points points starts ds code (s .args .rows) (s .args .count) (s .pre .1)
 
 -- the rows are written
-module _ (c₁ : tie.After-rows-at) where
-  abbrev s₁ : tie.Start
-  s₁ = c₁ .before .before .before .before .before .before .before .before .before
+module _ (at-rows : tie.After-rows-at) where
+  abbrev start-of-rows : tie.Start
+  start-of-rows = at-rows .before .before .before .before .before .before .before .before .before
 
-  rows-put : Put (usedRows (st s₁) (starts s₁)) (s₁ .args .out .now) 0 (c₁ .rows-at .result) (c₁ .rows-at .last .1 .1 .1 .1 .0)
+  rows-put : Put (usedRows (st start-of-rows) (starts start-of-rows)) (start-of-rows .args .out .now) 0 (at-rows .rows-at .result) (at-rows .rows-at .last .1 .1 .1 .1 .0)
   rows-put =
-      put-as (ap (λ (s : Shelf). usedRows (stockOf s (s₁ .args .table .now)) (starts s₁)) (c₁ .before .before .table-shelf .ensures))
-      (c₁ .rows-at .ensures)
+      put-as (ap (λ (s : Shelf). usedRows (stockOf s (start-of-rows .args .table .now)) (starts start-of-rows)) (at-rows .before .before .table-shelf .ensures))
+      (at-rows .rows-at .ensures)
 
 rows-at-requires : tie.Need-rows-at-requires
 rows-at-requires c κs =
@@ -76,79 +76,79 @@ rows-at-requires c κs =
 
 organisations-at-requires : tie.Need-organisations-at-requires
 organisations-at-requires c κs =
-    let c₁ = c .before .before .before in
-    let s = s₁ c₁ in
-    let i = c₁ .rows-at .result in
+    let at-rows = c .before .before .before in
+    let s = start-of-rows at-rows in
+    let i = at-rows .rows-at .result in
     let organisations = organisationRows (points s) (ds s) in
     let j = i + length organisations in
     going-room organisations (behind s i j)
     (after-rows (st s) (points s) (points s) (starts s) (ds s) (code s) (s .args .rows) (s .args .count) (s .pre .1)
-    (rows-put c₁) j refl) (room s)
+    (rows-put at-rows) j refl) (room s)
 
 -- so are the organisations' rows
-module _ (c₂ : tie.After-organisations-at) where
-  abbrev r₂ : tie.After-rows-at
-  r₂ = c₂ .before .before .before .before
+module _ (at-organisations : tie.After-organisations-at) where
+  abbrev rows-before : tie.After-rows-at
+  rows-before = at-organisations .before .before .before .before
 
-  abbrev s₂ : tie.Start
-  s₂ = s₁ r₂
+  abbrev start-of-organisations : tie.Start
+  start-of-organisations = start-of-rows rows-before
 
-  points-left : Going (pack s₂) (behind s₂ (r₂ .rows-at .result) (c₂ .organisations-at .result)) (s₂ .args .out .now) 0
-      (c₂ .organisations-at .result) (c₂ .organisations-at .last .1 .1 .1 .0)
+  points-left : Going (pack start-of-organisations) (behind start-of-organisations (rows-before .rows-at .result) (at-organisations .organisations-at .result)) (start-of-organisations .args .out .now) 0
+      (at-organisations .organisations-at .result) (at-organisations .organisations-at .last .1 .1 .1 .0)
   points-left =
-      after-organisations (st s₂) (points s₂) (points s₂) (starts s₂) (ds s₂) (code s₂) (s₂ .args .rows)
-      (s₂ .args .count) (s₂ .pre .1) (rows-put r₂) (c₂ .organisations-at .ensures)
+      after-organisations (st start-of-organisations) (points start-of-organisations) (points start-of-organisations) (starts start-of-organisations) (ds start-of-organisations) (code start-of-organisations) (start-of-organisations .args .rows)
+      (start-of-organisations .args .count) (start-of-organisations .pre .1) (rows-put rows-before) (at-organisations .organisations-at .ensures)
 
 points-at-requires : tie.Need-points-at-requires
 points-at-requires c κs =
-    let c₂ = c .before .before .before in
-    let s = s₂ c₂ in
-    let i = r₂ c₂ .rows-at .result in
-    let j = c₂ .organisations-at .result in (
+    let at-organisations = c .before .before .before in
+    let s = start-of-organisations at-organisations in
+    let i = rows-before at-organisations .rows-at .result in
+    let j = at-organisations .organisations-at .result in (
       s .pre .0,
       (
-        omega (arith, c₂ .organisations-at .ensures .size),
+        omega (arith, at-organisations .organisations-at .ensures .size),
         going-room (pointsIn (st s) (points s) (points s) (starts s) i (ds s))
-            (trailerBytes newest (s .args .rows) j (s .args .count) (code s)) (points-left c₂) (room s),
+            (trailerBytes newest (s .args .rows) j (s .args .count) (code s)) (points-left at-organisations) (room s),
       ),
     )
 
 -- and the points
-module _ (c₃ : tie.After-points-at) where
-  abbrev o₃ : tie.After-organisations-at
-  o₃ = c₃ .before .before .before .before
+module _ (at-points : tie.After-points-at) where
+  abbrev organisations-before : tie.After-organisations-at
+  organisations-before = at-points .before .before .before .before
 
-  abbrev s₃ : tie.Start
-  s₃ = s₂ o₃
+  abbrev start-of-points : tie.Start
+  start-of-points = start-of-organisations organisations-before
 
-  trailer-left : Going (pack s₃)
-      (trailerBytes newest (s₃ .args .rows) (o₃ .organisations-at .result) (s₃ .args .count) (code s₃))
-      (s₃ .args .out .now) 0 (c₃ .points-at .result) (c₃ .points-at .last .1 .1 .1 .1 .1 .1 .1 .0)
+  trailer-left : Going (pack start-of-points)
+      (trailerBytes newest (start-of-points .args .rows) (organisations-before .organisations-at .result) (start-of-points .args .count) (code start-of-points))
+      (start-of-points .args .out .now) 0 (at-points .points-at .result) (at-points .points-at .last .1 .1 .1 .1 .1 .1 .1 .0)
   trailer-left =
-      after-points (st s₃) (points s₃) (points s₃) (starts s₃) (ds s₃) (code s₃) (s₃ .args .rows) (s₃ .args .count)
-      (s₃ .pre .1) (rows-put (r₂ o₃)) (o₃ .organisations-at .ensures) (c₃ .points-at .ensures)
+      after-points (st start-of-points) (points start-of-points) (points start-of-points) (starts start-of-points) (ds start-of-points) (code start-of-points) (start-of-points .args .rows) (start-of-points .args .count)
+      (start-of-points .pre .1) (rows-put (rows-before organisations-before)) (organisations-before .organisations-at .ensures) (at-points .points-at .ensures)
 
 trailer-at-requires : tie.Need-trailer-at-requires
 unfolding wantedCount
 trailer-at-requires c κs =
-    let c₃ = c .before .before .before in
-    let s = s₃ c₃ in (
+    let at-points = c .before .before .before in
+    let s = start-of-points at-points in (
       omega (
         arith,
-        going-left (points-left (o₃ c₃)) (room s),
+        going-left (points-left (organisations-before at-points)) (room s),
         s .pre .1 .of-points,
         packed-length (points s) (wantedIn (code s) (points s)),
         count-bound (code s) (points s),
         s .good,
       ),
-      going-left (trailer-left c₃) (room s),
+      going-left (trailer-left at-points) (room s),
     )
 
 returns : tie.Need-returns
 returns c =
-    let c₄ = c .before .before in
-    let c₃ = c₄ .before .before .before .before in
-    wrote (going-last (trailer-left c₃) (c₄ .trailer-at .ensures) (room (s₃ c₃)))
+    let behind-trailer-at = c .before .before in
+    let at-points = behind-trailer-at .before .before .before .before in
+    wrote (going-last (trailer-left at-points) (behind-trailer-at .trailer-at .ensures) (room (start-of-points at-points)))
 
 pub write-pack-spec : {M : Type 1} → statement M
 write-pack-spec =

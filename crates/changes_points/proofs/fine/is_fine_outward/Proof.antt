@@ -11,18 +11,6 @@ use Rattle.changes_points.proofs.Laws.{good-outward}
 use Rattle.changes_points.proofs.fine.is_fine_outward.Statement.{statement}
 use Rattle.changes_points.proofs.fine.is_fine_outward.Tie as tie
 
-part-of-requires : tie.Need-part-of-requires
-part-of-requires c κs = search needs
-
-part-of-requires-2 : tie.Need-part-of-requires-2
-part-of-requires-2 c κs = search needs
-
-same-bytes-requires : tie.Need-same-bytes-requires
-same-bytes-requires c κs = search needs
-
-outward-fault-requires : tie.Need-outward-fault-requires
-outward-fault-requires c κs = search needs
-
 returns : tie.Need-returns
 returns c =
     let s = c .before in
@@ -46,9 +34,9 @@ pub is-fine-outward-spec : {M : Type 1} → statement M
 is-fine-outward-spec =
     tie.close
     (tie.spec
-    part-of-requires
-    part-of-requires-2
-    same-bytes-requires
-    outward-fault-requires
+    (λ c κs. search needs)
+    (λ c κs. search needs)
+    (λ c κs. search needs)
+    (λ c κs. search needs)
     returns
     returns-2)

@@ -6,18 +6,6 @@ use Rattle.changes_table.proofs.Laws.{three-texts}
 use Rattle.changes_table.proofs.fine.are_texts.Statement.{statement}
 use Rattle.changes_table.proofs.fine.are_texts.Tie as tie
 
-part-of-requires : tie.Need-part-of-requires
-part-of-requires c κs = search needs
-
-are-text-requires : tie.Need-are-text-requires
-are-text-requires c κs = search needs
-
-part-of-requires-2 : tie.Need-part-of-requires-2
-part-of-requires-2 c κs = search needs
-
-are-text-requires-2 : tie.Need-are-text-requires-2
-are-text-requires-2 c κs = search needs
-
 returns : tie.Need-returns
 returns c =
     let q = c .before in
@@ -33,4 +21,4 @@ returns c =
 pub are-texts-spec : {M : Type 1} → statement M
 are-texts-spec =
     tie.close
-    (tie.spec part-of-requires are-text-requires part-of-requires-2 are-text-requires-2 returns)
+    (tie.spec (λ c κs. search needs) (λ c κs. search needs) (λ c κs. search needs) (λ c κs. search needs) returns)

@@ -9,27 +9,6 @@ use Rattle.changes_table.proofs.Laws.{overlap}
 use Rattle.changes_table.proofs.fine.is_blank.Statement.{statement}
 use Rattle.changes_table.proofs.fine.is_blank.Tie as tie
 
-add-part-of : tie.Need-add-part-of
-add-part-of c = search needs
-
-part-of-requires : tie.Need-part-of-requires
-part-of-requires c κs = search needs
-
-all-are-requires : tie.Need-all-are-requires
-all-are-requires c κs = search needs
-
-add-part-of-2 : tie.Need-add-part-of-2
-add-part-of-2 c = search needs
-
-add-part-of-3 : tie.Need-add-part-of-3
-add-part-of-3 c = search needs
-
-part-of-requires-2 : tie.Need-part-of-requires-2
-part-of-requires-2 c κs = search needs
-
-all-are-requires-2 : tie.Need-all-are-requires-2
-all-are-requires-2 c κs = search needs
-
 returns : tie.Need-returns
 returns c =
     let q = c .before in
@@ -50,11 +29,11 @@ pub is-blank-spec : {M : Type 1} → statement M
 is-blank-spec =
     tie.close
     (tie.spec
-    add-part-of
-    part-of-requires
-    all-are-requires
-    add-part-of-2
-    add-part-of-3
-    part-of-requires-2
-    all-are-requires-2
+    (λ c. search needs)
+    (λ c κs. search needs)
+    (λ c κs. search needs)
+    (λ c. search needs)
+    (λ c. search needs)
+    (λ c κs. search needs)
+    (λ c κs. search needs)
     returns)

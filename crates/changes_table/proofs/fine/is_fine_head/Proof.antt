@@ -8,18 +8,6 @@ use Rattle.changes_table.proofs.Laws.{three, head-fine}
 use Rattle.changes_table.proofs.fine.is_fine_head.Statement.{statement}
 use Rattle.changes_table.proofs.fine.is_fine_head.Tie as tie
 
-head-digits-requires : tie.Need-head-digits-requires
-head-digits-requires c κs = search needs
-
-part-of-requires : tie.Need-part-of-requires
-part-of-requires c κs = search needs
-
-all-are-requires : tie.Need-all-are-requires
-all-are-requires c κs = search needs
-
-letter-at-requires : tie.Need-letter-at-requires
-letter-at-requires c κs = search needs
-
 returns : tie.Need-returns
 returns c =
     let z = c .before in
@@ -37,4 +25,4 @@ returns c =
 pub is-fine-head-spec : {M : Type 1} → statement M
 is-fine-head-spec =
     tie.close
-    (tie.spec head-digits-requires part-of-requires all-are-requires letter-at-requires returns)
+    (tie.spec (λ c κs. search needs) (λ c κs. search needs) (λ c κs. search needs) (λ c κs. search needs) returns)

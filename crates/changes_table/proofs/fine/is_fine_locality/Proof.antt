@@ -10,49 +10,22 @@ use Rattle.changes_table.proofs.Laws.{locality-fine, maybe-text, double
 use Rattle.changes_table.proofs.fine.is_fine_locality.Statement.{statement}
 use Rattle.changes_table.proofs.fine.is_fine_locality.Tie as tie
 
-are-texts-requires : tie.Need-are-texts-requires
-are-texts-requires c κs = search needs
-
-part-of-requires : tie.Need-part-of-requires
-part-of-requires c κs = search needs
-
-starts-blank-requires : tie.Need-starts-blank-requires
-starts-blank-requires c κs = search needs
-
-part-of-requires-2 : tie.Need-part-of-requires-2
-part-of-requires-2 c κs = search needs
-
-starts-blank-requires-2 : tie.Need-starts-blank-requires-2
-starts-blank-requires-2 c κs = search needs
-
-part-of-requires-3 : tie.Need-part-of-requires-3
-part-of-requires-3 c κs = search needs
-
-starts-blank-requires-3 : tie.Need-starts-blank-requires-3
-starts-blank-requires-3 c κs = search needs
-
-is-blank-requires : tie.Need-is-blank-requires
-is-blank-requires c κs = search needs
-
-is-blank-requires-2 : tie.Need-is-blank-requires-2
-is-blank-requires-2 c κs = search needs
-
 returns : tie.Need-returns
 returns c =
     let n = c .before in
-    let s₃ = n .before in
-    let p₃ = s₃ .before in
-    let s₂ = p₃ .before in
-    let p₂ = s₂ .before in
-    let s₁ = p₂ .before in
-    let p₁ = s₁ .before in
-    let t = p₁ .before in
+    let behind-starts-blank3 = n .before in
+    let behind-part-of3 = behind-starts-blank3 .before in
+    let behind-starts-blank2 = behind-part-of3 .before in
+    let behind-part-of2 = behind-starts-blank2 .before in
+    let behind-starts-blank = behind-part-of2 .before in
+    let behind-part-of = behind-starts-blank .before in
+    let t = behind-part-of .before in
     let rec = t .before .before .args .rec .now in
     λ e.
     let texts = t .are-texts .result in
-    let town = not (s₁ .starts-blank .result) in
-    let dependent = not (s₂ .starts-blank2 .result) in
-    let double = not (s₃ .starts-blank3 .result) in
+    let town = not (behind-starts-blank .starts-blank .result) in
+    let dependent = not (behind-starts-blank2 .starts-blank2 .result) in
+    let double = not (behind-starts-blank3 .starts-blank3 .result) in
     let no-dependent = n .is-blank .result in
     let no-double = c .is-blank2 .result in
     let one = dependent || no-dependent in
@@ -60,12 +33,12 @@ returns c =
     let front = and-left (texts && town) (one && two) e in
     let back = and-right (texts && town) (one && two) e in
     let each = t .are-texts .ensures (and-left texts town front) in
-    let begins = rw (p₂ .part-of2 .ensures) at (sym (s₂ .starts-blank2 .ensures)) in
+    let begins = rw (behind-part-of2 .part-of2 .ensures) at (sym (behind-starts-blank2 .starts-blank2 .ensures)) in
     locality-fine rec
-    (begun-filled _ (rw (p₁ .part-of .ensures) at (sym (s₁ .starts-blank .ensures) ∙ not-true _ (and-right texts town front))) (each .0))
+    (begun-filled _ (rw (behind-part-of .part-of .ensures) at (sym (behind-starts-blank .starts-blank .ensures) ∙ not-true _ (and-right texts town front))) (each .0))
     (maybe-text _ (each .1) _ no-dependent begins (n .is-blank .ensures) (and-left one two back))
     (double-text _ (each .2) (part rec 99 134) _ no-double _ begins
-    (rw (p₃ .part-of3 .ensures) at (sym (s₃ .starts-blank3 .ensures)))
+    (rw (behind-part-of3 .part-of3 .ensures) at (sym (behind-starts-blank3 .starts-blank3 .ensures)))
     (c .is-blank2 .ensures)
     (and-right one two back))
 
@@ -73,13 +46,13 @@ pub is-fine-locality-spec : {M : Type 1} → statement M
 is-fine-locality-spec =
     tie.close
     (tie.spec
-    are-texts-requires
-    part-of-requires
-    starts-blank-requires
-    part-of-requires-2
-    starts-blank-requires-2
-    part-of-requires-3
-    starts-blank-requires-3
-    is-blank-requires
-    is-blank-requires-2
+    (λ c κs. search needs)
+    (λ c κs. search needs)
+    (λ c κs. search needs)
+    (λ c κs. search needs)
+    (λ c κs. search needs)
+    (λ c κs. search needs)
+    (λ c κs. search needs)
+    (λ c κs. search needs)
+    (λ c κs. search needs)
     returns)

@@ -5,24 +5,6 @@ use mathlib.Core.Bool.{false≢true}
 use Rattle.changes_table.proofs.fine.is_fine_rest.Statement.{statement}
 use Rattle.changes_table.proofs.fine.is_fine_rest.Tie as tie
 
-byte-of-requires : tie.Need-byte-of-requires
-byte-of-requires c κs = search needs
-
-is-fine-locality-requires : tie.Need-is-fine-locality-requires
-is-fine-locality-requires c κs = search needs
-
-is-fine-text-requires : tie.Need-is-fine-text-requires
-is-fine-text-requires c κs = search needs
-
-is-fine-text-requires-2 : tie.Need-is-fine-text-requires-2
-is-fine-text-requires-2 c κs = search needs
-
-is-fine-text-requires-3 : tie.Need-is-fine-text-requires-3
-is-fine-text-requires-3 c κs = search needs
-
-is-fine-text-requires-4 : tie.Need-is-fine-text-requires-4
-is-fine-text-requires-4 c κs = search needs
-
 returns : tie.Need-returns
 returns c =
     let m = c .before in
@@ -60,12 +42,12 @@ pub is-fine-rest-spec : {M : Type 1} → statement M
 is-fine-rest-spec =
     tie.close
     (tie.spec
-    byte-of-requires
-    is-fine-locality-requires
-    is-fine-text-requires
-    is-fine-text-requires-2
-    is-fine-text-requires-3
-    is-fine-text-requires-4
+    (λ c κs. search needs)
+    (λ c κs. search needs)
+    (λ c κs. search needs)
+    (λ c κs. search needs)
+    (λ c κs. search needs)
+    (λ c κs. search needs)
     returns
     returns-2
     returns-3

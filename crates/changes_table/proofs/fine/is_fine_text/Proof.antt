@@ -11,27 +11,6 @@ use Rattle.changes_table.proofs.Laws.{three, overlap}
 use Rattle.changes_table.proofs.fine.is_fine_text.Statement.{statement}
 use Rattle.changes_table.proofs.fine.is_fine_text.Tie as tie
 
-part-of-requires : tie.Need-part-of-requires
-part-of-requires c κs = search needs
-
-are-text-requires : tie.Need-are-text-requires
-are-text-requires c κs = search needs
-
-sub-part-of : tie.Need-sub-part-of
-sub-part-of c = search needs
-
-part-of-requires-2 : tie.Need-part-of-requires-2
-part-of-requires-2 c κs = search needs
-
-are-text-requires-2 : tie.Need-are-text-requires-2
-are-text-requires-2 c κs = search needs
-
-part-of-requires-3 : tie.Need-part-of-requires-3
-part-of-requires-3 c κs = search needs
-
-starts-blank-requires : tie.Need-starts-blank-requires
-starts-blank-requires c κs = search needs
-
 returns : tie.Need-returns
 returns c =
     let r = c .before in
@@ -54,11 +33,11 @@ pub is-fine-text-spec : {M : Type 1} → statement M
 is-fine-text-spec =
     tie.close
     (tie.spec
-    part-of-requires
-    are-text-requires
-    sub-part-of
-    part-of-requires-2
-    are-text-requires-2
-    part-of-requires-3
-    starts-blank-requires
+    (λ c κs. search needs)
+    (λ c κs. search needs)
+    (λ c. search needs)
+    (λ c κs. search needs)
+    (λ c κs. search needs)
+    (λ c κs. search needs)
+    (λ c κs. search needs)
     returns)

@@ -8,11 +8,11 @@ use Rattle.file.proofs.follow.is_follower.Tie as tie
 returns : tie.Need-returns
 unfolding follows
 returns c =
-    let c₁ = c .before in
-    let c₂ = c₁ .before in
-    let c₃ = c₂ .before in
-    let s = c₃ .before .before .before in
-    rw (c .same-bytes .ensures, c₁ .part-of2 .ensures, c₂ .part-of .ensures, c₃ .byte-of .ensures, s .pre)
+    let behind-part-of2 = c .before in
+    let behind-part-of = behind-part-of2 .before in
+    let behind-byte-of = behind-part-of .before in
+    let s = behind-byte-of .before .before .before in
+    rw (c .same-bytes .ensures, behind-part-of2 .part-of2 .ensures, behind-part-of .part-of .ensures, behind-byte-of .byte-of .ensures, s .pre)
 
 pub is-follower-spec : {M : Type 1} → statement M
 is-follower-spec = tie.close (tie.spec (search needs) (search needs) (search needs) (search needs) returns)

@@ -5,12 +5,6 @@ use Rattle.file_fault.proofs.Laws.{in-record, digits-bound}
 use Rattle.file_fault.proofs.at.digits_at.Statement.{statement}
 use Rattle.file_fault.proofs.at.digits_at.Tie as tie
 
-part-of-requires : tie.Need-part-of-requires
-part-of-requires c κs = search needs
-
-digits-fault-requires : tie.Need-digits-fault-requires
-digits-fault-requires c κs = search needs
-
 placed-requires : tie.Need-placed-requires
 placed-requires c κs =
     let p = c .before in
@@ -25,4 +19,4 @@ returns c =
 
 pub digits-at-spec : {M : Type 1} → statement M
 digits-at-spec =
-    tie.close (tie.spec part-of-requires digits-fault-requires placed-requires returns)
+    tie.close (tie.spec (λ c κs. search needs) (λ c κs. search needs) placed-requires returns)

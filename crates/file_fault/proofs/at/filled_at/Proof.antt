@@ -6,12 +6,6 @@ use Rattle.field.proofs.Texts.{filled-bound}
 use Rattle.file_fault.proofs.at.filled_at.Statement.{statement}
 use Rattle.file_fault.proofs.at.filled_at.Tie as tie
 
-part-of-requires : tie.Need-part-of-requires
-part-of-requires c κs = search needs
-
-filled-fault-requires : tie.Need-filled-fault-requires
-filled-fault-requires c κs = search needs
-
 placed-requires : tie.Need-placed-requires
 placed-requires c κs =
     let p = c .before in
@@ -26,4 +20,4 @@ returns c =
 
 pub filled-at-spec : {M : Type 1} → statement M
 filled-at-spec =
-    tie.close (tie.spec part-of-requires filled-fault-requires placed-requires returns)
+    tie.close (tie.spec (λ c κs. search needs) (λ c κs. search needs) placed-requires returns)

@@ -6,12 +6,6 @@ use Rattle.field_outward.proofs.Codes.{inward-bound}
 use Rattle.file_fault.proofs.at.inward_at.Statement.{statement}
 use Rattle.file_fault.proofs.at.inward_at.Tie as tie
 
-part-of-requires : tie.Need-part-of-requires
-part-of-requires c κs = search needs
-
-inward-fault-requires : tie.Need-inward-fault-requires
-inward-fault-requires c κs = search needs
-
 placed-requires : tie.Need-placed-requires
 placed-requires c κs =
     let p = c .before in
@@ -26,4 +20,4 @@ returns c =
 
 pub inward-at-spec : {M : Type 1} → statement M
 inward-at-spec =
-    tie.close (tie.spec part-of-requires inward-fault-requires placed-requires returns)
+    tie.close (tie.spec (λ c κs. search needs) (λ c κs. search needs) placed-requires returns)

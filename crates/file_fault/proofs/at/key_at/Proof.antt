@@ -7,17 +7,8 @@ use Rattle.file_fault.proofs.Laws.{in-record, digits-bound}
 use Rattle.file_fault.proofs.at.key_at.Statement.{statement}
 use Rattle.file_fault.proofs.at.key_at.Tie as tie
 
-part-of-requires : tie.Need-part-of-requires
-part-of-requires c κs = search needs
-
-all-are-requires : tie.Need-all-are-requires
-all-are-requires c κs = search needs
-
 placed-requires : tie.Need-placed-requires
 placed-requires c κs = omega arith
-
-digits-fault-requires : tie.Need-digits-fault-requires
-digits-fault-requires c κs = search needs
 
 placed-requires-2 : tie.Need-placed-requires-2
 placed-requires-2 c κs =
@@ -46,10 +37,10 @@ pub key-at-spec : {M : Type 1} → statement M
 key-at-spec =
     tie.close
     (tie.spec
-    part-of-requires
-    all-are-requires
+    (λ c κs. search needs)
+    (λ c κs. search needs)
     placed-requires
-    digits-fault-requires
+    (λ c κs. search needs)
     placed-requires-2
     returns
     returns-2)

@@ -6,12 +6,6 @@ use Rattle.field_outward.proofs.Codes.{outward-bound}
 use Rattle.file_fault.proofs.at.outward_at.Statement.{statement}
 use Rattle.file_fault.proofs.at.outward_at.Tie as tie
 
-part-of-requires : tie.Need-part-of-requires
-part-of-requires c κs = search needs
-
-outward-fault-requires : tie.Need-outward-fault-requires
-outward-fault-requires c κs = search needs
-
 placed-requires : tie.Need-placed-requires
 placed-requires c κs =
     let p = c .before in
@@ -26,4 +20,4 @@ returns c =
 
 pub outward-at-spec : {M : Type 1} → statement M
 outward-at-spec =
-    tie.close (tie.spec part-of-requires outward-fault-requires placed-requires returns)
+    tie.close (tie.spec (λ c κs. search needs) (λ c κs. search needs) placed-requires returns)

@@ -5,14 +5,8 @@ use Rattle.file_fault.proofs.Laws.{place-some}
 use Rattle.file_fault.proofs.at.placed.Statement.{statement}
 use Rattle.file_fault.proofs.at.placed.Tie as tie
 
-add-result : tie.Need-add-result
-add-result c = search needs
-
-returns : tie.Need-returns
-returns c = search needs
-
 returns-2 : tie.Need-returns-2
 returns-2 c = sym (place-some _ _ (c .if1 .left))
 
 pub placed-spec : {M : Type 1} → statement M
-placed-spec = tie.close (tie.spec add-result returns returns-2)
+placed-spec = tie.close (tie.spec (λ c. search needs) (λ c. search needs) returns-2)

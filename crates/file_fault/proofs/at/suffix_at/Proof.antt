@@ -6,12 +6,6 @@ use Rattle.field_outward.proofs.Codes.{suffix-bound}
 use Rattle.file_fault.proofs.at.suffix_at.Statement.{statement}
 use Rattle.file_fault.proofs.at.suffix_at.Tie as tie
 
-part-of-requires : tie.Need-part-of-requires
-part-of-requires c κs = search needs
-
-suffix-fault-requires : tie.Need-suffix-fault-requires
-suffix-fault-requires c κs = search needs
-
 placed-requires : tie.Need-placed-requires
 placed-requires c κs =
     let p = c .before in
@@ -26,4 +20,4 @@ returns c =
 
 pub suffix-at-spec : {M : Type 1} → statement M
 suffix-at-spec =
-    tie.close (tie.spec part-of-requires suffix-fault-requires placed-requires returns)
+    tie.close (tie.spec (λ c κs. search needs) (λ c κs. search needs) placed-requires returns)

@@ -6,12 +6,6 @@ use Rattle.field.proofs.Texts.{text-bound}
 use Rattle.file_fault.proofs.at.text_at.Statement.{statement}
 use Rattle.file_fault.proofs.at.text_at.Tie as tie
 
-part-of-requires : tie.Need-part-of-requires
-part-of-requires c κs = search needs
-
-text-fault-requires : tie.Need-text-fault-requires
-text-fault-requires c κs = search needs
-
 placed-requires : tie.Need-placed-requires
 placed-requires c κs =
     let p = c .before in
@@ -25,4 +19,4 @@ returns c =
     rw (c .placed .ensures, f .text-fault .ensures, f .before .part-of .ensures)
 
 pub text-at-spec : {M : Type 1} → statement M
-text-at-spec = tie.close (tie.spec part-of-requires text-fault-requires placed-requires returns)
+text-at-spec = tie.close (tie.spec (λ c κs. search needs) (λ c κs. search needs) placed-requires returns)

@@ -7,9 +7,6 @@ use Rattle.file.proofs.Laws.{width-some}
 use Rattle.file_formats.proofs.inner.is_whole.Statement.{statement}
 use Rattle.file_formats.proofs.inner.is_whole.Tie as tie
 
-numbers-of-requires : tie.Need-numbers-of-requires
-numbers-of-requires c κs = search needs
-
 div-n : tie.Need-div-n
 div-n c = rw (c .numbers-of .ensures .1 .0) (width-some (c .before .before .args .kind))
 
@@ -22,4 +19,4 @@ returns : tie.Need-returns
 returns c = rw (c .numbers-of .ensures .1 .0, c .numbers-of .ensures .1 .1)
 
 pub is-whole-spec : {M : Type 1} → statement M
-is-whole-spec = tie.close (tie.spec numbers-of-requires div-n mul-result returns)
+is-whole-spec = tie.close (tie.spec (λ c κs. search needs) div-n mul-result returns)

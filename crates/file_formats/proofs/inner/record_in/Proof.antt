@@ -8,17 +8,11 @@ use Rattle.file_record.specs.Names.Point
 use Rattle.file_formats.proofs.inner.record_in.Statement.{statement}
 use Rattle.file_formats.proofs.inner.record_in.Tie as tie
 
-enum-told : tie.Need-enum-told
-enum-told c = search needs
-
 whole-record-requires : tie.Need-whole-record-requires
 whole-record-requires c κs =
     let s = c .before .before .before in
     let has : s .args .i < length (s .args .file .now) / Table.width = rw (c .enum-told .given .1) at (s .pre) in
     (has, omega arith)
-
-enum-told-2 : tie.Need-enum-told-2
-enum-told-2 c = search needs
 
 whole-record-requires-2 : tie.Need-whole-record-requires-2
 whole-record-requires-2 c κs =
@@ -36,9 +30,9 @@ pub record-in-spec : {M : Type 1} → statement M
 record-in-spec =
     tie.close
     (tie.spec
-    enum-told
+    (λ c. search needs)
     whole-record-requires
-    enum-told-2
+    (λ c. search needs)
     whole-record-requires-2
     returns
     returns-2)

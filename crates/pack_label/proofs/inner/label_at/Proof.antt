@@ -32,9 +32,6 @@ point-label-requires c κs =
       ),
     )
 
-same-length : tie.Need-same-length
-same-length c = search needs
-
 returns-2 : tie.Need-returns-2
 returns-2 c =
     let l = c .before .before in
@@ -46,4 +43,4 @@ returns-2 c =
     l .point-label .ensures ∙ sym (a-point (a .pack .now) (a .k) (a .out .now) there)
 
 pub label-at-spec : {M : Type 1} → statement M
-label-at-spec = tie.close (tie.spec returns point-label-requires same-length returns-2)
+label-at-spec = tie.close (tie.spec returns point-label-requires (λ c. search needs) returns-2)

@@ -42,16 +42,10 @@ module _ (c : tie.After-trailer-number) where
   within : c .trailer-number .result ≤ length pack
   within = omega (arith, place, here)
 
-layout-in-requires : tie.Need-layout-in-requires
-layout-in-requires c κs = search needs
-
 trailer-number-requires : tie.Need-trailer-number-requires
 trailer-number-requires c κs =
     let start = c .before .before .before in
     (trailed (start .args .pack .now) (start .pre .0) _ (c .layout-in .ensures), lit≤ tt)
-
-sub-at : tie.Need-sub-at
-sub-at c = search needs
 
 mul-at : tie.Need-mul-at
 mul-at c = omega (arith, place (c .before), here (c .before), start (c .before) .good .0 .0)
@@ -77,12 +71,6 @@ spans-at-requires c κs =
       ),
     )
 
-print-label-requires : tie.Need-print-label-requires
-print-label-requires c κs = search needs
-
-same-length : tie.Need-same-length
-same-length c = search needs
-
 returns : tie.Need-returns
 returns c =
     let printed = c .before .before in
@@ -95,14 +83,14 @@ pub point-label-spec : {M : Type 1} → statement M
 point-label-spec =
     tie.close
     (tie.spec
-    layout-in-requires
+    (λ c κs. search needs)
     trailer-number-requires
-    sub-at
+    (λ c. search needs)
     mul-at
     add-at
     slice-aggregate-rows
     add-spans-at
     spans-at-requires
-    print-label-requires
-    same-length
+    (λ c κs. search needs)
+    (λ c. search needs)
     returns)

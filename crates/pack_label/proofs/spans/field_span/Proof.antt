@@ -5,9 +5,6 @@ use Rattle.field.proofs.Fronts.{text-in-bound, front-text}
 use Rattle.pack_label.proofs.spans.field_span.Statement.{statement}
 use Rattle.pack_label.proofs.spans.field_span.Tie as tie
 
-read-text-requires : tie.Need-read-text-requires
-read-text-requires c κs = search needs
-
 cast-t6 : tie.Need-cast-t6
 cast-t6 c =
     let a = c .before .before .args in
@@ -19,4 +16,4 @@ returns c =
     λ rows. rw (c .read-text .ensures) (front-text (a .pack .now) (a .from) (a .to))
 
 pub field-span-spec : {M : Type 1} → statement M
-field-span-spec = tie.close (tie.spec read-text-requires cast-t6 returns)
+field-span-spec = tie.close (tie.spec (λ c κs. search needs) cast-t6 returns)

@@ -4,26 +4,11 @@ use Rattle.pack_label.proofs.SpanLaws.{offset-absent, offset-there}
 use Rattle.pack_label.proofs.spans.offset_span.Statement.{statement}
 use Rattle.pack_label.proofs.spans.offset_span.Tie as tie
 
-offset-of-requires : tie.Need-offset-of-requires
-offset-of-requires c κs = search needs
-
 returns : tie.Need-returns
 returns c =
     let o = c .before in
     let a = o .before .before .before .args in
     offset-absent (a .pack .now) (a .rest) (a .i) (a .n) (o .offset-of .result) (o .offset-of .ensures .0) (c .if1 .taken)
-
-add-text-place : tie.Need-add-text-place
-add-text-place c = search needs
-
-text-place-requires : tie.Need-text-place-requires
-text-place-requires c κs = search needs
-
-add-t9 : tie.Need-add-t9
-add-t9 c = search needs
-
-byte-of-requires : tie.Need-byte-of-requires
-byte-of-requires c κs = search needs
 
 returns-2 : tie.Need-returns-2
 returns-2 c =
@@ -40,10 +25,10 @@ pub offset-span-spec : {M : Type 1} → statement M
 offset-span-spec =
     tie.close
     (tie.spec
-    offset-of-requires
+    (λ c κs. search needs)
     returns
-    add-text-place
-    text-place-requires
-    add-t9
-    byte-of-requires
+    (λ c. search needs)
+    (λ c κs. search needs)
+    (λ c. search needs)
+    (λ c κs. search needs)
     returns-2)

@@ -9,43 +9,10 @@ use Rattle.pack.specs.Points.{elementsFrom}
 use Rattle.pack_label.proofs.spans.spans_at.Statement.{statement}
 use Rattle.pack_label.proofs.spans.spans_at.Tie as tie
 
-offset-span-requires : tie.Need-offset-span-requires
-offset-span-requires c κs = search needs
-
-offset-span-requires-2 : tie.Need-offset-span-requires-2
-offset-span-requires-2 c κs = search needs
-
-add-field-span : tie.Need-add-field-span
-add-field-span c = search needs
-
-add-field-span-2 : tie.Need-add-field-span-2
-add-field-span-2 c = search needs
-
-field-span-requires : tie.Need-field-span-requires
-field-span-requires c κs = search needs
-
-offset-span-requires-3 : tie.Need-offset-span-requires-3
-offset-span-requires-3 c κs = search needs
-
-offset-span-requires-4 : tie.Need-offset-span-requires-4
-offset-span-requires-4 c κs = search needs
-
-add-number-at : tie.Need-add-number-at
-add-number-at c = search needs
-
-number-at-requires : tie.Need-number-at-requires
-number-at-requires c κs = search needs
-
-cast-t14 : tie.Need-cast-t14
-cast-t14 c = search needs
-
 add-byte-of : tie.Need-add-byte-of
 add-byte-of c =
     let s = c .before .before .before .before .before .before .before .before in
     omega (arith, s .pre .1 .0, s .good .0 .0)
-
-byte-of-requires : tie.Need-byte-of-requires
-byte-of-requires c κs = search needs
 
 offset-span-requires-5 : tie.Need-offset-span-requires-5
 offset-span-requires-5 c κs =
@@ -86,9 +53,6 @@ add-field-span-3 : tie.Need-add-field-span-3
 add-field-span-3 c =
     let s = c .before .before .before .before .before .before .before .before .before .before .before .before .before .before .before .before in
     omega (arith, s .pre .0, s .good .0 .0)
-
-field-span-requires-2 : tie.Need-field-span-requires-2
-field-span-requires-2 c κs = search needs
 
 add-t27 : tie.Need-add-t27
 add-t27 c =
@@ -138,18 +102,18 @@ pub spans-at-spec : {M : Type 1} → statement M
 spans-at-spec =
     tie.close
     (tie.spec
-    offset-span-requires
-    offset-span-requires-2
-    add-field-span
-    add-field-span-2
-    field-span-requires
-    offset-span-requires-3
-    offset-span-requires-4
-    add-number-at
-    number-at-requires
-    cast-t14
+    (λ c κs. search needs)
+    (λ c κs. search needs)
+    (λ c. search needs)
+    (λ c. search needs)
+    (λ c κs. search needs)
+    (λ c κs. search needs)
+    (λ c κs. search needs)
+    (λ c. search needs)
+    (λ c κs. search needs)
+    (λ c. search needs)
     add-byte-of
-    byte-of-requires
+    (λ c κs. search needs)
     offset-span-requires-5
     offset-span-requires-6
     offset-span-requires-7
@@ -158,6 +122,6 @@ spans-at-spec =
     offset-span-requires-10
     offset-span-requires-11
     add-field-span-3
-    field-span-requires-2
+    (λ c κs. search needs)
     add-t27
     returns)

@@ -7,30 +7,6 @@ use lib.Dec.{eqb}
 use Rattle.pack_points.proofs.points.allowed_mix.Statement.{statement}
 use Rattle.pack_points.proofs.points.allowed_mix.Tie as tie
 
-is-given-requires : tie.Need-is-given-requires
-is-given-requires c κs = search needs
-
-is-given-requires-2 : tie.Need-is-given-requires-2
-is-given-requires-2 c κs = search needs
-
-add-number-within : tie.Need-add-number-within
-add-number-within c = search needs
-
-number-within-requires : tie.Need-number-within-requires
-number-within-requires c κs = search needs
-
-is-given-requires-3 : tie.Need-is-given-requires-3
-is-given-requires-3 c κs = search needs
-
-is-given-requires-4 : tie.Need-is-given-requires-4
-is-given-requires-4 c κs = search needs
-
-is-given-requires-5 : tie.Need-is-given-requires-5
-is-given-requires-5 c κs = search needs
-
-is-given-requires-6 : tie.Need-is-given-requires-6
-is-given-requires-6 c κs = search needs
-
 returns : tie.Need-returns
 unfolding allowedMix
 returns c =
@@ -57,12 +33,12 @@ pub allowed-mix-spec : {M : Type 1} → statement M
 allowed-mix-spec =
     tie.close
     (tie.spec
-    is-given-requires
-    is-given-requires-2
-    add-number-within
-    number-within-requires
-    is-given-requires-3
-    is-given-requires-4
-    is-given-requires-5
-    is-given-requires-6
+    (λ c κs. search needs)
+    (λ c κs. search needs)
+    (λ c. search needs)
+    (λ c κs. search needs)
+    (λ c κs. search needs)
+    (λ c κs. search needs)
+    (λ c κs. search needs)
+    (λ c κs. search needs)
     returns)

@@ -34,15 +34,6 @@ judged c =
 loop-holds : tie.Need-loop-holds Inv-loop μ-loop
 loop-holds c = (search needs, refl)
 
-offset-of-requires : tie.Need-offset-of-requires Inv-loop μ-loop
-offset-of-requires c κs = search needs
-
-array-read-offset-good : tie.Need-array-read-offset-good Inv-loop μ-loop
-array-read-offset-good c = search needs
-
-offset-good-requires : tie.Need-offset-good-requires Inv-loop μ-loop
-offset-good-requires c κs = search needs
-
 returns : tie.Need-returns Inv-loop μ-loop
 returns c =
     let g = c .before in
@@ -51,12 +42,6 @@ returns c =
     sym
     (l .loop .inv .1
     ∙ offsets-stop (a .pack .now) (a .rest) (l .loop .n) offsetKinds (omega arith) (sym (judged g) ∙ not-true _ (c .if1 .taken)))
-
-add-n : tie.Need-add-n Inv-loop μ-loop
-add-n c = search needs
-
-loop-less : tie.Need-loop-less Inv-loop μ-loop
-loop-less c = search needs
 
 loop-again : tie.Need-loop-again Inv-loop μ-loop
 loop-again c =
@@ -82,11 +67,11 @@ offsets-good-spec =
     Inv-loop
     μ-loop
     loop-holds
-    offset-of-requires
-    array-read-offset-good
-    offset-good-requires
+    (λ c κs. search needs)
+    (λ c. search needs)
+    (λ c κs. search needs)
     returns
-    add-n
-    loop-less
+    (λ c. search needs)
+    (λ c. search needs)
     loop-again
     returns-2)

@@ -77,12 +77,6 @@ add-at c =
     let start = judged .before .before .before .before .before .before .before .before in
     omega (arith, room (judged .before), start .pre .1 .0 .point)
 
-add-i : tie.Need-add-i Inv-loop μ-loop
-add-i c = search needs
-
-loop-less : tie.Need-loop-less Inv-loop μ-loop
-loop-less c = search needs
-
 loop-again : tie.Need-loop-again Inv-loop μ-loop
 loop-again c =
     let judged = c .before .before in
@@ -118,7 +112,7 @@ points-good-spec =
     point-good-requires
     returns
     add-at
-    add-i
-    loop-less
+    (λ c. search needs)
+    (λ c. search needs)
     loop-again
     returns-2)

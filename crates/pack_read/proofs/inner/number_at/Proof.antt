@@ -10,12 +10,6 @@ use lib.ListN.{length}
 use Rattle.pack_read.proofs.inner.number_at.Statement.{statement}
 use Rattle.pack_read.proofs.inner.number_at.Tie as tie
 
-add-part-of : tie.Need-add-part-of
-add-part-of c = search needs
-
-part-of-requires : tie.Need-part-of-requires
-part-of-requires c κs = search needs
-
 number-in-requires : tie.Need-number-in-requires
 number-in-requires c κs =
     let a = c .before .before .args in
@@ -33,4 +27,4 @@ returns c =
     )
 
 pub number-at-spec : {M : Type 1} → statement M
-number-at-spec = tie.close (tie.spec add-part-of part-of-requires number-in-requires returns)
+number-at-spec = tie.close (tie.spec (λ c. search needs) (λ c κs. search needs) number-in-requires returns)

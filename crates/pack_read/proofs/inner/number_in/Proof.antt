@@ -1,4 +1,5 @@
--- `pack_read::inner::number_in` meets its contract. Assumes nothing.
+-- `pack_read::inner::number_in` meets its contract. The invariant: v is the number that the bytes before i make, below
+-- 256 to the i. Assumes nothing.
 use borrow.Author.Needs.{needs}
 use mathlib.Core.Path.{_≡_, refl, sym, _∙_}
 use native.Mathlib.Omega.{arith}
@@ -24,9 +25,6 @@ mul-v c =
     let l = c .before in
     omega (arith, power-small (l .loop .v) (l .loop .i) 3 (l .loop .inv .1) (omega arith))
 
-shared-slice-read-v : tie.Need-shared-slice-read-v Inv-loop μ-loop
-shared-slice-read-v c = search needs
-
 cast-v : tie.Need-cast-v Inv-loop μ-loop
 cast-v c = omega (arith, c .shared-slice-known .given (c .before .before .loop .i))
 
@@ -38,12 +36,6 @@ add-v c =
       power-small (l .loop .v) (l .loop .i) 3 (l .loop .inv .1) (omega arith),
       c .shared-slice-known .given (l .loop .i),
     )
-
-add-i : tie.Need-add-i Inv-loop μ-loop
-add-i c = search needs
-
-loop-less : tie.Need-loop-less Inv-loop μ-loop
-loop-less c = search needs
 
 loop-again : tie.Need-loop-again Inv-loop μ-loop
 loop-again c =
@@ -70,10 +62,10 @@ number-in-spec =
     μ-loop
     loop-holds
     mul-v
-    shared-slice-read-v
+    (λ c. search needs)
     cast-v
     add-v
-    add-i
-    loop-less
+    (λ c. search needs)
+    (λ c. search needs)
     loop-again
     returns)

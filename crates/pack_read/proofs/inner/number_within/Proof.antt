@@ -10,18 +10,6 @@ use Rattle.pack_read.proofs.Numbers.{power-small}
 use Rattle.pack_read.proofs.inner.number_within.Statement.{statement}
 use Rattle.pack_read.proofs.inner.number_within.Tie as tie
 
-add-number-in : tie.Need-add-number-in
-add-number-in c = search needs
-
-sub-number-in : tie.Need-sub-number-in
-sub-number-in c = search needs
-
-part-number-in-start : tie.Need-part-number-in-start
-part-number-in-start c = search needs
-
-part-number-in-end : tie.Need-part-number-in-end
-part-number-in-end c = search needs
-
 number-in-requires : tie.Need-number-in-requires
 number-in-requires c κs =
     let a = c .before .before .args in
@@ -40,9 +28,9 @@ pub number-within-spec : {M : Type 1} → statement M
 number-within-spec =
     tie.close
     (tie.spec
-    add-number-in
-    sub-number-in
-    part-number-in-start
-    part-number-in-end
+    (λ c. search needs)
+    (λ c. search needs)
+    (λ c. search needs)
+    (λ c. search needs)
     number-in-requires
     returns)

@@ -1,4 +1,5 @@
--- `pack_read::inner::text_place` meets its contract. Assumes nothing.
+-- `pack_read::inner::text_place` meets its contract. The invariant: `at` stands behind i texts, so that text n is text
+-- n - i from there; a text takes at most 256 bytes. Assumes nothing.
 use borrow.Author.Needs.{needs}
 use mathlib.Core.Path.{_≡_, sym, _∙_}
 use native.Mathlib.Omega.{arith}
@@ -19,15 +20,6 @@ loop-holds c =
     let a = c .before .args in
     (omega arith, omega arith, rw (let size : a .n - 0 ≡ a .n = omega arith in size))
 
-text-end-requires : tie.Need-text-end-requires Inv-loop μ-loop
-text-end-requires c κs = search needs
-
-add-i : tie.Need-add-i Inv-loop μ-loop
-add-i c = search needs
-
-loop-less : tie.Need-loop-less Inv-loop μ-loop
-loop-less c = search needs
-
 loop-again : tie.Need-loop-again Inv-loop μ-loop
 loop-again c =
     let l = c .before .before in
@@ -46,4 +38,4 @@ returns c =
 pub text-place-spec : {M : Type 1} → statement M
 text-place-spec =
     tie.close
-    (tie.spec Inv-loop μ-loop loop-holds text-end-requires add-i loop-less loop-again returns)
+    (tie.spec Inv-loop μ-loop loop-holds (λ c κs. search needs) (λ c. search needs) (λ c. search needs) loop-again returns)

@@ -5,17 +5,8 @@ use borrow.Author.Tests.{eq-eqb, ne-eqb}
 use Rattle.pack_rows.proofs.rows.double_good.Statement.{statement}
 use Rattle.pack_rows.proofs.rows.double_good.Tie as tie
 
-byte-of-requires : tie.Need-byte-of-requires
-byte-of-requires c κs = search needs
-
 returns : tie.Need-returns
 returns c = simp (ne-eqb _ 1 (rw (c .before .byte-of .ensures) at (c .if1 .taken)))
-
-text-empty-requires : tie.Need-text-empty-requires
-text-empty-requires c κs = search needs
-
-text-empty-requires-2 : tie.Need-text-empty-requires-2
-text-empty-requires-2 c κs = search needs
 
 returns-2 : tie.Need-returns-2
 returns-2 c =
@@ -27,4 +18,4 @@ returns-2 c =
 pub double-good-spec : {M : Type 1} → statement M
 double-good-spec =
     tie.close
-    (tie.spec byte-of-requires returns text-empty-requires text-empty-requires-2 returns-2)
+    (tie.spec (λ c κs. search needs) returns (λ c κs. search needs) (λ c κs. search needs) returns-2)

@@ -5,27 +5,6 @@ use Rattle.pack_rows.proofs.Texts.{kind-end, no-kind-end, slots-none}
 use Rattle.pack_rows.proofs.rows.row_end.Statement.{statement}
 use Rattle.pack_rows.proofs.rows.row_end.Tie as tie
 
-add-text-end : tie.Need-add-text-end
-add-text-end c = search needs
-
-text-end-requires : tie.Need-text-end-requires
-text-end-requires c κs = search needs
-
-byte-of-requires : tie.Need-byte-of-requires
-byte-of-requires c κs = search needs
-
-text-end-requires-2 : tie.Need-text-end-requires-2
-text-end-requires-2 c κs = search needs
-
-text-end-requires-3 : tie.Need-text-end-requires-3
-text-end-requires-3 c κs = search needs
-
-text-end-requires-4 : tie.Need-text-end-requires-4
-text-end-requires-4 c κs = search needs
-
-add-result : tie.Need-add-result
-add-result c = search needs
-
 returns : tie.Need-returns
 returns c =
     let m = c .before .before in
@@ -83,13 +62,13 @@ pub row-end-spec : {M : Type 1} → statement M
 row-end-spec =
     tie.close
     (tie.spec
-    add-text-end
-    text-end-requires
-    byte-of-requires
-    text-end-requires-2
-    text-end-requires-3
-    text-end-requires-4
-    add-result
+    (λ c. search needs)
+    (λ c κs. search needs)
+    (λ c κs. search needs)
+    (λ c κs. search needs)
+    (λ c κs. search needs)
+    (λ c κs. search needs)
+    (λ c. search needs)
     returns
     returns-2
     returns-3

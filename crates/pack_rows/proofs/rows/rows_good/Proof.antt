@@ -1,4 +1,5 @@
--- `pack_rows::rows::rows_good` meets its contract. Assumes nothing.
+-- `pack_rows::rows::rows_good` meets its contract. The invariant: the i rows before `at` are good, so that all are where
+-- the others are, from `at` and type `low` on. Assumes nothing.
 use borrow.Author.Needs.{needs}
 use mathlib.Core.Path.{_≡_, sym, _∙_}
 use native.Mathlib.Omega.{arith}
@@ -21,9 +22,6 @@ loop-holds c =
     let a = c .before .args in
     (omega arith, omega arith, rw (let size : a .count - 0 ≡ a .count = omega arith in size))
 
-row-end-requires : tie.Need-row-end-requires Inv-loop μ-loop
-row-end-requires c κs = search needs
-
 row-good-requires : tie.Need-row-good-requires Inv-loop μ-loop
 row-good-requires c κs = (c .before .before .loop .inv .1, c .row-end .ensures)
 
@@ -36,15 +34,6 @@ returns c =
     (l .loop .inv .2
     ∙ rows-stop (a .rows .now) (a .count) (l .loop .i) (l .loop .low) (l .loop .at) (omega arith)
     (sym (g .row-good .ensures) ∙ not-true _ (c .if1 .taken)))
-
-byte-of-requires : tie.Need-byte-of-requires Inv-loop μ-loop
-byte-of-requires c κs = search needs
-
-add-i : tie.Need-add-i Inv-loop μ-loop
-add-i c = search needs
-
-loop-less : tie.Need-loop-less Inv-loop μ-loop
-loop-less c = search needs
 
 loop-again : tie.Need-loop-again Inv-loop μ-loop
 loop-again c =
@@ -71,11 +60,11 @@ rows-good-spec =
     Inv-loop
     μ-loop
     loop-holds
-    row-end-requires
+    (λ c κs. search needs)
     row-good-requires
     returns
-    byte-of-requires
-    add-i
-    loop-less
+    (λ c κs. search needs)
+    (λ c. search needs)
+    (λ c. search needs)
     loop-again
     returns-2)

@@ -5,21 +5,6 @@ use Rattle.pack_rows.proofs.Texts.{empty-length}
 use Rattle.pack_rows.proofs.rows.text_empty.Statement.{statement}
 use Rattle.pack_rows.proofs.rows.text_empty.Tie as tie
 
-add-text-place : tie.Need-add-text-place
-add-text-place c = search needs
-
-text-place-requires : tie.Need-text-place-requires
-text-place-requires c κs = search needs
-
-text-end-requires : tie.Need-text-end-requires
-text-end-requires c κs = search needs
-
-add-part-of : tie.Need-add-part-of
-add-part-of c = search needs
-
-part-of-requires : tie.Need-part-of-requires
-part-of-requires c κs = search needs
-
 returns : tie.Need-returns
 returns c =
     let e = c .before in
@@ -32,9 +17,9 @@ pub text-empty-spec : {M : Type 1} → statement M
 text-empty-spec =
     tie.close
     (tie.spec
-    add-text-place
-    text-place-requires
-    text-end-requires
-    add-part-of
-    part-of-requires
+    (λ c. search needs)
+    (λ c κs. search needs)
+    (λ c κs. search needs)
+    (λ c. search needs)
+    (λ c κs. search needs)
     returns)

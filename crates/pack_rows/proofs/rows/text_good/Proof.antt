@@ -10,15 +10,6 @@ returns c =
     let a = c .before .before .args in
     sym (empty-good (a .width) (a .blank) (a .t .now) (c .if1 .taken))
 
-filled-fault-requires : tie.Need-filled-fault-requires
-filled-fault-requires c κs = search needs
-
-sub-result : tie.Need-sub-result
-sub-result c = search needs
-
-shared-slice-read-result : tie.Need-shared-slice-read-result
-shared-slice-read-result c = search needs
-
 returns-2 : tie.Need-returns-2
 returns-2 c =
     let f = c .before in
@@ -28,4 +19,4 @@ returns-2 c =
 pub text-good-spec : {M : Type 1} → statement M
 text-good-spec =
     tie.close
-    (tie.spec returns filled-fault-requires sub-result shared-slice-read-result returns-2)
+    (tie.spec returns (λ c κs. search needs) (λ c. search needs) (λ c. search needs) returns-2)

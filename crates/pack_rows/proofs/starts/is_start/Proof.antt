@@ -13,9 +13,6 @@ returns c =
     let a = c .before .before .before .args in
     λ n s. sym (none-behind (a .rows .now) n 1 0 (a .o) (s .good) (c .if1 .taken))
 
-div-j : tie.Need-div-j
-div-j c = search needs
-
 mul-walk-to : tie.Need-mul-walk-to
 mul-walk-to c =
     let s = c .before .before .before in
@@ -33,9 +30,6 @@ cast-walk-to c =
     let a = c .before .before .before .before .args in
     omega (arith, c .shared-slice-known3 .given (a .o / a .width))
 
-walk-to-requires : tie.Need-walk-to-requires
-walk-to-requires c κs = search needs
-
 returns-2 : tie.Need-returns-2
 returns-2 c =
     let e = c .before .before in
@@ -50,9 +44,9 @@ is-start-spec =
     tie.close
     (tie.spec
     returns
-    div-j
+    (λ c. search needs)
     mul-walk-to
     shared-slice-read-walk-to
     cast-walk-to
-    walk-to-requires
+    (λ c κs. search needs)
     returns-2)

@@ -1,4 +1,5 @@
--- `pack_rows::starts::keep_starts` meets its contract. Assumes nothing.
+-- `pack_rows::starts::keep_starts` meets its contract. The invariant: of rows that are good, each stretch before `place`
+-- has its first row start kept, and `at` is a row start. Assumes nothing.
 use borrow.Author.Needs.{needs}
 use mathlib.Core.Path.{_≡_, refl, sym, _∙_}
 use native.Mathlib.Omega.{arith}
@@ -55,9 +56,6 @@ loop-holds c =
     let a = c .before .before .args in
     (sym (zero-mul (a .width)), refl, λ n good. keeps-first (a .rows .now) n (a .width) (a .starts .now) good)
 
-walk-to-requires : tie.Need-walk-to-requires Inv-loop μ-loop
-walk-to-requires c κs = search needs
-
 cast-starts : tie.Need-cast-starts Inv-loop μ-loop
 cast-starts c = omega (arith, small c)
 
@@ -72,9 +70,6 @@ add-place c = omega (arith, c .before .before .before .before .before .pre .1 .1
 
 add-j : tie.Need-add-j Inv-loop μ-loop
 add-j c = omega (arith, within c)
-
-loop-less : tie.Need-loop-less Inv-loop μ-loop
-loop-less c = search needs
 
 loop-again : tie.Need-loop-again Inv-loop μ-loop
 loop-again c =
@@ -107,13 +102,13 @@ keep-starts-spec =
     Inv-loop
     μ-loop
     loop-holds
-    walk-to-requires
+    (λ c κs. search needs)
     cast-starts
     mul-starts
     slice-write-starts
     add-place
     add-j
-    loop-less
+    (λ c. search needs)
     loop-again
     same-length
     returns)

@@ -10,12 +10,6 @@ returns : tie.Need-returns
 unfolding offsetGood
 returns c = λ n s. simp (eq-eqb _ absent (c .if1 .taken))
 
-is-start-requires : tie.Need-is-start-requires
-is-start-requires c κs = search needs
-
-byte-of-requires : tie.Need-byte-of-requires
-byte-of-requires c κs = search needs
-
 returns-2 : tie.Need-returns-2
 unfolding offsetGood
 returns-2 c =
@@ -23,4 +17,4 @@ returns-2 c =
     λ n s. rw (c .byte-of .ensures, i .is-start .ensures n s) (simp (ne-eqb _ absent (i .before .if1 .left)))
 
 pub offset-good-spec : {M : Type 1} → statement M
-offset-good-spec = tie.close (tie.spec returns is-start-requires byte-of-requires returns-2)
+offset-good-spec = tie.close (tie.spec returns (λ c κs. search needs) (λ c κs. search needs) returns-2)

@@ -1,4 +1,5 @@
--- `pack_rows::starts::walk_to` meets its contract. Assumes nothing.
+-- `pack_rows::starts::walk_to` meets its contract. The invariant: what a walk from `from` tells of an offset at or behind
+-- `place`, one from `at` tells too. Assumes nothing.
 use borrow.Author.Needs.{needs}
 use native.Mathlib.Omega.{arith}
 use Prim.Native.Nat.{ℕ, _-_, _≤_, _<_}
@@ -16,9 +17,6 @@ abbrev μ-loop : tie.MeasureT-loop
 
 loop-holds : tie.Need-loop-holds Inv-loop μ-loop
 loop-holds c = λ n o l h t. t
-
-row-end-requires : tie.Need-row-end-requires Inv-loop μ-loop
-row-end-requires c κs = search needs
 
 loop-less : tie.Need-loop-less Inv-loop μ-loop
 loop-less c =
@@ -39,4 +37,4 @@ returns c = (omega arith, c .before .loop .inv)
 
 pub walk-to-spec : {M : Type 1} → statement M
 walk-to-spec =
-    tie.close (tie.spec Inv-loop μ-loop loop-holds row-end-requires loop-less loop-again returns)
+    tie.close (tie.spec Inv-loop μ-loop loop-holds (λ c κs. search needs) loop-less loop-again returns)

@@ -17,29 +17,8 @@ Inv-loop file s refs₀ last i₀ refs i =
 abbrev μ-loop : tie.MeasureT-loop
 μ-loop file s refs₀ last i₀ refs i = last - i
 
-last-of-requires : tie.Need-last-of-requires Inv-loop μ-loop
-last-of-requires c κs = search needs
-
 loop-holds : tie.Need-loop-holds Inv-loop μ-loop
 loop-holds c = (refl, omega arith, λ j p q. absurd (omega arith))
-
-ref-at-requires : tie.Need-ref-at-requires Inv-loop μ-loop
-ref-at-requires c κs = search needs
-
-cast-refs : tie.Need-cast-refs Inv-loop μ-loop
-cast-refs c = search needs
-
-mul-refs : tie.Need-mul-refs Inv-loop μ-loop
-mul-refs c = search needs
-
-slice-write-refs : tie.Need-slice-write-refs Inv-loop μ-loop
-slice-write-refs c = search needs
-
-add-i : tie.Need-add-i Inv-loop μ-loop
-add-i c = search needs
-
-loop-less : tie.Need-loop-less Inv-loop μ-loop
-loop-less c = search needs
 
 loop-again : tie.Need-loop-again Inv-loop μ-loop
 loop-again c =
@@ -53,9 +32,6 @@ loop-again c =
           (omega (arith, l .loop .inv .0, l .before .last-of .ensures, start .pre .1)) (c .ref-at .ensures .0)
           (l .loop .inv .2),
     )
-
-same-length : tie.Need-same-length Inv-loop μ-loop
-same-length c = search needs
 
 returns : tie.Need-returns Inv-loop μ-loop
 returns c =
@@ -72,14 +48,14 @@ fill-refs-spec =
     (tie.spec
     Inv-loop
     μ-loop
-    last-of-requires
+    (λ c κs. search needs)
     loop-holds
-    ref-at-requires
-    cast-refs
-    mul-refs
-    slice-write-refs
-    add-i
-    loop-less
+    (λ c κs. search needs)
+    (λ c. search needs)
+    (λ c. search needs)
+    (λ c. search needs)
+    (λ c. search needs)
+    (λ c. search needs)
     loop-again
-    same-length
+    (λ c. search needs)
     returns)

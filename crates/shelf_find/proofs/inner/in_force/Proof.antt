@@ -5,12 +5,6 @@ use Rattle.shelf.proofs.Force.{force-out, force-in}
 use Rattle.shelf_find.proofs.inner.in_force.Statement.{statement}
 use Rattle.shelf_find.proofs.inner.in_force.Tie as tie
 
-record-of-requires : tie.Need-record-of-requires
-record-of-requires c κs = search needs
-
-byte-of-requires : tie.Need-byte-of-requires
-byte-of-requires c κs = search needs
-
 returns : tie.Need-returns
 returns c =
     let b = c .before in
@@ -27,4 +21,4 @@ returns-2 c =
     sym (force-in (a .s) (a .file .now) (a .row) (rw (b .byte-of .ensures, t .record-of .ensures) at (c .if1 .left)))
 
 pub in-force-spec : {M : Type 1} → statement M
-in-force-spec = tie.close (tie.spec record-of-requires byte-of-requires returns returns-2)
+in-force-spec = tie.close (tie.spec (λ c κs. search needs) (λ c κs. search needs) returns returns-2)

@@ -39,9 +39,6 @@ module _ (u : tie.After-upper-ref) where
       let e = end-is in
       omega (arith, upper-to numbers (start .args .r) last (omega arith), start .pre .1 .long)
 
-last-of-requires : tie.Need-last-of-requires
-last-of-requires c κs = search needs
-
 upper-ref-requires : tie.Need-upper-ref-requires
 upper-ref-requires c κs = omega (arith, c .last-of .ensures, c .before .before .before .pre .1 .long)
 
@@ -49,9 +46,6 @@ returns : tie.Need-returns
 returns c =
     let u = c .before in
     sym (found-none (numbers u) (start u .args .r) (last u) (rw (end-is u) at (c .if1 .taken))) ∙ same u
-
-sub-row : tie.Need-sub-row
-sub-row c = search needs
 
 mul-if2 : tie.Need-mul-if2
 mul-if2 c = omega (arith, inside (c .before) (c .if1 .left))
@@ -83,10 +77,10 @@ pub last-ref-spec : {M : Type 1} → statement M
 last-ref-spec =
     tie.close
     (tie.spec
-    last-of-requires
+    (λ c κs. search needs)
     upper-ref-requires
     returns
-    sub-row
+    (λ c. search needs)
     mul-if2
     shared-slice-read-if2
     cast-if2

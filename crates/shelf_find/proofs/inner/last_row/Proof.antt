@@ -7,9 +7,6 @@ use Rattle.shelf.proofs.Search.{found-none, found-here, found-other}
 use Rattle.shelf_find.proofs.inner.last_row.Statement.{statement}
 use Rattle.shelf_find.proofs.inner.last_row.Tie as tie
 
-upper-bound-requires : tie.Need-upper-bound-requires
-upper-bound-requires c κs = search needs
-
 returns : tie.Need-returns
 unfolding lastFound
 returns c =
@@ -18,12 +15,6 @@ returns c =
     sym
     (found-none (refAt (a .s) (a .file .now)) (a .r) (lastOf (a .s) (a .file .now))
     (rw (b .upper-bound .ensures) at (c .if1 .taken)))
-
-sub-row : tie.Need-sub-row
-sub-row c = search needs
-
-ref-at-requires : tie.Need-ref-at-requires
-ref-at-requires c κs = search needs
 
 returns-2 : tie.Need-returns-2
 unfolding lastFound
@@ -51,4 +42,4 @@ returns-3 c =
 pub last-row-spec : {M : Type 1} → statement M
 last-row-spec =
     tie.close
-    (tie.spec upper-bound-requires returns sub-row ref-at-requires returns-2 returns-3)
+    (tie.spec (λ c κs. search needs) returns (λ c. search needs) (λ c κs. search needs) returns-2 returns-3)

@@ -7,17 +7,8 @@ use Rattle.shelf_find.proofs.inner.ref_for.Tie as tie
 returns : tie.Need-returns
 returns c = simp (eq-eqb _ 0 (c .if1 .taken))
 
-mul-find-ref : tie.Need-mul-find-ref
-mul-find-ref c = search needs
-
-add-find-ref : tie.Need-add-find-ref
-add-find-ref c = search needs
-
-find-ref-requires : tie.Need-find-ref-requires
-find-ref-requires c κs = search needs
-
 returns-2 : tie.Need-returns-2
 returns-2 c = simp (ne-eqb _ 0 (c .before .if1 .left)) (c .find-ref .ensures)
 
 pub ref-for-spec : {M : Type 1} → statement M
-ref-for-spec = tie.close (tie.spec returns mul-find-ref add-find-ref find-ref-requires returns-2)
+ref-for-spec = tie.close (tie.spec returns (λ c. search needs) (λ c. search needs) (λ c κs. search needs) returns-2)

@@ -7,17 +7,8 @@ use Rattle.shelf_find.proofs.inner.row_for.Tie as tie
 returns : tie.Need-returns
 returns c = simp (eq-eqb _ 0 (c .if1 .taken))
 
-mul-find-row : tie.Need-mul-find-row
-mul-find-row c = search needs
-
-add-find-row : tie.Need-add-find-row
-add-find-row c = search needs
-
-find-row-requires : tie.Need-find-row-requires
-find-row-requires c κs = search needs
-
 returns-2 : tie.Need-returns-2
 returns-2 c = simp (ne-eqb _ 0 (c .before .if1 .left)) (c .find-row .ensures)
 
 pub row-for-spec : {M : Type 1} → statement M
-row-for-spec = tie.close (tie.spec returns mul-find-row add-find-row find-row-requires returns-2)
+row-for-spec = tie.close (tie.spec returns (λ c. search needs) (λ c. search needs) (λ c κs. search needs) returns-2)

@@ -17,30 +17,6 @@ loop-holds : tie.Need-loop-holds Inv-loop μ-loop
 loop-holds c =
     let a = c .before .before .args in rows-none (found (a .s) (a .file .now)) (a .t4) _ refl
 
-array-read-ref-for : tie.Need-array-read-ref-for Inv-loop μ-loop
-array-read-ref-for c = search needs
-
-mul-ref-for : tie.Need-mul-ref-for Inv-loop μ-loop
-mul-ref-for c = search needs
-
-array-read-ref-for-2 : tie.Need-array-read-ref-for-2 Inv-loop μ-loop
-array-read-ref-for-2 c = search needs
-
-ref-for-requires : tie.Need-ref-for-requires Inv-loop μ-loop
-ref-for-requires c κs = search needs
-
-mul-rows : tie.Need-mul-rows Inv-loop μ-loop
-mul-rows c = search needs
-
-array-write-rows : tie.Need-array-write-rows Inv-loop μ-loop
-array-write-rows c = search needs
-
-add-i : tie.Need-add-i Inv-loop μ-loop
-add-i c = search needs
-
-loop-less : tie.Need-loop-less Inv-loop μ-loop
-loop-less c = search needs
-
 loop-again : tie.Need-loop-again Inv-loop μ-loop
 loop-again c =
     let l = c .before .before in
@@ -63,13 +39,13 @@ rows-by-spec =
     Inv-loop
     μ-loop
     loop-holds
-    array-read-ref-for
-    mul-ref-for
-    array-read-ref-for-2
-    ref-for-requires
-    mul-rows
-    array-write-rows
-    add-i
-    loop-less
+    (λ c. search needs)
+    (λ c. search needs)
+    (λ c. search needs)
+    (λ c κs. search needs)
+    (λ c. search needs)
+    (λ c. search needs)
+    (λ c. search needs)
+    (λ c. search needs)
     loop-again
     returns)

@@ -13,25 +13,10 @@ Inv-loop file s r low₀ high₀ low high = Left (refAt s file) (lastOf s file) 
 abbrev μ-loop : tie.MeasureT-loop
 μ-loop file s r low₀ high₀ low high = high - low
 
-last-of-requires : tie.Need-last-of-requires Inv-loop μ-loop
-last-of-requires c κs = search needs
-
 loop-holds : tie.Need-loop-holds Inv-loop μ-loop
 loop-holds c =
     let a = c .before .before .args in
     rw (c .last-of .ensures) (left-all (refAt (a .s) (a .file .now)) (a .r) (lastOf (a .s) (a .file .now)))
-
-sub-middle : tie.Need-sub-middle Inv-loop μ-loop
-sub-middle c = search needs
-
-add-middle : tie.Need-add-middle Inv-loop μ-loop
-add-middle c = search needs
-
-ref-at-requires : tie.Need-ref-at-requires Inv-loop μ-loop
-ref-at-requires c κs = search needs
-
-loop-less : tie.Need-loop-less Inv-loop μ-loop
-loop-less c = search needs
 
 loop-again : tie.Need-loop-again Inv-loop μ-loop
 loop-again c =
@@ -40,12 +25,6 @@ loop-again c =
     let a = l .before .before .before .args in
     left-low (refAt (a .s) (a .file .now)) (a .r) (lastOf (a .s) (a .file .now)) (l .loop .low) (l .loop .high)
     (l .loop .inv) (k .before .loop-test .taken) (rw (k .ref-at .ensures .0) at (c .if1 .taken))
-
-add-low : tie.Need-add-low Inv-loop μ-loop
-add-low c = search needs
-
-loop-less-2 : tie.Need-loop-less-2 Inv-loop μ-loop
-loop-less-2 c = search needs
 
 loop-again-2 : tie.Need-loop-again-2 Inv-loop μ-loop
 loop-again-2 c =
@@ -68,14 +47,14 @@ upper-bound-spec =
     (tie.spec
     Inv-loop
     μ-loop
-    last-of-requires
+    (λ c κs. search needs)
     loop-holds
-    sub-middle
-    add-middle
-    ref-at-requires
-    loop-less
+    (λ c. search needs)
+    (λ c. search needs)
+    (λ c κs. search needs)
+    (λ c. search needs)
     loop-again
-    add-low
-    loop-less-2
+    (λ c. search needs)
+    (λ c. search needs)
     loop-again-2
     returns)

@@ -6,19 +6,10 @@ use Rattle.file_record.proofs.Records.{record-fits}
 use Rattle.shelf_read.proofs.inner.record_of.Statement.{statement}
 use Rattle.shelf_read.proofs.inner.record_of.Tie as tie
 
-div-if1 : tie.Need-div-if1
-div-if1 c = search needs
-
 whole-record-requires : tie.Need-whole-record-requires
 whole-record-requires c κs =
     let a = c .before .before .args in
     (c .if1 .taken, record-fits (a .s .width) (a .file .now) (a .i) (c .if1 .taken))
-
-slice-aggregate-result : tie.Need-slice-aggregate-result
-slice-aggregate-result c = search needs
-
-returns : tie.Need-returns
-returns c = search needs
 
 returns-2 : tie.Need-returns-2
 unfolding recordAt
@@ -26,4 +17,4 @@ returns-2 c = simp (le-ltb _ _ (c .before .if1 .left))
 
 pub record-of-spec : {M : Type 1} → statement M
 record-of-spec =
-    tie.close (tie.spec div-if1 whole-record-requires slice-aggregate-result returns returns-2)
+    tie.close (tie.spec (λ c. search needs) whole-record-requires (λ c. search needs) (λ c. search needs) returns-2)
