@@ -1,4 +1,5 @@
-//! Every exported call, of the library and of the second program.
+//! Every exported call, of the library and of a plain version: on files that of
+//! `plain_files`, on packs that of `plain_pack`.
 
 use crate::input::Input;
 
@@ -6,14 +7,22 @@ use crate::input::Input;
 /// the labels of a round.
 pub type Question = fn(&Input, room: &mut [u8]) -> u64;
 
-/// A call and the same call of the second program. Their answers have to be
-/// the same.
+/// A call and the same call of the plain version. Their answers have to be the
+/// same.
 pub struct Call {
     pub name: &'static str,
     pub library: Question,
     pub plain: Question,
-    /// The bytes that the call looks at, where it is one pass over a file.
-    pub file: Option<fn(&Input) -> &[u8]>,
+    /// What the call looks at, where it is one pass over a file.
+    pub pass: Option<Pass>,
+}
+
+/// One pass over a file: its bytes, and how many bare passes over them it may
+/// take.
+#[derive(Clone, Copy)]
+pub struct Pass {
+    pub file: fn(&Input) -> &[u8],
+    pub most: f64,
 }
 
 const fn call(name: &'static str, library: Question, plain: Question) -> Call {
@@ -21,18 +30,24 @@ const fn call(name: &'static str, library: Question, plain: Question) -> Call {
         name,
         library,
         plain,
-        file: None,
+        pass: None,
     }
 }
 
 /// Every call that the header declares, in its order.
 pub const CALLS: [Call; 14] = [
     Call {
-        file: Some(|input| &input.pair.table),
+        pass: Some(Pass {
+            file: |input| &input.pair.table,
+            most: 3.0,
+        }),
         ..call("ttw_table", library::table, plain::table)
     },
     Call {
-        file: Some(|input| &input.pair.points),
+        pass: Some(Pass {
+            file: |input| &input.pair.points,
+            most: 4.0,
+        }),
         ..call("ttw_points", library::points, plain::points)
     },
     call("ttw_views", library::views, plain::views),
@@ -119,9 +134,10 @@ mod library {
     }
 }
 
-/// The same calls of the second program.
+/// The same calls of the plain version.
 mod plain {
     use crate::input::{Input, CODE, LABEL, ROUND};
+    use crate::{plain_files, plain_pack};
     use paper::packed_run;
 
     /// An answer as the one number that the library answers.
@@ -130,23 +146,23 @@ mod plain {
     }
 
     pub fn table(input: &Input, _: &mut [u8]) -> u64 {
-        answer(paper::check_table(&input.pair.table))
+        answer(plain_files::check_table(&input.pair.table))
     }
 
     pub fn points(input: &Input, _: &mut [u8]) -> u64 {
-        answer(paper::check_points(&input.pair.points))
+        answer(plain_files::check_points(&input.pair.points))
     }
 
     pub fn views(input: &Input, _: &mut [u8]) -> u64 {
-        answer(paper::views(&input.pair.points))
+        answer(plain_files::views(&input.pair.points))
     }
 
     pub fn letter(input: &Input, _: &mut [u8]) -> u64 {
-        answer(paper::letter(&input.pair.points, input.last_view).map(usize::from))
+        answer(plain_files::letter(&input.pair.points, input.last_view).map(usize::from))
     }
 
     pub fn live(input: &Input, _: &mut [u8]) -> u64 {
-        answer(paper::live(&input.pair.points, CODE))
+        answer(plain_files::live(&input.pair.points, CODE))
     }
 
     pub fn codes(input: &Input, room: &mut [u8]) -> u64 {
@@ -155,7 +171,7 @@ mod plain {
 
     pub fn label(input: &Input, _: &mut [u8]) -> u64 {
         let (table, points) = (&input.pair.table, &input.pair.points);
-        answer(paper::label(
+        answer(plain_files::label(
             table,
             points,
             input.last_view,
@@ -165,37 +181,45 @@ mod plain {
 
     pub fn code_label(input: &Input, _: &mut [u8]) -> u64 {
         let (table, points) = (&input.pair.table, &input.pair.points);
-        answer(paper::code_label(table, points, CODE, 1, &mut [0; LABEL]))
+        answer(plain_files::code_label(
+            table,
+            points,
+            CODE,
+            1,
+            &mut [0; LABEL],
+        ))
     }
 
     pub fn labels(input: &Input, room: &mut [u8]) -> u64 {
         let (table, points) = (&input.pair.table, &input.pair.points);
         let first = input.last_view - ROUND + 1;
-        packed_run(paper::labels(table, points, first, ROUND, room), &mut 0)
+        packed_run(
+            plain_files::labels(table, points, first, ROUND, room),
+            &mut 0,
+        )
     }
 
     pub fn code_labels(input: &Input, room: &mut [u8]) -> u64 {
         let (table, points) = (&input.pair.table, &input.pair.points);
-        let run = paper::code_labels(table, points, CODE, 1, ROUND, room);
+        let run = plain_files::code_labels(table, points, CODE, 1, ROUND, room);
         packed_run(run, &mut 0)
     }
 
     pub fn build(input: &Input, room: &mut [u8]) -> u64 {
         let (table, points) = (&input.pair.table, &input.pair.points);
-        answer(paper::build(table, points, CODE, room))
+        answer(plain_files::build(table, points, CODE, room))
     }
 
     pub fn pack(input: &Input, _: &mut [u8]) -> u64 {
-        answer(paper::open(&input.pack))
+        plain_pack::open(&input.pack)
     }
 
     pub fn pack_label(input: &Input, _: &mut [u8]) -> u64 {
-        let k = input.last_point;
-        answer(paper::pack_label(&input.pack, k, &mut [0; LABEL]))
+        plain_pack::label(&input.pack, input.last_point, &mut [0; LABEL])
     }
 
     pub fn pack_labels(input: &Input, room: &mut [u8]) -> u64 {
         let first = input.last_point - ROUND + 1;
-        packed_run(paper::pack_labels(&input.pack, first, ROUND, room), &mut 0)
+        plain_pack::labels(&input.pack, first, ROUND, room, &mut 0)
     }
 }

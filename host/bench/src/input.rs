@@ -1,6 +1,6 @@
 //! What the calls are asked about.
 
-use paper::make::{exact_pair, full_draft, PackDraft, Pair, Rng, View};
+use paper::make::{exact_pair, full_draft, Follower, PackDraft, Pair, Rng, TableRow, View};
 use ttw::ask;
 
 /// The outward code that most views of the files have.
@@ -70,4 +70,35 @@ pub fn pair_of_many_codes() -> Pair {
         ..view
     };
     Pair::new(rows, views.into_iter().enumerate().map(coded).collect())
+}
+
+/// A pair of 20,000 records in whose table file one key comes 19,997 times, with
+/// 15,999 views: the hardest for a search that goes on from the first of them.
+pub fn pair_of_one_key() -> Pair {
+    let street = |n: u32| TableRow {
+        date: 20_000_101 + n,
+        letter: b'C',
+        ..TableRow::thoroughfare(7, "QUARRY LANE")
+    };
+    let mut rows = vec![TableRow::locality(1, "HARTWELL BAY", "", "")];
+    rows.extend((0..19_997).map(street));
+    Pair::new(rows, (0..15_999).map(view_of_one_street).collect())
+}
+
+/// A view of that street; every fourth has an organisation.
+fn view_of_one_street(n: u32) -> View {
+    let organised = n % 4 == 3;
+    View {
+        address_key: 1 + n,
+        organisation_key: u32::from(organised),
+        locality: 1,
+        thoroughfare: 7,
+        building_number: 1 + n % 200,
+        follower: organised.then(|| Follower {
+            record_type: 2,
+            organisation: "BAKER AND SONS".to_string(),
+            department: String::new(),
+        }),
+        ..View::default()
+    }
 }

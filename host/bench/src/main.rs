@@ -1,13 +1,16 @@
-//! Times each exported call beside the same call of the second program, on the
-//! same input and in the same run, and prints one table. Then the pack's size
-//! beside a database of the same rows.
+//! Times each exported call beside the same call of a plain version, on the same
+//! input and in the same run, and prints one table. Then runs over all labels,
+//! and the pack's size beside a database of the same rows.
 
 mod asked;
 mod input;
+mod plain_files;
+mod plain_pack;
 mod sqlite;
 
 use asked::{Call, Question};
-use input::{far_pack, pair_of_many_codes, Input};
+use input::{far_pack, pair_of_many_codes, pair_of_one_key, Input, LABEL};
+use paper::make::Pair;
 use std::hint::black_box;
 use std::time::Instant;
 
@@ -18,10 +21,9 @@ const SIZES: [usize; 3] = [1_000, 5_000, 20_000];
 const RUNS: usize = 41;
 
 /// The bars at 20,000 records: how many times the plain version a call may
-/// take, how many times its own time at 5,000, how many bare passes a check.
+/// take, how many times its own time at 5,000.
 const MOST_RATIO: f64 = 1.0;
 const MOST_GROWTH: f64 = 5.0;
-const MOST_PASSES: f64 = 6.0;
 
 /// Microseconds of the library, of the plain version and of one bare pass.
 #[derive(Clone, Copy)]
@@ -62,14 +64,14 @@ fn times(call: &Call, input: &Input) -> Times {
     for _ in 0..RUNS {
         library.push(timed(|| ask(call.library)));
         plain.push(timed(|| ask(call.plain)));
-        if let Some(file) = call.file {
-            bare.push(timed(|| bare_pass(black_box(file(input)))));
+        if let Some(pass) = call.pass {
+            bare.push(timed(|| bare_pass(black_box((pass.file)(input)))));
         }
     }
     Times {
         library: median(library),
         plain: median(plain),
-        bare: call.file.map(|_| median(bare)),
+        bare: call.pass.map(|_| median(bare)),
     }
 }
 
@@ -83,37 +85,94 @@ fn print_call(call: &Call, inputs: &[Input]) {
     let times: Vec<Times> = inputs.iter().map(|input| times(call, input)).collect();
     let last = times[times.len() - 1];
     let growth = last.library / times[times.len() - 2].library;
-    let passes = last.bare.map_or(String::new(), |bare| {
-        barred(last.library / bare, MOST_PASSES)
+    let passes = call.pass.zip(last.bare).map(|(pass, bare)| {
+        let most = pass.most;
+        barred(last.library / bare, most)
     });
     print!("{:<15}", call.name);
     for Times { library, plain, .. } in times {
         print!(" {library:>9.1} {plain:>9.1}");
     }
     println!(
-        " {:>6} {:>6} {passes:>6}",
+        " {:>6} {:>6} {:>6}",
         barred(last.library / last.plain, MOST_RATIO),
         barred(growth, MOST_GROWTH),
+        passes.unwrap_or_default()
     );
 }
 
-/// Opening where every offset points at the last rows.
-fn print_far_pack() {
-    let pack = far_pack(16_000);
-    assert_eq!(ttw::ask::pack(&pack), Ok(16_000));
-    let (mut library, mut plain) = (Vec::new(), Vec::new());
+/// One run over all labels of a pair: the time of both, and what a label costs
+/// beyond the check of the files.
+fn print_all_labels(what: &str, pair: &Pair) {
+    let (table, points) = (&pair.table, &pair.points);
+    let count = pair.views.len() as u64;
+    let mut room = vec![0; pair.views.len() * LABEL];
+    let mut other = room.clone();
+    let (mut library, mut plain, mut check) = (Vec::new(), Vec::new(), Vec::new());
     for _ in 0..RUNS {
-        library.push(timed(|| ttw::calls::pack(black_box(&pack))));
+        let mut run = |count| ttw::calls::labels(table, points, 1, count, &mut room, &mut 0);
+        library.push(timed(|| run(count)));
+        check.push(timed(|| run(0)));
         plain.push(timed(|| {
-            paper::packed(paper::open(black_box(&pack)).map(|points| points as u64))
+            let run = plain_files::labels(table, points, 1, count, &mut other);
+            paper::packed_run(run, &mut 0)
         }));
     }
-    let (library, plain) = (median(library), median(plain));
+    assert!(room == other, "{what}: the labels differ");
+    let (library, plain, check) = (median(library), median(plain), median(check));
     println!(
-        "\nttw_pack, 16,000 points that all point at the last of 16,005 rows: \
-         {library:.1} beside {plain:.1}, ratio {}",
-        barred(library / plain, MOST_RATIO)
+        "{what}, {count} labels: {library:.0} beside {plain:.0}, ratio {}, {:.0} ns a label beyond the check",
+        barred(library / plain, MOST_RATIO),
+        (library - check) * 1e3 / count as f64
     );
+}
+
+/// Times what stands outside the table, on both sides by turns.
+fn print_beside(what: &str, mut library: impl FnMut() -> u64, mut plain: impl FnMut() -> u64) {
+    assert_eq!(library(), plain(), "{what}");
+    let (mut ours, mut theirs) = (Vec::new(), Vec::new());
+    for _ in 0..RUNS {
+        ours.push(timed(&mut library));
+        theirs.push(timed(&mut plain));
+    }
+    let (ours, theirs) = (median(ours), median(theirs));
+    println!(
+        "\n{what}: {ours:.1} beside {theirs:.1}, ratio {}",
+        barred(ours / theirs, MOST_RATIO)
+    );
+}
+
+/// Opening where every offset points at the last rows, and where the rows take
+/// more than half a megabyte.
+fn print_hard_packs() {
+    for (what, pack) in [
+        (
+            "16,000 points that all point at the last of 16,005 rows",
+            far_pack(16_000),
+        ),
+        (
+            "70,000 points over rows of more than half a megabyte",
+            far_pack(70_000),
+        ),
+    ] {
+        print_beside(
+            &format!("ttw_pack, {what}"),
+            || ttw::calls::pack(black_box(&pack)),
+            || plain_pack::open(black_box(&pack)),
+        );
+    }
+}
+
+/// A run over every point of the largest pack.
+fn print_whole_pack(input: &Input) {
+    let (pack, points) = (&input.pack, input.last_point);
+    let (mut ours, mut theirs) = (vec![0; pack.len()], vec![0; pack.len()]);
+    print_beside(
+        &format!("ttw_pack_labels, all {points} points"),
+        || ttw::calls::pack_labels(black_box(pack), 1, points, &mut ours, &mut 0),
+        || plain_pack::labels(black_box(pack), 1, points, &mut theirs, &mut 0),
+    );
+    assert_eq!(ours, theirs, "the labels of all points");
 }
 
 /// What `ttw pack --all` asks of the library: which codes are live, and the
@@ -161,10 +220,13 @@ fn main() {
     }
     println!(
         "\nAt the largest size. ratio: library / plain, bar {MOST_RATIO:.1}. growth: from 5,000 to 20,000 \
-         records, bar {MOST_GROWTH:.1}.\npasses: library / one sum of the file's bytes, bar \
-         {MOST_PASSES:.1}. A figure over its bar is marked !."
+         records, bar {MOST_GROWTH:.1}.\npasses: library / one sum of the file's bytes, bar 3.0 for a table file \
+         and 4.0 for a point file. A figure over its bar is marked !.\n\nmicroseconds of one run over all labels of a file:"
     );
-    print_far_pack();
+    print_all_labels("20,000 records", &inputs[inputs.len() - 1].pair);
+    print_all_labels("one key that comes 19,997 times", &pair_of_one_key());
+    print_hard_packs();
+    print_whole_pack(&inputs[inputs.len() - 1]);
     print_every_code();
     print_sizes(&inputs);
 }

@@ -1,0 +1,197 @@
+//! A pack cut from files.
+
+use super::check::{
+    check_code, live_in, needed, number, point_records, table_records, views_in, Point, Row, MOST,
+};
+use super::rows::{in_force, number_in, rows_by, trimmed};
+use super::sheet::Sheet;
+use paper::Refusal;
+
+/// The offset that means absent, and what marks a row as used.
+const ABSENT: u32 = u32::MAX;
+
+/// The bytes of a point and of the trailer.
+const POINT: usize = 57;
+const TRAILER: usize = 21;
+
+/// Where the texts of a row of each type stand.
+fn texts_of(row: &Row) -> &'static [(usize, usize)] {
+    match row[0] {
+        b'1' => &[(69, 99), (99, 134), (134, 169)],
+        b'2' => &[(24, 84)],
+        b'3' => &[(24, 44)],
+        b'4' => &[(24, 74)],
+        _ => &[(24, 54)],
+    }
+}
+
+/// Where the texts of an organisation stand.
+const ORGANISATION: &[(usize, usize)] = &[(42, 102), (102, 162)];
+
+fn row_len(record: &[u8], texts: &[(usize, usize)]) -> usize {
+    let lens = texts
+        .iter()
+        .map(|(start, end)| 1 + trimmed(&record[*start..*end]).len());
+    1 + lens.sum::<usize>()
+}
+
+impl Sheet<'_> {
+    fn four(&mut self, number: u32) {
+        self.put(&number.to_be_bytes());
+    }
+
+    fn row(&mut self, kind: u8, record: &[u8], texts: &[(usize, usize)]) {
+        self.byte(kind);
+        for (start, end) in texts {
+            let text = trimmed(&record[*start..*end]);
+            self.byte(text.len() as u8);
+            self.put(text);
+        }
+    }
+}
+
+/// The names of the rows as numbers, and where each used row starts: one place
+/// for each record.
+struct Index {
+    names: [u32; MOST],
+    starts: [u32; MOST],
+}
+
+impl Index {
+    /// The names of a table file; no row is used yet.
+    fn new(rows: &[Row]) -> Index {
+        let mut names = [u32::MAX; MOST];
+        for (name, row) in names.iter_mut().zip(&rows[1..rows.len() - 1]) {
+            *name = number(&row[..9]) as u32;
+        }
+        Index {
+            names,
+            starts: [ABSENT; MOST],
+        }
+    }
+
+    /// The places of the rows of a view; or 8 or 9.
+    fn rows_of(&self, rows: &[Row], view: &Point) -> Result<[Option<usize>; 7], Refusal> {
+        let names = &self.names[..rows.len() - 2];
+        rows_by(view, |(front, last)| {
+            let name = front.to_be_bytes();
+            let wanted = number(&name) as u32 * 10 + u32::from(last - b'0');
+            let end = names.partition_point(|other| *other <= wanted);
+            let place = end.checked_sub(1)?;
+            (names[place] == wanted && in_force(&rows[place + 1])).then_some(place)
+        })
+    }
+}
+
+/// What is written before the points: the rows and their bytes.
+struct Area {
+    rows: usize,
+    bytes: usize,
+    points: usize,
+}
+
+/// Marks the rows of the views of a code; or the first 8 or 9, with its view.
+fn mark(index: &mut Index, rows: &[Row], points: &[Point], code: &[u8]) -> Result<Area, Refusal> {
+    let mut area = Area {
+        rows: 0,
+        bytes: 0,
+        points: 0,
+    };
+    for place in live_in(points, code) {
+        let view = &points[place];
+        let found = index.rows_of(rows, view).map_err(|refusal| Refusal {
+            second: views_in(&points[..place + 2]).count() as u64,
+            ..refusal
+        })?;
+        for row in found.into_iter().flatten() {
+            index.starts[row] = 0;
+        }
+        if needed(view) != 0 {
+            area.rows += 1;
+            area.bytes += row_len(&points[place + 1], ORGANISATION);
+        }
+        area.points += 1;
+    }
+    Ok(area)
+}
+
+/// Gives each used row its start, and answers where the organisations begin.
+fn place(index: &mut Index, rows: &[Row], area: &mut Area) -> usize {
+    let mut at = 0;
+    let used = index.starts.iter_mut().zip(&rows[1..rows.len() - 1]);
+    for (start, row) in used.filter(|(start, _)| **start == 0) {
+        *start = at as u32;
+        at += row_len(row, texts_of(row));
+        area.rows += 1;
+    }
+    area.bytes += at;
+    at
+}
+
+fn put_point(sheet: &mut Sheet, view: &Point, offsets: [u32; 8]) {
+    sheet.put(&view[14..21]);
+    sheet.put(&view[23..24]);
+    sheet.four(number(&view[24..32]) as u32);
+    sheet.four(number(&view[32..40]) as u32);
+    sheet.put(&number_in(view).to_be_bytes());
+    sheet.put(&view[106..107]);
+    sheet.put(&view[107..113]);
+    for offset in offsets {
+        sheet.four(offset);
+    }
+}
+
+/// Writes rows, points and trailer.
+fn write(
+    index: &Index,
+    rows: &[Row],
+    points: &[Point],
+    code: &[u8],
+    area: &Area,
+    sheet: &mut Sheet,
+) -> Result<(), Refusal> {
+    let used = index.starts.iter().zip(&rows[1..rows.len() - 1]);
+    for (_, row) in used.filter(|(start, _)| **start != ABSENT) {
+        sheet.row(row[0] - b'0', row, texts_of(row));
+    }
+    let mut organisation = sheet.at;
+    for place in live_in(points, code).filter(|place| needed(&points[*place]) != 0) {
+        sheet.row(6, &points[place + 1], ORGANISATION);
+    }
+    for place in live_in(points, code) {
+        let view = &points[place];
+        let mut offsets = [ABSENT; 8];
+        for (offset, row) in offsets.iter_mut().zip(index.rows_of(rows, view)?) {
+            *offset = row.map_or(ABSENT, |row| index.starts[row]);
+        }
+        if needed(view) != 0 {
+            offsets[7] = organisation as u32;
+            organisation += row_len(&points[place + 1], ORGANISATION);
+        }
+        put_point(sheet, view, offsets);
+    }
+    let length = sheet.at + TRAILER;
+    sheet.four(area.rows as u32);
+    sheet.four(area.bytes as u32);
+    sheet.four(area.points as u32);
+    sheet.put(code);
+    sheet.four(length as u32);
+    sheet.byte(1);
+    Ok(())
+}
+
+pub fn build(table: &[u8], points: &[u8], code: &[u8], out: &mut [u8]) -> Result<usize, Refusal> {
+    let rows = table_records(table)?;
+    let points = point_records(points)?;
+    check_code(code)?;
+    let mut index = Index::new(rows);
+    let mut area = mark(&mut index, rows, points, code)?;
+    place(&mut index, rows, &mut area);
+    let length = area.bytes + POINT * area.points + TRAILER;
+    if out.len() < length {
+        return Err(Refusal::new(10, length as u64));
+    }
+    let mut sheet = Sheet { out, at: 0 };
+    write(&index, rows, points, code, &area, &mut sheet)?;
+    Ok(length)
+}

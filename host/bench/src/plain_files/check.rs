@@ -1,0 +1,264 @@
+//! Whether a file is accepted, in one pass over its records.
+
+use paper::fields::outward_fault;
+use paper::Refusal;
+
+/// A record of the table file, and one of the point file.
+pub type Row = [u8; 169];
+pub type Point = [u8; 168];
+
+/// The most records of a file.
+pub const MOST: usize = 20_000;
+
+/// The places A to Z of letters, a bit for each.
+const fn letters(allowed: &[u8]) -> u32 {
+    let (mut bits, mut i) = (0, 0);
+    while i < allowed.len() {
+        bits |= 1 << (allowed[i] - b'A');
+        i += 1;
+    }
+    bits
+}
+
+const INWARD: u32 = letters(b"ABDEFGHJLNPQRSTUWXYZ");
+const AMENDMENT: u32 = letters(b"BCDI");
+
+/// Whether a byte is one of these letters.
+fn is_one(byte: u8, allowed: u32) -> bool {
+    let place = byte.wrapping_sub(b'A');
+    (place < 26) & (allowed >> (place & 31) & 1 == 1)
+}
+
+fn is_digit(byte: u8) -> bool {
+    byte.wrapping_sub(b'0') < 10
+}
+
+/// Whether all bytes pass a test. No byte ends the loop.
+fn all(bytes: &[u8], test: impl Fn(u8) -> bool) -> bool {
+    bytes.iter().fold(true, |all, byte| all & test(*byte))
+}
+
+fn digits(bytes: &[u8]) -> bool {
+    all(bytes, is_digit)
+}
+
+fn blank(bytes: &[u8]) -> bool {
+    all(bytes, |byte| byte == b' ')
+}
+
+/// Whether all bytes may stand in a text.
+fn text(bytes: &[u8]) -> bool {
+    all(bytes, |byte| {
+        (byte.wrapping_sub(32) < 95) & (byte.wrapping_sub(b'a') > 25)
+    })
+}
+
+/// Whether a text that may not be blank is well formed.
+fn filled(bytes: &[u8]) -> bool {
+    text(bytes) & (bytes[0] != b' ')
+}
+
+/// Whether a text that may be blank is well formed.
+fn optional(bytes: &[u8]) -> bool {
+    text(bytes) & ((bytes[0] != b' ') | blank(bytes))
+}
+
+fn is_mark(byte: u8) -> bool {
+    (byte == b'Y') | (byte == b' ')
+}
+
+/// The records of a file, where header and trailer are as they must be.
+fn framed<'a, const WIDTH: usize>(
+    file: &'a [u8],
+    front: usize,
+    name: &[u8],
+) -> Option<&'a [[u8; WIDTH]]> {
+    let (records, rest) = file.as_chunks::<WIDTH>();
+    let [first, .., last] = records else {
+        return None;
+    };
+    let identified = |record: &[u8; WIDTH], byte: u8| {
+        let identifier = &record[..front];
+        all(identifier, |other| other == byte) | blank(identifier)
+    };
+    let count = &last[front..front + 8];
+    let framed = rest.is_empty()
+        && records.len() <= MOST
+        && identified(first, 0)
+        && first[front..front + 8] == *name
+        && identified(last, 255)
+        && digits(count)
+        && number(count) == records.len() as u64;
+    framed.then_some(records)
+}
+
+/// The number that digits say.
+pub fn number(digits: &[u8]) -> u64 {
+    digits.iter().fold(0, |number, digit| {
+        number * 10 + u64::from(digit.wrapping_sub(b'0'))
+    })
+}
+
+/// The records of a table file, or its first refusal.
+pub fn table_records(table: &[u8]) -> Result<&[Row], Refusal> {
+    let accepted = framed(table, 9, b"CHANGES1").filter(|records| are_rows(records));
+    accepted.map_or_else(|| refused(paper::check_table(table)), Ok)
+}
+
+/// The records of a point file, or its first refusal.
+pub fn point_records(points: &[u8]) -> Result<&[Point], Refusal> {
+    let accepted = framed(points, 14, b"CHANGES2").filter(|records| are_points(records));
+    accepted.map_or_else(|| refused(paper::check_points(points)), Ok)
+}
+
+/// The refusal of a file that is not accepted.
+fn refused<T>(answer: Result<usize, Refusal>) -> Result<T, Refusal> {
+    match answer {
+        Err(refusal) => Err(refusal),
+        Ok(_) => panic!("one of the two is wrong about a file"),
+    }
+}
+
+pub fn check_table(table: &[u8]) -> Result<usize, Refusal> {
+    Ok(table_records(table)?.len())
+}
+
+pub fn check_points(points: &[u8]) -> Result<usize, Refusal> {
+    Ok(point_records(points)?.len())
+}
+
+/// Whether the records between header and trailer are rows that rise.
+fn are_rows(records: &[Row]) -> bool {
+    let mut before: &[u8] = &[];
+    records[1..records.len() - 1].iter().all(|row| {
+        let above = row[..24] > *before;
+        before = &row[..24];
+        above && is_row(row)
+    })
+}
+
+fn is_row(row: &Row) -> bool {
+    let letter = is_one(row[23], AMENDMENT) | (row[23] == b' ');
+    let head = digits(&row[1..23]) & !all(&row[1..9], |byte| byte == b'0') & letter;
+    head && match row[0] {
+        b'1' => is_locality(row),
+        b'2' => filled(&row[24..84]),
+        b'3' => filled(&row[24..44]),
+        b'4' => filled(&row[24..74]),
+        b'5' => filled(&row[24..54]),
+        _ => false,
+    }
+}
+
+fn is_locality(row: &Row) -> bool {
+    let (dependent, double) = (&row[99..134], &row[134..]);
+    let alone = blank(dependent) & !blank(double);
+    text(&row[69..]) & (row[69] != b' ') & begins(dependent) & begins(double) & !alone
+}
+
+/// Whether a text of such bytes is blank or begins with none.
+fn begins(bytes: &[u8]) -> bool {
+    (bytes[0] != b' ') | blank(bytes)
+}
+
+/// Whether the records between header and trailer are points that rise, each
+/// view with its follower.
+fn are_points(records: &[Point]) -> bool {
+    let mut owed = 0;
+    let mut i = 1;
+    while i < records.len() - 1 {
+        let point = &records[i];
+        let fine = if owed == 0 {
+            let first = i == 1;
+            owed = needed(point);
+            let next = &records[i + 1];
+            let followed = (owed == 0) | ((next[41] == owed) & (next[..41] == point[..41]));
+            let above = first || point[..42] > records[i - 1][..42];
+            is_view(point, &records[i - 1], !first) && above && followed
+        } else {
+            let small = owed == b'2';
+            owed = 0;
+            is_organisation(point, small)
+        };
+        if !fine {
+            return false;
+        }
+        i += 1;
+    }
+    true
+}
+
+/// The type of the record that a view needs next, 0 for none.
+pub fn needed(view: &Point) -> u8 {
+    let alone = all(&view[32..40], |byte| byte == b'0');
+    match view[23] {
+        b'L' => b'3',
+        _ if alone => 0,
+        _ => b'2',
+    }
+}
+
+/// Whether a record is a view; the one before it has a well formed code where
+/// that is known.
+fn is_view(view: &Point, before: &Point, known: bool) -> bool {
+    let numbers = digits(&view[..14])
+        & digits(&view[24..40])
+        & digits(&view[42..106])
+        & digits(&view[114..116]);
+    let code = (known && view[14..18] == before[14..18]) || outward_fault(&view[14..18]) == 0;
+    let inward = is_digit(view[18]) & is_one(view[19], INWARD) & is_one(view[20], INWARD);
+    let suffix = is_digit(view[21]) & (view[22].wrapping_sub(b'A') < 26);
+    let user = (view[23] == b'S') | (view[23] == b'L');
+    let kind = is_one(view[40], AMENDMENT) & (view[41] == b'1');
+    let marks = is_mark(view[106]) & is_mark(view[113]);
+    numbers & code & inward & suffix & user & kind & marks & optional(&view[107..113])
+}
+
+/// Whether a follower's texts are well formed; its front is its owner's.
+fn is_organisation(point: &Point, small: bool) -> bool {
+    let name = &point[42..102];
+    text(&point[42..162]) & begins(&point[102..162]) & ((name[0] != b' ') | (!small & blank(name)))
+}
+
+/// The places of the views of an accepted file.
+pub fn views_in(records: &[Point]) -> impl Iterator<Item = usize> + '_ {
+    (1..records.len() - 1).filter(|place| records[*place][41] == b'1')
+}
+
+/// The places of the live views of a code.
+pub fn live_in<'a>(records: &'a [Point], code: &'a [u8]) -> impl Iterator<Item = usize> + 'a {
+    views_in(records).filter(|place| is_live(&records[*place], code))
+}
+
+fn is_live(view: &Point, code: &[u8]) -> bool {
+    (view[14..18] == *code) & ((view[40] == b'I') | (view[40] == b'C'))
+}
+
+/// A malformed code is refused with 12.
+pub fn check_code(code: &[u8]) -> Result<(), Refusal> {
+    match outward_fault(code) {
+        0 => Ok(()),
+        _ => Err(Refusal::new(12, 0)),
+    }
+}
+
+pub fn views(points: &[u8]) -> Result<usize, Refusal> {
+    Ok(views_in(point_records(points)?).count())
+}
+
+pub fn letter(points: &[u8], view: u64) -> Result<u8, Refusal> {
+    let records = point_records(points)?;
+    let mut views = from(views_in(records), view);
+    Ok(records[views.next().ok_or(Refusal::new(7, 0))?][40])
+}
+
+pub fn live(points: &[u8], code: &[u8]) -> Result<usize, Refusal> {
+    let records = point_records(points)?;
+    check_code(code)?;
+    Ok(live_in(records, code).count())
+}
+
+/// All of them from that number on, 1 being the first; none from 0.
+pub fn from(places: impl Iterator<Item = usize>, first: u64) -> impl Iterator<Item = usize> {
+    places.skip(first.wrapping_sub(1).min(MOST as u64) as usize)
+}

@@ -1,0 +1,510 @@
+//! A pack opened and its labels printed as a good C programmer would write it:
+//! a table with a byte for each byte of the row area says which row starts
+//! there, texts are tested eight bytes at a time, and labels are written where
+//! they are to stand.
+
+use paper::fields::{numeric_like, outward_fault, trimmed};
+
+/// Bytes of a trailer and of a point.
+const TRAILER: usize = 21;
+const POINT: usize = 57;
+
+/// The offset that means absent, and the types of the rows that offsets name.
+const ABSENT: u32 = u32::MAX;
+const KINDS: [u8; 8] = [1, 2, 3, 2, 3, 4, 5, 6];
+
+const HIGHEST_KEY: u32 = 99_999_999;
+const HIGHEST_NUMBER: u16 = 9_999;
+
+/// No label of an accepted pack is longer.
+const LONGEST: usize = 499;
+
+/// The letters of an inward code.
+const INWARD: [bool; 256] = letters(b"ABDEFGHJLNPQRSTUWXYZ");
+
+const fn letters(which: &[u8]) -> [bool; 256] {
+    let mut table = [false; 256];
+    let mut i = 0;
+    while i < which.len() {
+        table[which[i] as usize] = true;
+        i += 1;
+    }
+    table
+}
+
+/// Why nothing is answered, as the calls number it.
+enum Refusal {
+    Step(u64),
+    NoSuchPoint,
+    Room(usize),
+}
+
+impl Refusal {
+    /// The refusal as one number, with so many labels before it.
+    fn packed(self, labels: u64) -> u64 {
+        let (number, detail) = match self {
+            Refusal::Step(step) => (11, step),
+            Refusal::NoSuchPoint => (7, 0),
+            Refusal::Room(needed) => (10, needed as u64),
+        };
+        number << 56 | (labels & 0xF_FFFF) << 32 | detail
+    }
+}
+
+/// How many points a pack has.
+pub fn open(pack: &[u8]) -> u64 {
+    match Pack::accept(pack) {
+        Ok(pack) => pack.points.len() as u64,
+        Err(why) => why.packed(0),
+    }
+}
+
+/// The label of the k-th point of a pack, printed into `out`.
+pub fn label(pack: &[u8], k: u64, out: &mut [u8]) -> u64 {
+    match Pack::accept(pack).and_then(|pack| pack.label(k, out)) {
+        Ok(bytes) => bytes as u64,
+        Err(why) => why.packed(0),
+    }
+}
+
+/// The labels of so many points from `first` on, printed into `out` one behind
+/// the other; `bytes` becomes the bytes that they take.
+pub fn labels(pack: &[u8], first: u64, count: u64, out: &mut [u8], bytes: &mut u64) -> u64 {
+    let pack = match Pack::accept(pack) {
+        Ok(pack) => pack,
+        Err(why) => return why.packed(0),
+    };
+    let mut at = 0;
+    let mut done = 0;
+    let mut answer = count;
+    while done < count {
+        match pack.label(first.wrapping_add(done), &mut out[at..]) {
+            Ok(written) => at += written,
+            Err(why) => {
+                answer = why.packed(done);
+                break;
+            }
+        }
+        done += 1;
+    }
+    *bytes = at as u64;
+    answer
+}
+
+/// The four bytes at a place, the most significant first.
+fn number(bytes: &[u8], at: usize) -> u32 {
+    u32::from_be_bytes(bytes[at..at + 4].try_into().expect("4 bytes"))
+}
+
+/// A pack that was accepted: its rows, its points and its bytes.
+struct Pack<'a> {
+    bytes: &'a [u8],
+    points: &'a [[u8; POINT]],
+}
+
+impl<'a> Pack<'a> {
+    fn accept(bytes: &'a [u8]) -> Result<Pack<'a>, Refusal> {
+        let (start, points) = split(bytes).ok_or(Refusal::Step(1))?;
+        let trailer = &bytes[bytes.len() - TRAILER..];
+        let kinds = row_kinds(bytes, start, number(trailer, 0)).ok_or(Refusal::Step(2))?;
+        let outward = number(trailer, 12);
+        let sound = |point| is_sound(bytes, &kinds, outward, point);
+        if !points.iter().all(sound) {
+            return Err(Refusal::Step(3));
+        }
+        Ok(Pack { bytes, points })
+    }
+
+    /// Writes the label of the k-th point where all of it fits.
+    fn label(&self, k: u64, out: &mut [u8]) -> Result<usize, Refusal> {
+        let place = usize::try_from(k.wrapping_sub(1)).unwrap_or(usize::MAX);
+        let point = self.points.get(place).ok_or(Refusal::NoSuchPoint)?;
+        if out.len() >= LONGEST {
+            return Ok(print(self.bytes, point, out));
+        }
+        let mut label = [0; LONGEST];
+        let length = print(self.bytes, point, &mut label);
+        let room = out.get_mut(..length).ok_or(Refusal::Room(length))?;
+        room.copy_from_slice(&label[..length]);
+        Ok(length)
+    }
+}
+
+/// Step 1: where the rows end, and the points.
+fn split(bytes: &[u8]) -> Option<(usize, &[[u8; POINT]])> {
+    let body = bytes.len().checked_sub(TRAILER)?;
+    let trailer = &bytes[body..];
+    let start = number(trailer, 4) as usize;
+    let count = number(trailer, 8) as usize;
+    let sound = trailer[20] == 1
+        && number(trailer, 16) as usize == bytes.len()
+        && outward_fault(&trailer[12..16]) == 0
+        && start + POINT * count == body;
+    sound.then(|| (start, bytes[start..body].as_chunks().0))
+}
+
+/// The top bit of each byte that may stand in no text: below 32, a small
+/// letter, above 126.
+fn not_text(eight: u64) -> u64 {
+    const fn each(byte: u8) -> u64 {
+        u64::from_ne_bytes([byte; 8])
+    }
+    let low = eight & each(0x7F);
+    let from_32 = low + each(0x80 - 32);
+    let from_97 = low + each(0x80 - 97);
+    let from_123 = low + each(0x80 - 123);
+    let from_127 = low + each(0x80 - 127);
+    (eight | !from_32 | (from_97 & !from_123) | from_127) & each(0x80)
+}
+
+/// The eight bytes at a place, the first being the lowest.
+fn eight(bytes: &[u8], at: usize) -> u64 {
+    u64::from_le_bytes(bytes[at..at + 8].try_into().expect("8 bytes"))
+}
+
+/// Whether so many bytes from a place on may stand in a text. The trailer
+/// stands behind every text, so that eight bytes can always be read.
+fn is_text(bytes: &[u8], at: usize, length: usize) -> bool {
+    let mut bad = 0;
+    let mut done = 0;
+    while done + 8 <= length {
+        bad |= not_text(eight(bytes, at + done));
+        done += 8;
+    }
+    let left = (length - done) as u32;
+    let counted = !(u64::MAX << (8 * left));
+    bad |= not_text(eight(bytes, at + done)) & counted;
+    bad == 0
+}
+
+/// The place behind the text that stands at a place, if it is sound: no longer
+/// than its field, with no space at either end, empty only where that is
+/// allowed, and within the rows.
+fn text_end(bytes: &[u8], rows: usize, at: usize, longest: usize, empty: bool) -> Option<usize> {
+    if at >= rows {
+        return None;
+    }
+    let length = usize::from(bytes[at]);
+    let end = at + 1 + length;
+    if length == 0 {
+        return empty.then_some(end);
+    }
+    let sound = length <= longest
+        && end <= rows
+        && bytes[at + 1] != b' '
+        && bytes[end - 1] != b' '
+        && is_text(bytes, at + 1, length);
+    sound.then_some(end)
+}
+
+/// The place behind the row that starts at a place, if it is sound.
+fn row_end(bytes: &[u8], rows: usize, at: usize) -> Option<usize> {
+    let text = |at, longest| text_end(bytes, rows, at, longest, false);
+    let optional = |at, longest| text_end(bytes, rows, at, longest, true);
+    match bytes[at] {
+        1 => {
+            let dependent = text(at + 1, 30)?;
+            let double = optional(dependent, 35)?;
+            let end = optional(double, 35)?;
+            (bytes[dependent] != 0 || bytes[double] == 0).then_some(end)
+        }
+        2 => text(at + 1, 60),
+        3 => text(at + 1, 20),
+        4 => text(at + 1, 50),
+        5 => text(at + 1, 30),
+        6 => optional(optional(at + 1, 60)?, 60),
+        _ => None,
+    }
+}
+
+/// Step 2: for each byte of the row area the type of the row that starts there,
+/// 0 where none does.
+fn row_kinds(bytes: &[u8], rows: usize, count: u32) -> Option<Vec<u8>> {
+    let mut kinds = vec![0; rows];
+    let mut at = 0;
+    let mut found = 0;
+    let mut before = 1;
+    while at < rows {
+        let kind = bytes[at];
+        if kind < before {
+            return None;
+        }
+        before = kind;
+        kinds[at] = kind;
+        found += 1;
+        at = row_end(bytes, rows, at)?;
+    }
+    (found == count).then_some(kinds)
+}
+
+/// Step 3, for one point.
+fn is_sound(bytes: &[u8], kinds: &[u8], outward: u32, point: &[u8; POINT]) -> bool {
+    number(point, 0) == outward
+        && point[4].is_ascii_digit()
+        && INWARD[usize::from(point[5])]
+        && INWARD[usize::from(point[6])]
+        && matches!(point[7], b'S' | b'L')
+        && number(point, 8) <= HIGHEST_KEY
+        && number(point, 12) <= HIGHEST_KEY
+        && building_number(point) <= HIGHEST_NUMBER
+        && matches!(point[18], b'Y' | b' ')
+        && is_box(point)
+        && rows_sound(bytes, kinds, point)
+}
+
+fn building_number(point: &[u8; POINT]) -> u16 {
+    u16::from_be_bytes([point[16], point[17]])
+}
+
+/// Whether the PO box is blank, or a text that begins with no space.
+fn is_box(point: &[u8; POINT]) -> bool {
+    const SIX: u64 = (1 << 48) - 1;
+    const SPACES: u64 = u64::from_ne_bytes([b' '; 8]);
+    let six = eight(point, 19) & SIX;
+    if point[19] == b' ' {
+        six == SPACES & SIX
+    } else {
+        not_text(six | SPACES & !SIX) == 0
+    }
+}
+
+/// The rows of a point: each offset is absent or the start of a row of its
+/// type, the locality is there, rule 8 holds, and so does what is said of
+/// organisations.
+fn rows_sound(bytes: &[u8], kinds: &[u8], point: &[u8; POINT]) -> bool {
+    let mut given = 0;
+    for (n, kind) in KINDS.into_iter().enumerate() {
+        let offset = number(point, 25 + 4 * n);
+        if offset != ABSENT {
+            if kinds.get(offset as usize) != Some(&kind) {
+                return false;
+            }
+            given |= 1 << n;
+        }
+    }
+    let is_given = |n: u32| given >> n & 1 == 1;
+    let broken = is_given(6) && !is_given(5) && building_number(point) == 0
+        || is_given(3) && !is_given(1)
+        || is_given(2) && !is_given(1)
+        || is_given(4) && !is_given(3);
+    let organisation = if point[7] == b'L' {
+        is_given(7)
+    } else if number(point, 12) == 0 {
+        !is_given(7)
+    } else {
+        is_given(7) && bytes[number(point, 53) as usize + 1] != 0
+    };
+    is_given(0) && !broken && organisation
+}
+
+/// The n-th text of the row that an offset of a point names; none where it is
+/// absent.
+fn text<'a>(bytes: &'a [u8], point: &[u8; POINT], offset: usize, n: usize) -> &'a [u8] {
+    let row = number(point, 25 + 4 * offset);
+    if row == ABSENT {
+        return &[];
+    }
+    let mut at = row as usize + 1;
+    for _ in 0..n {
+        at += 1 + usize::from(bytes[at]);
+    }
+    &bytes[at + 1..at + 1 + usize::from(bytes[at])]
+}
+
+/// A buffer that is long enough, and how far it is written.
+struct Page<'a> {
+    out: &'a mut [u8],
+    at: usize,
+}
+
+impl Page<'_> {
+    fn put(&mut self, text: &[u8]) {
+        self.out[self.at..self.at + text.len()].copy_from_slice(text);
+        self.at += text.len();
+    }
+
+    fn byte(&mut self, byte: u8) {
+        self.out[self.at] = byte;
+        self.at += 1;
+    }
+
+    /// A line of one text, where there is one.
+    fn line(&mut self, text: &[u8]) {
+        if !text.is_empty() {
+            self.put(text);
+            self.byte(b'\n');
+        }
+    }
+
+    /// A line of one text and another beside it, where there is the first.
+    fn pair(&mut self, text: &[u8], beside: &[u8]) {
+        if !text.is_empty() {
+            self.put(text);
+            if !beside.is_empty() {
+                self.byte(b' ');
+                self.put(beside);
+            }
+            self.byte(b'\n');
+        }
+    }
+
+    /// A number without leading zeros; nothing for 0.
+    fn number(&mut self, number: u16) {
+        for (least, unit) in [(1_000, 1_000), (100, 100), (10, 10), (1, 1)] {
+            if number >= least {
+                self.byte(b'0' + (number / unit % 10) as u8);
+            }
+        }
+    }
+}
+
+/// What goes before the first of the lines from dependent thoroughfare to post
+/// town: the number, a text at once after it, another after a space.
+struct Front<'a> {
+    number: u16,
+    text: &'a [u8],
+    beside: &'a [u8],
+}
+
+impl Front<'_> {
+    /// Writes it with a space, where the line that it goes before is there; it
+    /// is gone then.
+    fn put(&mut self, page: &mut Page, line: &[u8]) {
+        if line.is_empty() {
+            return;
+        }
+        let begin = page.at;
+        page.number(self.number);
+        page.put(self.text);
+        if !self.beside.is_empty() {
+            page.byte(b' ');
+            page.put(self.beside);
+        }
+        if page.at != begin {
+            page.byte(b' ');
+        }
+        *self = NO_FRONT;
+    }
+}
+
+const NO_FRONT: Front = Front {
+    number: 0,
+    text: &[],
+    beside: &[],
+};
+
+/// Writes the premises lines, and answers what goes before the next.
+fn premises<'a>(bytes: &'a [u8], point: &[u8; POINT], page: &mut Page) -> Front<'a> {
+    let sub = text(bytes, point, 6, 0);
+    let name = text(bytes, point, 5, 0);
+    let number = building_number(point);
+    let front = |number, text, beside| Front {
+        number,
+        text,
+        beside,
+    };
+    if sub.is_empty() && name.is_empty() {
+        return front(number, &[], &[]);
+    }
+    let in_front = number == 0 && numeric_like(name);
+    if name.is_empty() {
+        if point[18] == b'Y' {
+            return front(number, sub, &[]);
+        }
+        page.line(sub);
+    } else if numeric_like(sub) {
+        if in_front {
+            return front(0, sub, name);
+        }
+        page.pair(sub, name);
+    } else {
+        page.line(sub);
+        if in_front {
+            return front(0, name, &[]);
+        }
+        page.line(name);
+    }
+    front(number, &[], &[])
+}
+
+/// Writes the label of a point into a buffer that is long enough.
+fn print(bytes: &[u8], point: &[u8; POINT], out: &mut [u8]) -> usize {
+    let mut page = Page { out, at: 0 };
+    page.line(text(bytes, point, 7, 0));
+    page.line(text(bytes, point, 7, 1));
+    let po_box = trimmed(&point[19..25]);
+    if !po_box.is_empty() {
+        page.put(b"PO BOX ");
+        page.line(po_box);
+    }
+    let mut front = premises(bytes, point, &mut page);
+    let places = [
+        (text(bytes, point, 3, 0), text(bytes, point, 4, 0)),
+        (text(bytes, point, 1, 0), text(bytes, point, 2, 0)),
+        (text(bytes, point, 0, 2), &[] as &[u8]),
+        (text(bytes, point, 0, 1), &[]),
+        (text(bytes, point, 0, 0), &[]),
+    ];
+    for (name, beside) in places {
+        front.put(&mut page, name);
+        page.pair(name, beside);
+    }
+    page.pair(trimmed(&point[..4]), &point[4..7]);
+    page.at
+}
+
+#[cfg(test)]
+mod tests {
+    use super::{label, labels, open};
+    use paper::make::{damaged_packs, full_draft, pack_draft, scratch, Rng};
+    use ttw::calls;
+
+    /// Asks both sides all about a pack, with buffers from none to enough: they
+    /// give the same answers and leave the same bytes.
+    fn compare(pack: &[u8], what: &str) {
+        let points = open(pack);
+        assert_eq!(calls::pack(pack), points, "{what}");
+        let last = if points >> 56 == 0 { points + 1 } else { 1 };
+        for room in [0, 30, 60, 90, 498, 499, 700] {
+            let (mut ours, mut plain) = (vec![7; room], vec![7; room]);
+            for k in 0..=last {
+                let answer = label(pack, k, &mut plain);
+                assert_eq!(calls::pack_label(pack, k, &mut ours), answer, "{what}");
+                assert_eq!(ours, plain, "{what}: label {k} into {room} bytes");
+            }
+            for (first, count) in [(0, 0), (0, 1), (1, last), (2, 1), (last, 2)] {
+                let (mut bytes, mut plain_bytes) = (5, 5);
+                let answer = labels(pack, first, count, &mut plain, &mut plain_bytes);
+                let library = calls::pack_labels(pack, first, count, &mut ours, &mut bytes);
+                assert_eq!((library, bytes), (answer, plain_bytes), "{what}");
+                assert_eq!(ours, plain, "{what}: run of {count} into {room} bytes");
+            }
+        }
+    }
+
+    #[test]
+    fn packs_that_open() {
+        let mut rng = Rng::new(31);
+        compare(&full_draft().bytes(), "a full pack");
+        for n in 0..300 {
+            compare(&pack_draft(&mut rng, 8).bytes(), &format!("pack {n}"));
+        }
+    }
+
+    #[test]
+    fn packs_that_do_not() {
+        for damaged in damaged_packs() {
+            compare(&damaged.pack, &damaged.clause);
+        }
+    }
+
+    #[test]
+    fn scratched_packs() {
+        let mut rng = Rng::new(37);
+        for n in 0..3_000 {
+            let mut pack = pack_draft(&mut rng, 5).bytes();
+            scratch(&mut rng, &mut pack);
+            compare(&pack, &format!("pack {n}"));
+        }
+    }
+}
