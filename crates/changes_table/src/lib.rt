@@ -1,5 +1,6 @@
 // The records of a table file between header and trailer.
 mod fine;
+pub mod inner;
 
 use file_fault::inner::byte_fault;
 use file_fault::inner::digits_at;
@@ -11,7 +12,6 @@ use file_record::Locality;
 use file_record::Table;
 use file_record::byte_of;
 use file_record::part_of;
-pub use fine::is_fine;
 ghost use mathlib.Core.Path.{_≡_};
 ghost use mathlib.Core.List.{[], _∷_};
 ghost use lib.ListN.{getD};

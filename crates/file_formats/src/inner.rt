@@ -104,7 +104,7 @@ pub fn is_fine(kind: Kind, before: &[u8], rec: &[u8], known: bool) -> bool
     ensures { λ r. ⌜ (r ≡ true → formatOf kind .fault (now (rec .entry)) ≡ 0) ⌝ }
 {
     match kind {
-        Kind::Table => changes_table::is_fine(rec),
+        Kind::Table => changes_table::inner::is_fine(rec),
         Kind::Points => changes_points::inner::is_fine(before, rec, known),
     }
 }

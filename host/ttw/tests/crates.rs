@@ -9,7 +9,7 @@ use std::path::Path;
 use support::pages::{blocks, documents, quoted, rows, sections, text_of, Section};
 use support::tree::{
     all_paths, crate_names, crates, declared, edits, family, files_below, pages_of_specs,
-    pages_reached, public_functions, words_of,
+    pages_reached, public, public_functions, words_of,
 };
 use support::{names_in, root};
 
@@ -245,6 +245,41 @@ fn each_call_and_each_edit_stands_on_its_familys_page() {
         .filter(|name| shown.contains(name) || has_any(name))
         .collect();
     told.extend(differences("the sections of these pages", &shown, &there));
+    nothing_of(told);
+}
+
+/// The one public call whose contract is silent: it reads and prints.
+const SILENT: &str = "report_folder::show";
+
+/// What a contract lacks to give one answer for every input, as far as its text shows: it has a condition, it promises
+/// nothing, or it promises something only where something else holds.
+fn less_than_one_answer(head: &str) -> Option<&'static str> {
+    let words = |word: &str| head.split_whitespace().any(|each| each == word);
+    if words("requires") {
+        Some("has a condition")
+    } else if !words("ensures") {
+        Some("promises nothing")
+    } else if words("→") {
+        Some("promises something only where something else holds")
+    } else {
+        None
+    }
+}
+
+#[test]
+fn a_public_call_outside_inner_has_no_condition_and_one_answer() {
+    let mut told = Vec::new();
+    for call in crate_names().iter().flat_map(|name| public(name)) {
+        let in_inner = call.path.split("::").any(|part| part == "inner");
+        if in_inner || call.path == SILENT {
+            continue;
+        }
+        let less = less_than_one_answer(&call.head);
+        told.extend(less.map(|less| format!("`{}` {less}", call.path)));
+    }
+    if !text_of(PROMISES).contains(SILENT) {
+        told.push(format!("{PROMISES} does not name `{SILENT}`"));
+    }
     nothing_of(told);
 }
 

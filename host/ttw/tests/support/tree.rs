@@ -51,6 +51,8 @@ struct Item {
     name: String,
     kind: Kind,
     public: bool,
+    /// Of a function, what stands before its body.
+    head: String,
 }
 
 #[derive(PartialEq, Eq)]
@@ -97,12 +99,19 @@ fn item_of(line: &str) -> Option<(Kind, &str)> {
     }
 }
 
+/// What stands before the body of a function: its parameters and its contract.
+fn head_of(lines: &[&str]) -> String {
+    let body = lines.iter().position(|line| line.ends_with('{'));
+    lines[..body.unwrap_or(lines.len())].join("\n")
+}
+
 /// The items of one file. A line that is not indented opens or ends a type; one that is indented once may be the
 /// type's own.
 fn items_of(module: &str, text: &str) -> Vec<Item> {
     let mut items = Vec::new();
     let mut owner = "";
-    for line in text.lines() {
+    let lines: Vec<&str> = text.lines().collect();
+    for (at, line) in lines.iter().enumerate() {
         let own = line.strip_prefix("    ");
         let bare = own.unwrap_or(line);
         let open = bare.strip_prefix("pub ").unwrap_or(bare);
@@ -120,6 +129,7 @@ fn items_of(module: &str, text: &str) -> Vec<Item> {
                 name: path(&[if own.is_some() { owner } else { "" }, name]),
                 kind,
                 public: bare != open,
+                head: head_of(&lines[at..]),
             });
         }
     }
@@ -154,8 +164,16 @@ fn other_paths<'a>(item: &'a Item, items: &'a [Item]) -> impl Iterator<Item = (&
     })
 }
 
-/// The functions of a crate that others can call: each by its path, those for C by their name.
-pub fn public_functions(name: &str) -> Vec<String> {
+/// A function that others can call.
+pub struct Public {
+    /// Those for C have their name alone.
+    pub path: String,
+    /// What stands before its body: its parameters and its contract.
+    pub head: String,
+}
+
+/// The functions of a crate that others can call.
+pub fn public(name: &str) -> Vec<Public> {
     let items = items(name);
     let is_open = |module: &str| {
         let declares = |item: &&Item| item.kind == Kind::Module && item.name == module;
@@ -163,19 +181,29 @@ pub fn public_functions(name: &str) -> Vec<String> {
     };
     let mut functions = Vec::new();
     for item in items.iter().filter(|item| item.public) {
+        let mut paths = Vec::new();
         if item.kind == Kind::Exported {
-            functions.push(item.name.clone());
+            paths.push(item.name.clone());
         }
         if item.kind == Kind::Function {
             if is_open(&item.module) {
-                functions.push(path(&[name, &item.module, &item.name]));
+                paths.push(path(&[name, &item.module, &item.name]));
             }
             let others = other_paths(item, &items).filter(|(alias, _)| is_open(&alias.module));
-            functions.extend(others.map(|(_, other)| path(&[name, &other])));
+            paths.extend(others.map(|(_, other)| path(&[name, &other])));
         }
+        functions.extend(paths.into_iter().map(|path| Public {
+            path,
+            head: item.head.clone(),
+        }));
     }
-    functions.sort();
+    functions.sort_by(|one, other| one.path.cmp(&other.path));
     functions
+}
+
+/// The paths of the functions of a crate that others can call, those for C by their name.
+pub fn public_functions(name: &str) -> Vec<String> {
+    public(name).into_iter().map(|each| each.path).collect()
 }
 
 /// Every path that the code of a crate has a thing at, public or not.
