@@ -19,9 +19,10 @@ use Rattle.refusal.proofs.Outcomes.{answer-of, afterwards-value}
 use Rattle.file.specs.Accepted.{Accepted}
 use Rattle.file.proofs.Accepted.{accepted, accepts}
 use Rattle.tally.specs.Tally.{Entry, codes, counts}
-use Rattle.tally.proofs.Tallies.{codes-length, counts-length}
-use Rattle.changes_codes.specs.Codes.{codesIn, entryBytes, roomed, entriesOutcome, codesOutcome}
+use Rattle.tally.proofs.Tallies.{tally-few, codes-length, counts-length}
+use Rattle.changes_codes.specs.Codes.{allCodes, codesIn, entryBytes, roomed, entriesOutcome, codesOutcome}
 use Rattle.changes_codes.specs.Told.{Told}
+use Rattle.changes_codes.proofs.Gathered.{all-few}
 use Rattle.changes_codes.proofs.Pairs.{pairs-are, pairs-long, fits}
 use Rattle.changes_codes.proofs.Told.{codes-told}
 
@@ -30,6 +31,10 @@ pub entries-long : (es : List Entry) → length (entryBytes es) ≡ 8 * length e
 entries-long es =
     ap length (sym (pairs-are es))
     ∙ (pairs-long (codes es) (counts es) (counts-length es ∙ sym (codes-length es)) ∙ ap (8 *_) (codes-length es))
+
+-- no more codes than live views
+pub entries-few : (points : List ℕ) → Accepted pointFormat points → length (codesIn points) ≤ 20_000
+entries-few points p = omega (arith, tally-few (allCodes points), all-few points p)
 
 pub record Answered (points out : List ℕ) (n : ℕ) : Type 0 where
   pub is-accepted : Accepted pointFormat points

@@ -2,7 +2,10 @@ pub mod Listed
 pub mod One
 pub mod Two
 pub mod Three
+pub mod Says
 pub mod Apart
+pub mod Fits
+pub mod Told
 pub mod Unused
 pub mod Pair
 pub mod Run

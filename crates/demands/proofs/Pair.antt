@@ -1,12 +1,13 @@
--- A pair of files is a source that a pack can be cut from.
+-- A pair of files is a source that a pack can be cut from; and what demand 2 says of its labels.
 -- Assumes nothing.
 use Prim.Native.Nat.{ℕ}
 use mathlib.Core.List.{List}
-use mathlib.Core.Path.{_≡_, sym, ap}
+use mathlib.Core.Path.{_≡_, refl, sym, ap}
 use borrow.Author.Tests.{eq-eqb}
 use lib.ListN.{length}
 use Rattle.field_outward.specs.Outward.{outwardFault}
-use Rattle.refusal.specs.declared.Answer.the-variants.{Value}
+use Rattle.refusal.specs.declared.Answer.{Answer}
+use Rattle.refusal.specs.declared.Answer.the-variants.{Value, Refused}
 use Rattle.file.specs.Check.{records}
 use Rattle.file.specs.Formats.{tableFormat, pointFormat}
 use Rattle.file.specs.Accepted.{Accepted}
@@ -16,7 +17,9 @@ use Rattle.changes_pair.specs.Pair.{pairOf}
 use Rattle.changes_pair.proofs.Live.{live-length}
 use Rattle.changes_label.proofs.Laws.{table-accepted, points-accepted}
 use Rattle.changes_sound.proofs.Sound.{pair-sound}
+use Rattle.demands.specs.Two.{IsValue, Taken, BothAccepted, ViewExactly, CodeExactly}
 use Rattle.demands.specs.Three.{Packable, packed}
+use Rattle.demands.proofs.Two.{view-exactly, code-exactly, exactly-where}
 
 pub pair-packable : (table points : List ℕ) → Packable (pairOf table points)
 pair-packable table points =
@@ -31,8 +34,28 @@ pub pair-taken : (table points : List ℕ) → Accepted tableFormat table → Ac
 pair-taken table points t p = rw (accepts tableFormat table t, accepts pointFormat points p)
 
 pub taken-pair : (table points : List ℕ) {n : ℕ} → pairOf table points .judged ≡ Value n
-    → Accepted tableFormat table × Accepted pointFormat points
+    → BothAccepted table points
 taken-pair table points e = (table-accepted table points e, points-accepted table points e)
+
+taken-both : (table points : List ℕ) → Taken (pairOf table points) → BothAccepted table points
+taken-both table points t = by-judged (pairOf table points .judged) refl t
+  where
+    by-judged : (j : Answer) → pairOf table points .judged ≡ j → IsValue j → BothAccepted table points
+    by-judged (Value n) e t = taken-pair table points e
+    by-judged (Refused file why) e t = absurd t
+
+both-taken : (table points : List ℕ) → BothAccepted table points → Taken (pairOf table points)
+both-taken table points b = rw (pair-taken table points (b .0) (b .1)) tt
+
+-- so a label of it is there exactly where both files, the code and the number are accepted, and the rest of demand 2 holds
+module _ (table points out : List ℕ) where
+  pub pair-view : (view : ℕ) → ViewExactly (BothAccepted table points) (pairOf table points) view out
+  pair-view view =
+      exactly-where (taken-both table points) (both-taken table points) (view-exactly (pairOf table points) out view)
+
+  pub pair-code : (code : List ℕ) (k : ℕ) → CodeExactly (BothAccepted table points) (pairOf table points) code k out
+  pair-code code k =
+      exactly-where (taken-both table points) (both-taken table points) (code-exactly (pairOf table points) out code k)
 
 -- a pack has as many points as `ttw_live` says
 pub live-counted : (table points code : List ℕ) {n : ℕ} → pairOf table points .judged ≡ Value n → outwardFault code ≡ 0

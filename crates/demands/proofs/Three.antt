@@ -2,60 +2,46 @@
 -- Assumes nothing.
 use Prim.Native.Nat.{ℕ, _≤_}
 use mathlib.Core.Path.{_≡_, refl, sym, ap, subst, _∙_}
-use mathlib.Core.Bool.{Bool, true, false, cond}
+use mathlib.Core.Bool.{Bool, true, false}
 use mathlib.Core.List.{List, [], _∷_, _++_}
-use native.Mathlib.Omega.{arith}
 use borrow.Author.Tests.{eq-eqb, eqb-true, eqb-false}
 use lib.Dec.{eqb}
 use lib.ListN.{length, take, drop}
 use lib.Seq.{take-append-seam}
 use Rattle.field_outward.specs.Outward.{outwardFault}
 use Rattle.refusal.specs.declared.Reason.{Reason}
-use Rattle.refusal.specs.declared.Reason.the-variants.{Room, BadCode, Combination, MissingKey}
+use Rattle.refusal.specs.declared.Reason.the-variants.{BadCode}
 use Rattle.refusal.specs.declared.Answer.{Answer}
 use Rattle.refusal.specs.declared.Answer.the-variants.{Value, Refused}
 use Rattle.refusal.specs.declared.Verdict.{Verdict}
 use Rattle.refusal.specs.declared.Verdict.the-variants.{Fine, Bad}
-use Rattle.refusal.specs.Verdict.{orElse}
-use Rattle.refusal.specs.Outcome.{Outcome, said}
+use Rattle.refusal.specs.Outcome.{said}
 use Rattle.refusal.proofs.Answers.{refused-value, same-value}
 use Rattle.refusal.proofs.Outcomes.{answer-of, memory-of, afterwards-value}
 use Rattle.source.specs.Address.{Lookup, Address}
-use Rattle.source.specs.Resolve.{forbidden, missing, elementsOf, Resolved, elements, refused, resolve}
+use Rattle.source.specs.Resolve.{forbidden, missing, elementsOf, elements, resolve}
+use Rattle.source.proofs.Cases.{Resolving, mixed, lacking, fine, resolving}
 use Rattle.label.proofs.Room.{Fitting, fits, short, fitting}
 use Rattle.run.specs.declared.Series.the-variants.{Unasked}
 use Rattle.run.proofs.Same.{same-run}
-use Rattle.ask.specs.Source.{Source, inCode}
-use Rattle.ask.specs.Labels.{kthLabel, codeLabel}
+use Rattle.ask.specs.Source.{Source}
+use Rattle.ask.specs.Labels.{codeLabel}
 use Rattle.ask.specs.Runs.{codeRun}
 use Rattle.ask.proofs.Laws.{by-good-code, by-bad-code, by-refused}
 use Rattle.pack.specs.Layout.{usedBy}
 use Rattle.pack.specs.Opening.{opened}
 use Rattle.pack.specs.Points.{packLabel}
-use Rattle.pack.specs.Cutting.{badOf, firstBad, cutWith, cutOutcome, packBuilt}
+use Rattle.pack.specs.Cutting.{firstBad, cutWith, cutOutcome, packBuilt}
 use Rattle.pack.specs.Sound.{Sound}
 use Rattle.pack_runs.specs.Runs.{packRun}
 use Rattle.pack_carries.proofs.Used.{used-exactly, used-rises}
 use Rattle.pack_carries.proofs.Carried.{pack-opens}
 use Rattle.pack_carries.proofs.Labels.{pack-labels}
 use Rattle.pack_carries.proofs.Exactly.{rows-exactly}
-use Rattle.demands.specs.Three.{Packable, Printed, AllPrinted, FirstRefused, here, later, packed, whole, Building, files-refused, code-refused, view-refused, too-short, built, Rows, Carries}
+use Rattle.demands.specs.Two.{Printed}
+use Rattle.demands.specs.Three.{Packable, AllPrinted, FirstRefused, here, later, packed, whole, Building, files-refused, code-refused, view-refused, too-short, built, Carries}
 
 -- ---- which view is refused
-
--- what an address resolves to: its elements where nothing is refused
-data Resolving (look : Lookup) (a : Address) : Type 0 where
-  fine : Printed look a → resolve look a ≡ elements (elementsOf look a) → Resolving look a
-  bad : (why : Reason) → resolve look a ≡ refused why → Resolving look a
-
-resolving : (look : Lookup) (a : Address) → Resolving look a
-unfolding resolve
-resolving look a = by-tests (eqb (forbidden a) 0) (eqb (missing look a) 0) refl refl
-  where
-    by-tests : (s t : Bool) → eqb (forbidden a) 0 ≡ s → eqb (missing look a) 0 ≡ t → Resolving look a
-    by-tests true true p q = fine (eqb-true _ 0 p, eqb-true _ 0 q) (rw (p, q))
-    by-tests true false p q = bad (MissingKey (missing look a) 0) (rw (p, q))
-    by-tests false t p q = bad (Combination (forbidden a) 0) (rw p)
 
 -- the first refusal, or none
 data First (look : Lookup) (views : List Address) : Type 0 where
@@ -67,9 +53,10 @@ first look [] = none-refused tt refl
 first look (a ∷ more) = by-case (resolving look a) (first look more)
   where
     by-case : Resolving look a → First look more → First look (a ∷ more)
-    by-case (bad why e) rest = one-refused _ (here e) (rw e)
-    by-case (fine p e) (none-refused ps q) = none-refused (p, ps) (rw (e, q))
-    by-case (fine p e) (one-refused why r q) = one-refused why (later p r) (rw (e, q))
+    by-case (mixed n e) rest = one-refused _ (here e) (rw e)
+    by-case (lacking m n e) rest = one-refused _ (here e) (rw e)
+    by-case (fine m n e) (none-refused ps q) = none-refused ((m, n), ps) (rw (e, q))
+    by-case (fine m n e) (one-refused why r q) = one-refused why (later (m, n) r) (rw (e, q))
 
 -- ---- what building comes to
 

@@ -1,16 +1,48 @@
--- Demand 2: a file or pack is answered with a value exactly where document 01's reading accepts it.
+-- Demand 2: a file or a pack is answered with a value exactly where document 01's reading accepts it, a label exactly where
+-- there is one and it fits; and no label is longer than document 01 says.
 -- Assumes nothing.
-use Prim.Native.Nat.{ℕ}
-use mathlib.Core.Path.{_≡_}
-use mathlib.Core.Bool.{true}
-use mathlib.Core.List.{List}
-use Rattle.refusal.specs.declared.Answer.the-variants.{Value}
+use Prim.Native.Nat.{ℕ, _≤_}
+use mathlib.Core.Path.{_≡_, refl, sym, ap, subst, _∙_}
+use mathlib.Core.Bool.{Bool, true, false}
+use mathlib.Core.List.{List, [], _∷_}
+use mathlib.Core.Logic.{inl, inr}
+use mathlib.Core.Option.{Option, none, some}
+use native.Mathlib.Omega.{arith}
+use borrow.Author.Tests.{eqb-true, eqb-false, leb-true, leb-false}
+use lib.Dec.{eqb, leb}
+use Rattle.field_outward.specs.Outward.{outwardFault}
+use Rattle.refusal.specs.declared.Reason.{Reason}
+use Rattle.refusal.specs.declared.Answer.{Answer}
+use Rattle.refusal.specs.declared.Answer.the-variants.{Value, Refused}
+use Rattle.refusal.specs.Outcome.{Outcome, said}
+use Rattle.refusal.proofs.Answers.{refused-value}
+use Rattle.refusal.proofs.Outcomes.{answer-of, afterwards-value, afterwards-refused}
+use Rattle.source.specs.Address.{Lookup, Address, Elements}
+use Rattle.source.specs.Resolve.{Resolved, elementsOf, resolve}
+use Rattle.source.specs.Same.{AllOf}
+use Rattle.source.proofs.Cases.{Resolving, mixed, lacking, fine, resolving}
 use Rattle.file.specs.Check.{Format, records, checked}
+use Rattle.file.specs.Formats.{tableFormat}
 use Rattle.file.specs.Accepted.{Accepted}
 use Rattle.file.proofs.Accepted.{accepted, accepts}
+use Rattle.label.specs.Label.{resolvedOutcome}
+use Rattle.label.specs.Widths.{Fits}
+use Rattle.label.proofs.Room.{Fitting, fits, short, fitting}
+use Rattle.label.proofs.Bounds.{at-most-11-lines, at-most-499, each-line}
+use Rattle.ask.specs.Source.{Source, inCode}
+use Rattle.ask.specs.Labels.{kth, labelOutcome, kthLabel, viewLabel, codeLabel}
+use Rattle.ask.proofs.Laws.{by-good-code, by-bad-code, by-refused}
 use Rattle.pack.specs.Opening.{pointCount, trailerGood, allRowsGood, allPointsGood, opened}
+use Rattle.pack.specs.Points.{isPoint, pointLabel, packLabel}
 use Rattle.pack_open.specs.Opened.{Opened}
 use Rattle.pack_open.proofs.Opened.{opened-all}
+use Rattle.pack_open.proofs.Fits.{point-fits}
+use Rattle.changes_source.specs.Rows.{tableLookup}
+use Rattle.changes_source.specs.Addresses.{addressesIn}
+use Rattle.changes_label.proofs.Fits.{views-fit}
+use Rattle.demands.specs.Two.{labelFor, Printing, no-number, forbidden-mix, key-missing, no-room, printed, ViewAsked, CodeAsked, labelAt, PointAsked, files-refused, code-refused, pack-refused, taken, Exactly, Taken, Prints, textFor, ViewExactly, CodeExactly, PointExactly, Bounded, AllBounded, PointsBounded}
+
+-- ---- files and packs
 
 -- a table file or a point file; the value is how many records it has
 pub accepted-file : (f : Format) (file : List ℕ) → Accepted f file → checked f file ≡ Value (records f file)
@@ -27,3 +59,175 @@ accepted-pack pack trailer rows points = simp (trailer, rows, points)
 
 pub pack-accepted : (pack : List ℕ) (n : ℕ) → opened pack ≡ Value n → Opened pack n
 pack-accepted pack n e = opened-all pack n e
+
+-- ---- labels of a source
+
+module _ (look : Lookup) (views : List Address) (k : ℕ) (out : List ℕ) where
+  pub printing : Printing look views k out (kthLabel look views k out)
+  unfolding kthLabel
+  printing = by-found (kth views k) refl
+    where
+      -- what the address that was found comes to
+      found : (a : Address) {r : Resolved} → kth views k ≡ some a → resolve look a ≡ r
+          → kthLabel look views k out ≡ resolvedOutcome r out
+      found a e is =
+          ap (λ (f : Option Address). labelOutcome look f out) e ∙ ap (λ (r : Resolved). resolvedOutcome r out) is
+
+      by-address : (a : Address) → kth views k ≡ some a → Resolving look a → Fitting (labelFor look a) out
+          → Printing look views k out (kthLabel look views k out)
+      by-address a e (mixed p is) room = forbidden-mix a e p (found a e is)
+      by-address a e (lacking p q is) room = key-missing a e p q (found a e is)
+      by-address a e (fine p q is) (fits h at) = printed a e (p, q) h (found a e is ∙ at)
+      by-address a e (fine p q is) (short h at) = no-room a e (p, q) h (found a e is ∙ at)
+
+      by-found : (f : Option Address) → kth views k ≡ f → Printing look views k out (kthLabel look views k out)
+      by-found none e = no-number e (ap (λ (f : Option Address). labelOutcome look f out) e)
+      by-found (some a) e = by-address a e (resolving look a) (fitting (labelFor look a) out)
+
+module _ (s : Source) (out : List ℕ) where
+  pub view-asked : (view : ℕ) → ViewAsked s view out
+  unfolding viewLabel
+  view-asked view = by-judged (s .judged) refl
+    where
+      by-judged : (j : Answer) → s .judged ≡ j → ViewAsked s view out
+      by-judged (Value n) e =
+          taken e
+          (subst (Printing (s .look) (s .views) view out) (sym (afterwards-value Refused out _ e))
+          (printing (s .look) (s .views) view out))
+      by-judged (Refused file why) e = files-refused e (afterwards-refused Refused out _ e)
+
+  module _ (code : List ℕ) (k : ℕ) where
+    pub code-asked : CodeAsked s code k out
+    unfolding codeLabel
+    code-asked = by-judged (s .judged) refl
+      where
+        by-code : {n : ℕ} → s .judged ≡ Value n → (t : Bool) → eqb (outwardFault code) 0 ≡ t → CodeAsked s code k out
+        by-code e true c =
+            let clean = eqb-true (outwardFault code) 0 c in
+            taken e clean
+            (subst (Printing (s .look) (inCode code (s .live)) k out) (sym (by-good-code Refused code out _ s e clean))
+            (printing (s .look) (inCode code (s .live)) k out))
+        by-code e false c =
+            let fault = eqb-false (outwardFault code) 0 c in code-refused e fault (by-bad-code Refused code out _ s e fault)
+
+        by-judged : (j : Answer) → s .judged ≡ j → CodeAsked s code k out
+        by-judged (Value n) e = by-code e (eqb (outwardFault code) 0) refl
+        by-judged (Refused file why) e = files-refused e (by-refused Refused code out _ s e)
+
+-- ---- labels of a pack
+
+module _ (pack : List ℕ) (k : ℕ) (out : List ℕ) where
+  pub point-asked : PointAsked pack k out
+  unfolding packLabel pointLabel
+  point-asked = by-opened (opened pack) refl
+    where
+      point : {n : ℕ} → opened pack ≡ Value n → packLabel pack k out ≡ pointLabel pack k out
+      point e = afterwards-value Refused out _ e
+
+      by-room : {n : ℕ} → opened pack ≡ Value n → 1 ≤ k → k ≤ n → isPoint pack k ≡ true → Fitting (labelAt pack k) out
+          → PointAsked pack k out
+      by-room e low high t (fits h is) = printed e low high h (point e ∙ (rw t is))
+      by-room e low high t (short h is) = no-room e low high h (point e ∙ (rw t is))
+
+      by-tests : {n : ℕ} → opened pack ≡ Value n → n ≡ pointCount pack → (t u : Bool) → leb 1 k ≡ t
+          → leb k (pointCount pack) ≡ u
+          → PointAsked pack k out
+      by-tests e c true true p q =
+          by-room e (leb-true 1 k p) (omega (arith, leb-true k (pointCount pack) q)) (rw (p, q))
+          (fitting (labelAt pack k) out)
+      by-tests e c true false p q =
+          no-number e (inr (omega (arith, leb-false k (pointCount pack) q))) (point e ∙ rw (p, q))
+      by-tests e c false u p q = no-number e (inl (leb-false 1 k p)) (point e ∙ rw p)
+
+      by-opened : (o : Answer) → opened pack ≡ o → PointAsked pack k out
+      by-opened (Value n) e =
+          by-tests e (opened-all pack n e .counted) (leb 1 k) (leb k (pointCount pack)) refl refl
+      by-opened (Refused file why) e = pack-refused e (afterwards-refused Refused out _ e)
+
+-- ---- exactly where there is a label
+
+-- what is refused is no value
+never : {Where : Type 0} {text out : List ℕ} {o : Outcome Answer} {file : ℕ} {why : Reason}
+    → o ≡ said (Refused file why) out → (Where → ⊥) → Exactly Where text out o
+never {Where} {text} {out} {o} {file} {why} is not =
+    record {
+      only = λ {n} e. absurd (refused-value file n why (sym (answer-of is) ∙ e));
+      then = λ w. absurd (not w);
+    }
+
+module _ (look : Lookup) (views : List Address) (k : ℕ) (out : List ℕ) (o : Outcome Answer) where
+  printing-exactly : Printing look views k out o
+      → Exactly (Prints look (kth views k) out) (textFor look (kth views k)) out o
+  printing-exactly (no-number e is) = rw e (never is (λ w. w))
+  printing-exactly (forbidden-mix a e p is) = rw e (never is (λ w. p (w .0 .0)))
+  printing-exactly (key-missing a e p q is) = rw e (never is (λ w. q (w .0 .1)))
+  printing-exactly (no-room a e p h is) = rw e (never is (λ w. omega (arith, w .1)))
+  printing-exactly (printed a e p h is) = rw e (record { only = λ v. (p, h); then = λ w. is })
+
+  -- the same behind a question that comes first
+  printing-behind : {First : Type 0} → First → Printing look views k out o
+      → Exactly (First × Prints look (kth views k) out) (textFor look (kth views k)) out o
+  printing-behind first p =
+      let e = printing-exactly p in record { only = λ v. (first, e .only v); then = λ w. e .then (w .1) }
+
+module _ (s : Source) (out : List ℕ) where
+  is-taken : {n : ℕ} → s .judged ≡ Value n → Taken s
+  is-taken e = rw e tt
+
+  not-taken : {file : ℕ} {why : Reason} → s .judged ≡ Refused file why → Taken s → ⊥
+  not-taken e w = rw e at w
+
+  pub view-exactly : (view : ℕ) → ViewExactly (Taken s) s view out
+  view-exactly view = by-case (view-asked s out view)
+    where
+      by-case : ViewAsked s view out → ViewExactly (Taken s) s view out
+      by-case (files-refused e is) = never is (λ w. not-taken e (w .0))
+      by-case (taken e p) = printing-behind (s .look) (s .views) view out (viewLabel s view out) (is-taken e) p
+
+  pub code-exactly : (code : List ℕ) (k : ℕ) → CodeExactly (Taken s) s code k out
+  code-exactly code k = by-case (code-asked s out code k)
+    where
+      by-case : CodeAsked s code k out → CodeExactly (Taken s) s code k out
+      by-case (files-refused e is) = never is (λ w. not-taken e (w .0))
+      by-case (code-refused e fault is) = never is (λ w. fault (w .1 .0))
+      by-case (taken e clean p) =
+          let x = printing-exactly (s .look) (inCode code (s .live)) k out (codeLabel s code k out) p in
+          record { only = λ v. (is-taken e, (clean, x .only v)); then = λ w. x .then (w .1 .1) }
+
+module _ (pack : List ℕ) (k : ℕ) (out : List ℕ) where
+  pub point-exactly : PointExactly pack k out
+  point-exactly = by-case (point-asked pack k out)
+    where
+      by-case : PointAsked pack k out → PointExactly pack k out
+      by-case (pack-refused e is) = rw e (never is (λ w. w))
+      by-case (no-number e (inl h) is) = rw e (never is (λ w. omega (arith, w .0)))
+      by-case (no-number e (inr h) is) = rw e (never is (λ w. omega (arith, w .1 .0)))
+      by-case (no-room e low high h is) = rw e (never is (λ w. omega (arith, w .1 .1)))
+      by-case (printed e low high h is) = rw e (record { only = λ v. (low, (high, h)); then = λ w. is })
+
+-- the same of what comes to the same
+pub exactly-where : {Files Others : Type 0} {Where : Type 0} {text out : List ℕ} {o : Outcome Answer} → (Files → Others)
+    → (Others → Files)
+    → Exactly (Files × Where) text out o
+    → Exactly (Others × Where) text out o
+exactly-where there back e =
+    record { only = λ v. let w = e .only v in (there (w .0), w .1); then = λ w. e .then (back (w .0), w .1) }
+
+-- ---- how long a label is
+
+bounded : (e : Elements) → Fits e → Bounded e
+bounded e f = record { lines = at-most-11-lines e; bytes = at-most-499 e f; each = each-line e f }
+
+all-bounded : (look : Lookup) (views : List Address) → AllOf (λ a. Fits (elementsOf look a)) views
+    → AllBounded look views
+all-bounded look [] h = tt
+all-bounded look (a ∷ more) h = (bounded (elementsOf look a) (h .0), all-bounded look more (h .1))
+
+-- of every view of a pair of files, the table file being accepted
+pub views-bounded : (table points : List ℕ) → Accepted tableFormat table
+    → AllBounded (tableLookup table) (addressesIn points)
+views-bounded table points t = all-bounded (tableLookup table) (addressesIn points) (views-fit table points t)
+
+-- of every point of a pack that opens
+pub points-bounded : (pack : List ℕ) → PointsBounded pack
+points-bounded pack n k e low high = bounded _ (point-fits pack n k e low high)

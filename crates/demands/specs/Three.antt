@@ -14,7 +14,7 @@ use Rattle.refusal.specs.declared.Answer.the-variants.{Value, Refused}
 use Rattle.refusal.specs.declared.Verdict.the-variants.{Fine}
 use Rattle.refusal.specs.Outcome.{Outcome, said}
 use Rattle.source.specs.Address.{Lookup, Address}
-use Rattle.source.specs.Resolve.{forbidden, missing, refused, resolve}
+use Rattle.source.specs.Resolve.{refused, resolve}
 use Rattle.source.specs.Same.{AllOf}
 use Rattle.ask.specs.Source.{Source, inCode}
 use Rattle.ask.specs.Labels.{codeLabel}
@@ -27,6 +27,7 @@ use Rattle.pack.specs.Sound.{Sound}
 use Rattle.pack_runs.specs.Runs.{packRun}
 use Rattle.pack_carries.specs.Used.{refers, Rises}
 use Rattle.pack_carries.specs.Rows.{rowsIn, tableRows, organisationRows}
+use Rattle.demands.specs.Two.{Printed}
 
 -- what a source has to be: where its files are accepted, a well formed code gives what a pack can be cut from, unless one
 -- of the packed views is refused
@@ -34,10 +35,6 @@ pub record Packable (s : Source) : Type 0 where
   pub sound : {n : ℕ} → s .judged ≡ Value n → (code : List ℕ) → outwardFault code ≡ 0
       → firstBad (s .look) (inCode code (s .live)) ≡ Fine
       → Sound (s .look) (inCode code (s .live)) code
-
--- neither "a missing key" nor "a forbidden combination"
-abbrev pub Printed : Lookup → Address → Type 0
-Printed look a = (forbidden a ≡ 0) × (missing look a ≡ 0)
 
 abbrev pub AllPrinted : Lookup → List Address → Type 0
 AllPrinted look = AllOf (Printed look)

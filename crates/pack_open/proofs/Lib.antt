@@ -1,2 +1,3 @@
 pub mod Trailers
 pub mod Opened
+pub mod Fits

@@ -1,6 +1,6 @@
 -- The packed number loses nothing: two answers that fit their bits and have the same number are the same answer.
 -- Assumes nothing.
-use Prim.Native.Nat.{ℕ, _+_, _*_, _%_, _<_, _≤_}
+use Prim.Native.Nat.{ℕ, _+_, _*_, _<_, _≤_}
 use mathlib.Core.Path.{_≡_, refl, sym, ap, _∙_}
 use mathlib.Core.Bool.{true}
 use mathlib.Core.List.{[], _∷_}
@@ -56,24 +56,31 @@ number-to-12 r = leb-true (number r) 12 (known r .2)
 pub same-reason : (r q : Reason) → number r ≡ number q → detail r ≡ detail q → second r ≡ second q → r ≡ q
 same-reason r q n d s = sym (known r .0) ∙ rw (n, d, s) (known q .0)
 
--- a refusal that fits, with its remainders gone
-plain : (file : ℕ) (r : Reason) → FitsRefusal file r
-    → packed (Refused file r)
-    ≡ number r * 72_057_594_037_927_936 + file * 4_503_599_627_370_496 + (second r * 4_294_967_296 + detail r)
-unfolding word
-plain file r fits =
-    let n : number r % 256 ≡ number r = mod-eq-of-lt (omega (arith, number-to-12 r)) in
-    let f : file % 16 ≡ file = mod-eq-of-lt (fits .file-fits) in
-    let s : second r % 1_048_576 ≡ second r = mod-eq-of-lt (fits .second-fits) in
-    let d : detail r % 4_294_967_296 ≡ detail r = mod-eq-of-lt (fits .detail-fits) in
-    simp (n, f, s, d)
+-- the four parts of a word that fit their bits
+pub record FitsWord (n file s d : ℕ) : Type 0 where
+  pub number-fits : n < 256
+  pub file-fits : file < 16
+  pub second-fits : s < 1_048_576
+  pub detail-fits : d < 4_294_967_296
 
--- the four parts of a word, told by its size
-record Same (n f s d n′ f′ s′ d′ : ℕ) : Type 0 where
-  number-same : n ≡ n′
-  file-same : f ≡ f′
-  second-same : s ≡ s′
-  detail-same : d ≡ d′
+-- a word of such parts, with its remainders gone
+pub word-plain : (n file s d : ℕ) → FitsWord n file s d
+    → word n file s d ≡ n * 72_057_594_037_927_936 + file * 4_503_599_627_370_496 + (s * 4_294_967_296 + d)
+unfolding word
+word-plain n file s d fits =
+    simp (
+      mod-eq-of-lt (fits .number-fits),
+      mod-eq-of-lt (fits .file-fits),
+      mod-eq-of-lt (fits .second-fits),
+      mod-eq-of-lt (fits .detail-fits),
+    )
+
+-- they are told by its size
+pub record Same (n f s d n′ f′ s′ d′ : ℕ) : Type 0 where
+  pub number-same : n ≡ n′
+  pub file-same : f ≡ f′
+  pub second-same : s ≡ s′
+  pub detail-same : d ≡ d′
 
 parts : (n f s d n′ f′ s′ d′ : ℕ)
     → f < 16
@@ -89,15 +96,38 @@ parts n f s d n′ f′ s′ d′ hf hs hd hf′ hs′ hd′ e =
     record
     { number-same = omega arith; file-same = omega arith; second-same = omega arith; detail-same = omega arith }
 
+pub word-parts : (n f s d n′ f′ s′ d′ : ℕ) → FitsWord n f s d → FitsWord n′ f′ s′ d′ → word n f s d ≡ word n′ f′ s′ d′
+    → Same n f s d n′ f′ s′ d′
+word-parts n f s d n′ f′ s′ d′ p q e =
+    parts n f s d n′ f′ s′ d′ (p .file-fits) (p .second-fits) (p .detail-fits) (q .file-fits) (q .second-fits) (q .detail-fits)
+    (sym (word-plain n f s d p) ∙ (e ∙ word-plain n′ f′ s′ d′ q))
+
+-- those of a refusal that fits
+pub refusal-word : (file : ℕ) (r : Reason) → FitsRefusal file r → FitsWord (number r) file (second r) (detail r)
+refusal-word file r fits =
+    record {
+      number-fits = omega (arith, number-to-12 r);
+      file-fits = fits .file-fits;
+      second-fits = fits .second-fits;
+      detail-fits = fits .detail-fits;
+    }
+
+-- no value has the number of a refusal
+value-refused : (v file : ℕ) (r : Reason) → Fits (Value v) → FitsRefusal file r → packed (Value v) ≡ packed (Refused file r) → ⊥
+value-refused v file r p q e =
+    omega (
+      arith,
+      number-above-0 r,
+      sym (mod-eq-of-lt p) ∙ (e ∙ word-plain (number r) file (second r) (detail r) (refusal-word file r q)),
+    )
+
 pub loses-nothing : (a b : Answer) → Fits a → Fits b → packed a ≡ packed b → a ≡ b
 loses-nothing (Value v) (Value w) p q e =
     ap Value (sym (mod-eq-of-lt p) ∙ (e ∙ mod-eq-of-lt q))
-loses-nothing (Value v) (Refused f r) p q e =
-    absurd (omega (arith, number-above-0 r, sym (mod-eq-of-lt p) ∙ (e ∙ plain f r q)))
-loses-nothing (Refused f r) (Value w) p q e =
-    absurd (omega (arith, number-above-0 r, sym (mod-eq-of-lt q) ∙ (sym e ∙ plain f r p)))
+loses-nothing (Value v) (Refused f r) p q e = absurd (value-refused v f r p q e)
+loses-nothing (Refused f r) (Value w) p q e = absurd (value-refused w f r q p (sym e))
 loses-nothing (Refused f r) (Refused g s) p q e =
     let same =
-    parts (number r) f (second r) (detail r) (number s) g (second s) (detail s) (p .file-fits) (p .second-fits)
-    (p .detail-fits) (q .file-fits) (q .second-fits) (q .detail-fits) (sym (plain f r p) ∙ (e ∙ plain g s q)) in
+    word-parts (number r) f (second r) (detail r) (number s) g (second s) (detail s) (refusal-word f r p)
+    (refusal-word g s q) e in
     rw (same .file-same, same-reason r s (same .number-same) (same .detail-same) (same .second-same))

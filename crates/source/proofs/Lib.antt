@@ -1,3 +1,4 @@
 pub mod Worked
 pub mod Same
 pub mod Refs
+pub mod Cases

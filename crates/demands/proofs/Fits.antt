@@ -1,0 +1,331 @@
+-- What every exported call says fits the bits of its number; but for one exception, of which as much is told as fits.
+-- Assumes nothing.
+use Prim.Native.Nat.{ℕ, zero, suc, _*_, _≤_, _<_}
+use mathlib.Core.Path.{_≡_, refl, sym, ap, _∙_}
+use mathlib.Core.Bool.{Bool, true, false, cond, _||_, true≢false}
+use mathlib.Core.List.{List, [], _∷_, _++_}
+use native.Mathlib.Omega.{arith}
+use native.Mathlib.Nat.{mod-eq-of-lt, mod-mod}
+use borrow.Author.Tests.{eqb-true, eqb-false, ltb-true, ltb-false}
+use lib.Dec.{eqb, leb, ltb, lit≤, lit<}
+use lib.ListN.{length, drop, getD}
+use Rattle.field.specs.Test.{elem}
+use Rattle.field_outward.specs.Outward.{outwardFault}
+use Rattle.refusal.specs.Refusal.{number, withView}
+use Rattle.refusal.specs.Packed.{word, FitsRefusal, Fits}
+use Rattle.refusal.specs.declared.Reason.{Reason}
+use Rattle.refusal.specs.declared.Reason.the-variants.{NoSuchNumber, Combination, MissingKey, Room, BadCode}
+use Rattle.refusal.specs.declared.Answer.{Answer}
+use Rattle.refusal.specs.declared.Answer.the-variants.{Value, Refused}
+use Rattle.refusal.specs.Outcome.{said, after, afterwards}
+use Rattle.refusal.proofs.Answers.{same-value}
+use Rattle.refusal.proofs.Outcomes.{afterwards-refused}
+use Rattle.source.specs.Address.{Lookup, Address}
+use Rattle.source.specs.Resolve.{forbidden, missing}
+use Rattle.source.specs.Same.{AllOf}
+use Rattle.source.proofs.Cases.{Resolving, mixed, lacking, fine, resolving, three-rules, eight-fields}
+use Rattle.file_record.specs.Parts.{recordAt}
+use Rattle.file_fault.proofs.Passing.{point-passes, one-passes}
+use Rattle.file.specs.Check.{Format, records, checked}
+use Rattle.file.specs.Formats.{tableFormat, pointFormat}
+use Rattle.file.specs.Accepted.{Accepted}
+use Rattle.file.proofs.Accepted.{accepted, accepts}
+use Rattle.file.proofs.Laws.{within-limit}
+use Rattle.changes_views.specs.Views.{wantedIn, wantedCount, wantedAt}
+use Rattle.changes_views.proofs.Laws.{count-bound}
+use Rattle.run.specs.declared.Series.{Series}
+use Rattle.run.specs.declared.Series.the-variants.{Unasked, Stopped, Done}
+use Rattle.ask.specs.Source.{Source}
+use Rattle.ask.specs.Labels.{viewLabel, codeLabel}
+use Rattle.ask.proofs.Laws.{in-code-all}
+use Rattle.pack.specs.Opening.{pointCount, opened}
+use Rattle.pack.specs.Points.{packLabel}
+use Rattle.pack.specs.Cutting.{packBuilt}
+use Rattle.pack_open.proofs.Opened.{opened-all}
+use Rattle.pack_open.proofs.Fits.{points-few}
+use Rattle.changes_source.specs.Addresses.{addressOf, addressesIn}
+use Rattle.changes_list.specs.Listing.{viewsAnswer, letterAt, letterAnswer, liveAt, liveAnswer}
+use Rattle.changes_codes.specs.Codes.{codesIn, entryBytes, roomed, entriesOutcome, codesOutcome}
+use Rattle.changes_codes.proofs.Answered.{entries-long, entries-few}
+use Rattle.changes_pair.specs.Pair.{pairOf}
+use Rattle.changes_pair.specs.Live.{viewsAt, WantedPlace, WantedPlaces}
+use Rattle.changes_pair.proofs.Live.{all-views, all-wanted, kept-all}
+use Rattle.changes_pair.proofs.Numbers.{number-bound}
+use Rattle.changes_label.proofs.Laws.{points-accepted}
+use Rattle.changes_sound.proofs.Size.{pack-small}
+use Rattle.call.specs.Call.{Call, of-table, of-points, of-views, of-letter, of-live, of-codes, of-label, of-code-label, of-labels, of-code-labels, of-build, of-pack, of-pack-label, of-pack-labels, one, run}
+use Rattle.demands.specs.Two.{ViewAsked, CodeAsked, files-refused, code-refused, taken}
+use Rattle.demands.specs.Three.{FirstRefused, here, later, packed, whole, Building, files-refused, code-refused, view-refused, too-short, built}
+use Rattle.demands.specs.Fits.{Exception, large-pack, to-open, to-run, Typed, Tells, TellsAll}
+use Rattle.demands.proofs.Two.{view-asked, code-asked}
+use Rattle.demands.proofs.Three.{building}
+use Rattle.demands.proofs.Says.{Judging, OneLabel, SeriesSays, Asked, table-says, points-says, code-says, opened-says, point-says, source-refused, view-says, code-label-says, views-say, codes-say, packs-say, pair-asked}
+
+-- ---- files and what a point file lists
+
+checked-fits : (f : Format) (file : List ℕ) → f .limit ≤ 1_000_000 → Judging (checked f file) → Fits (checked f file)
+checked-fits f file few says = by-answer (checked f file) refl says
+  where
+    by-answer : (r : Answer) → checked f file ≡ r → Judging r → Fits r
+    by-answer (Value n) e h =
+        let a = accepted f file n e in
+        omega (arith, same-value n (records f file) (sym e ∙ accepts f file a), within-limit f file (a .is-whole))
+    by-answer (Refused file why) e h = h .fits
+
+-- the file's own refusal first
+listed-fits : (points : List ℕ) (next : Answer) → (Accepted pointFormat points → Fits next)
+    → Fits (after (checked pointFormat points) next)
+listed-fits points next fits = by-first (checked pointFormat points) refl (points-says points)
+  where
+    by-first : (first : Answer) → checked pointFormat points ≡ first → Judging first → Fits (after first next)
+    by-first (Value n) e h = fits (accepted pointFormat points n e)
+    by-first (Refused file why) e h = h .fits
+
+no-such-number : Fits (Refused 0 NoSuchNumber)
+no-such-number = record { file-fits = lit< tt; second-fits = lit< tt; detail-fits = lit< tt }
+
+-- one of these bytes is below what all of them are below
+abbrev AllBelow : ℕ → List ℕ → Type 0
+AllBelow limit [] = Unit {0}
+AllBelow limit (x ∷ xs) = (x < limit) × AllBelow limit xs
+
+elem-below : (b limit : ℕ) (bytes : List ℕ) → AllBelow limit bytes → elem b bytes ≡ true → b < limit
+elem-below b limit [] h e = absurd (true≢false (sym e))
+elem-below b limit (x ∷ xs) h e = by-test (eqb b x) refl e (elem-below b limit xs (h .1))
+  where
+    by-test : (t : Bool) → eqb b x ≡ t → t || elem b xs ≡ true → (elem b xs ≡ true → b < limit) → b < limit
+    by-test true q e more = omega (arith, eqb-true b x q, h .0)
+    by-test false q e more = more e
+
+-- the k-th of wanted places is one, where it is not 0
+place-wanted : (code points places : List ℕ) → WantedPlaces code points places → (k : ℕ) → (getD places k 0 ≡ 0 → ⊥)
+    → WantedPlace code points (getD places k 0)
+place-wanted code points [] h k some = absurd (some refl)
+place-wanted code points (place ∷ places) h zero some = h .0
+place-wanted code points (place ∷ places) h (suc k) some = place-wanted code points places (h .1) k some
+
+module _ (points : List ℕ) (p : Accepted pointFormat points) where
+  records-few : records pointFormat points ≤ 20_000
+  records-few = within-limit pointFormat points (p .is-whole)
+
+  counted-few : (code : List ℕ) → wantedCount code points ≤ 20_000
+  counted-few code = omega (arith, count-bound code points, records-few)
+
+  -- "Letter: B, C, D, I"
+  letter-small : (place : ℕ) → WantedPlace [] points place → getD (recordAt 168 points place) 40 0 < 256
+  letter-small place w =
+      let rec = recordAt 168 points place in
+      let head = point-passes rec (p .each place (w .low) (w .high) .well-formed) .0 in
+      elem-below (getD rec 40 0) 256 (66 ∷ 67 ∷ 68 ∷ 73 ∷ []) (lit< tt, (lit< tt, (lit< tt, (lit< tt, tt))))
+      (one-passes (66 ∷ 67 ∷ 68 ∷ 73 ∷ []) rec 40 (head .1 .1 .1 .1 .1 .1 .1 .1 .0))
+
+  letter-fits : (view : ℕ) → Fits (letterAt points (wantedAt [] points view))
+  unfolding letterAt wantedAt
+  letter-fits zero = no-such-number
+  letter-fits (suc k) = by-test (eqb place 0) refl
+    where
+      place : ℕ
+      place = getD (wantedIn [] points) k 0
+
+      by-test : (t : Bool) → eqb place 0 ≡ t
+          → Fits (cond t (Refused 0 NoSuchNumber) (Value (getD (recordAt 168 points place) 40 0)))
+      by-test true e = no-such-number
+      by-test false e =
+          omega (
+            arith,
+            letter-small place
+                (place-wanted [] points (wantedIn [] points) (all-wanted [] points) k (eqb-false place 0 e)),
+          )
+
+  live-fits : (code : List ℕ) → Fits (liveAt points code)
+  unfolding liveAt
+  live-fits code = by-test (eqb (outwardFault code) 0)
+    where
+      by-test : (t : Bool) → Fits (cond t (Value (wantedCount code points)) (Refused 0 BadCode))
+      by-test true = omega (arith, counted-few code)
+      by-test false = code-says .fits
+
+  -- the numbers of the views
+  abbrev Numbered : Address → Type 0
+  Numbered a = a .view < 1_048_576
+
+  places-numbered : (places : List ℕ) → WantedPlaces [] points places → AllOf Numbered (viewsAt points places)
+  unfolding addressOf
+  places-numbered [] h = tt
+  places-numbered (place ∷ places) h =
+      (omega (arith, number-bound points place, h .0 .high, records-few), places-numbered places (h .1))
+
+  views-numbered : AllOf Numbered (addressesIn points)
+  views-numbered = rw (all-views points) (places-numbered (wantedIn [] points) (all-wanted [] points))
+
+-- ---- the codes of a point file
+
+room-fits : (n : ℕ) (bytes out : List ℕ) → n ≤ 20_000 → length bytes ≡ 8 * n → Fits (roomed n bytes out .answer)
+unfolding roomed
+room-fits n bytes out few long = by-test (leb (length bytes) (length out))
+  where
+    by-test : (t : Bool)
+        → Fits
+        (cond t (said (Value n) (bytes ++ drop (length bytes) out)) (said (Refused 0 (Room (length bytes))) out) .answer)
+    by-test true = omega arith
+    by-test false = record { file-fits = lit< tt; second-fits = lit< tt; detail-fits = omega arith }
+
+codes-fit : (points out : List ℕ) → Fits (codesOutcome points out .answer)
+unfolding codesOutcome
+codes-fit points out = by-first (checked pointFormat points) refl (points-says points)
+  where
+    by-first : (first : Answer) → checked pointFormat points ≡ first → Judging first
+        → Fits (afterwards Refused first out (entriesOutcome (codesIn points) out) .answer)
+    by-first (Value n) e h =
+        room-fits (length (codesIn points)) (entryBytes (codesIn points)) out
+        (entries-few points (accepted pointFormat points n e)) (entries-long (codesIn points))
+    by-first (Refused file why) e h = h .fits
+
+-- ---- labels
+
+label-fits : (limit k : ℕ) (r : Answer) → OneLabel limit k r → Fits r
+label-fits limit k (Value b) h = omega (arith, h .0)
+label-fits limit k (Refused file why) h =
+    record {
+      file-fits = rw (h .0) (lit< tt);
+      second-fits = rw (h .1 .no-view) (lit< tt);
+      detail-fits = omega (arith, h .1 .small);
+    }
+
+module _ (s : Source) (says : Asked s) (out : List ℕ) where
+  view-fits : (view : ℕ) → Fits (viewLabel s view out .answer)
+  view-fits view = by-case (view-asked s out view)
+    where
+      by-case : ViewAsked s view out → Fits (viewLabel s view out .answer)
+      by-case (files-refused e is) = rw is (source-refused s says e .fits)
+      by-case (taken e p) = label-fits _ view (viewLabel s view out .answer) (view-says s says e view out)
+
+  code-fits : (code : List ℕ) (k : ℕ) → Fits (codeLabel s code k out .answer)
+  code-fits code k = by-case (code-asked s out code k)
+    where
+      by-case : CodeAsked s code k out → Fits (codeLabel s code k out .answer)
+      by-case (files-refused e is) = rw is (source-refused s says e .fits)
+      by-case (code-refused e fault is) = rw is (code-says .fits)
+      by-case (taken e clean p) =
+          label-fits _ k (codeLabel s code k out .answer) (code-label-says s says e k out code clean)
+
+point-fits : (pack : List ℕ) (k : ℕ) (out : List ℕ) → Fits (packLabel pack k out .answer)
+unfolding packLabel
+point-fits pack k out = by-opened (opened pack) refl
+  where
+    by-opened : (r : Answer) → opened pack ≡ r → Fits (packLabel pack k out .answer)
+    by-opened (Value n) e = label-fits n k (packLabel pack k out .answer) (point-says pack n e k out)
+    by-opened (Refused file why) e =
+        rw (afterwards-refused Refused out _ e) (rw e at (opened-says pack) .fits)
+
+opened-fits : (pack : List ℕ) → ((i : ℕ) → getD pack i 0 < 256) → Fits (opened pack)
+opened-fits pack bytes = by-opened (opened pack) refl (opened-says pack)
+  where
+    by-opened : (r : Answer) → opened pack ≡ r → Judging r → Fits r
+    by-opened (Value n) e h = omega (arith, opened-all pack n e .counted, points-few pack bytes)
+    by-opened (Refused file why) e h = h .fits
+
+-- ---- packs that are built
+
+-- "the label's 8 or 9 of the first live view .., together with its view number"
+first-fits : (look : Lookup) (views : List Address) (why : Reason) → AllOf (λ a. a .view < 1_048_576) views
+    → FirstRefused look views why
+    → FitsRefusal 0 why
+first-fits look views why h (here {a = a} {why = w} e) = by-case (resolving look a)
+  where
+    by-case : Resolving look a → FitsRefusal 0 (withView (a .view) w)
+    by-case (mixed n is) =
+        let same : w ≡ Combination (forbidden a) 0 = cc in
+        rw same (record { file-fits = lit< tt; second-fits = h .0; detail-fits = omega (arith, three-rules a) })
+    by-case (lacking m n is) =
+        let same : w ≡ MissingKey (missing look a) 0 = cc in
+        rw same (record { file-fits = lit< tt; second-fits = h .0; detail-fits = omega (arith, eight-fields look a) })
+    by-case (fine m n is) = let z : _≡_ {A = ℕ} 0 1 = cc in absurd (omega arith)
+first-fits look views why h (later {more = more} p r) = first-fits look more why (h .1) r
+
+build-fits : (table points code out : List ℕ) → Fits (packBuilt (pairOf table points) code out .answer)
+build-fits table points code out = by-case (building (pairOf table points) code out)
+  where
+    pair : Source
+    pair = pairOf table points
+
+    small : {n : ℕ} → pair .judged ≡ Value n → outwardFault code ≡ 0 → length (whole pair code) < 4_294_967_296
+    small e clean = omega (arith, pack-small table points code (points-accepted table points e) clean)
+
+    numbered : {n : ℕ} → pair .judged ≡ Value n → AllOf (λ a. a .view < 1_048_576) (packed pair code)
+    numbered e =
+        in-code-all (λ a. a .view < 1_048_576) code (pair .live)
+        (kept-all (λ a. a .view < 1_048_576) (addressesIn points)
+        (views-numbered points (points-accepted table points e)))
+
+    by-case : Building pair code out → Fits (packBuilt pair code out .answer)
+    by-case (files-refused e is) = rw is (source-refused pair (pair-asked table points) e .fits)
+    by-case (code-refused e fault is) = rw is (code-says .fits)
+    by-case (view-refused e clean r is) = rw is (first-fits _ _ _ (numbered e) r)
+    by-case (too-short e clean ps h is) =
+        rw is (record { file-fits = lit< tt; second-fits = lit< tt; detail-fits = small e clean })
+    by-case (built e clean ps h is) = rw is (omega (arith, small e clean))
+
+-- ---- what is told
+
+answer-tells : (call : Call) (a : Answer) → Fits a → Tells call (one a)
+answer-tells call a fits = record { fits = fits; number = refl; all = λ none. refl }
+
+series-tells : (call : Call) (limit : ℕ) (s : Series) → SeriesSays limit s → limit < 72_057_594_037_927_936
+    → ((Exception call → ⊥) → limit < 1_048_576)
+    → Tells call (run s)
+unfolding word
+series-tells call limit (Unasked file why) h below few =
+    record { fits = h .fits; number = refl; all = λ none. refl }
+series-tells call limit (Stopped labels bytes why) h below few =
+    record {
+      fits = (omega arith, (h .1 .no-view, omega (arith, h .1 .small)));
+      number = rw (mod-mod labels 1_048_576);
+      all = λ none.
+          ap (λ (n : ℕ). run (Stopped n bytes why))
+          (mod-eq-of-lt (omega (arith, h .0, few none)));
+    }
+series-tells call limit (Done labels bytes) h below few =
+    record { fits = omega (arith, h); number = refl; all = λ none. refl }
+
+-- a run over a source that has no more labels than fit
+few-tells : (call : Call) (s : Series) → SeriesSays 1_048_575 s → Tells call (run s)
+few-tells call s says = series-tells call 1_048_575 s says (lit< tt) (λ none. lit< tt)
+
+-- a run over a pack: where that is no exception, no more either
+pack-tells : (pack : List ℕ) (first count : ℕ) (s : Series) → ((i : ℕ) → getD pack i 0 < 256)
+    → SeriesSays (pointCount pack) s
+    → Tells (of-pack-labels pack first count) (run s)
+pack-tells pack first count s bytes says =
+    series-tells (of-pack-labels pack first count) (pointCount pack) s says (omega (arith, points-few pack bytes))
+    (λ none. by-test (ltb 1_048_575 (pointCount pack)) refl none)
+  where
+    by-test : (t : Bool) → ltb 1_048_575 (pointCount pack) ≡ t → (Exception (of-pack-labels pack first count) → ⊥)
+        → pointCount pack < 1_048_576
+    by-test true e none = absurd (none (large-pack (ltb-true 1_048_575 (pointCount pack) e)))
+    by-test false e none = omega (arith, ltb-false 1_048_575 (pointCount pack) e)
+
+pub tells : (call : Call) → Typed call → TellsAll call
+unfolding viewsAnswer letterAnswer liveAnswer
+tells (of-table table) typed out = answer-tells _ _ (checked-fits tableFormat table (lit≤ tt) (table-says table))
+tells (of-points points) typed out = answer-tells _ _ (checked-fits pointFormat points (lit≤ tt) (points-says points))
+tells (of-views points) typed out =
+    answer-tells _ _ (listed-fits points (Value (wantedCount [] points)) (λ p. omega (arith, counted-few points p [])))
+tells (of-letter points view) typed out =
+    answer-tells _ _ (listed-fits points (letterAt points (wantedAt [] points view)) (λ p. letter-fits points p view))
+tells (of-live points code) typed out =
+    answer-tells _ _ (listed-fits points (liveAt points code) (λ p. live-fits points p code))
+tells (of-codes points) typed out = answer-tells _ _ (codes-fit points out)
+tells (of-label table points view) typed out =
+    answer-tells _ _ (view-fits (pairOf table points) (pair-asked table points) out view)
+tells (of-code-label table points code k) typed out =
+    answer-tells _ _ (code-fits (pairOf table points) (pair-asked table points) out code k)
+tells (of-labels table points first count) typed out =
+    few-tells _ _ (views-say (pairOf table points) (pair-asked table points) first count out)
+tells (of-code-labels table points code first count) typed out =
+    few-tells _ _ (codes-say (pairOf table points) (pair-asked table points) first count out code)
+tells (of-build table points code) typed out = answer-tells _ _ (build-fits table points code out)
+tells (of-pack pack) typed out = answer-tells _ _ (opened-fits pack (typed pack to-open))
+tells (of-pack-label pack k) typed out = answer-tells _ _ (point-fits pack k out)
+tells (of-pack-labels pack first count) typed out =
+    pack-tells pack first count _ (typed pack to-run) (packs-say pack first count out)

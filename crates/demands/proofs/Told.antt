@@ -1,0 +1,126 @@
+-- The number of a call, and the bytes of a run, tell what it says.
+-- Assumes nothing.
+use Prim.Native.Nat.{ℕ, _≤_}
+use mathlib.Core.Path.{_≡_, refl, sym, ap, _∙_}
+use mathlib.Core.List.{List}
+use mathlib.Core.Logic.{⊎-elim}
+use native.Mathlib.Omega.{arith}
+use native.Mathlib.Nat.{mod-eq-of-lt}
+use lib.Dec.{lit<}
+use Rattle.refusal.specs.Refusal.{number, detail, second}
+use Rattle.refusal.specs.Packed.{FitsRefusal}
+use Rattle.refusal.specs.declared.Reason.{Reason}
+use Rattle.refusal.specs.declared.Answer.{Answer}
+use Rattle.refusal.specs.declared.Answer.the-variants.{Value, Refused}
+use Rattle.refusal.proofs.Answers.{refused-value, same-value}
+use Rattle.refusal.proofs.Lossless.{FitsWord, word-plain, word-parts, refusal-word, number-above-0, number-to-12, same-reason, loses-nothing}
+use Rattle.run.specs.declared.Series.{Series}
+use Rattle.run.specs.declared.Series.the-variants.{Unasked, Stopped, Done}
+use Rattle.run.specs.Packed.{packedSeries, seriesBytes}
+use Rattle.call.specs.Call.{Call, Saying, one, run, outcomeOf}
+use Rattle.demands.specs.Apart.{OfLabel, OfWhole, ToldApart, Apart}
+use Rattle.demands.specs.Fits.{FitsSeries, toldSeries, asTold, Exception, Typed, Tells, SameTold}
+use Rattle.demands.proofs.Apart.{told-apart}
+use Rattle.demands.proofs.Fits.{tells}
+
+-- what is told of a stop fits a word
+stop-word : (labels bytes : ℕ) (why : Reason) → FitsSeries (Stopped labels bytes why)
+    → FitsWord (number why) 0 labels (detail why)
+stop-word labels bytes why fits =
+    record {
+      number-fits = omega (arith, number-to-12 why);
+      file-fits = lit< tt;
+      second-fits = fits .0;
+      detail-fits = fits .1 .1;
+    }
+
+-- a label's refusal is not one of the whole, and no value
+stop-unasked : (labels bytes file : ℕ) (why other : Reason) → FitsSeries (Stopped labels bytes why) → FitsRefusal file other
+    → OfLabel why
+    → OfWhole other
+    → packedSeries (Stopped labels bytes why) ≡ packedSeries (Unasked file other)
+    → ⊥
+stop-unasked labels bytes file why other p q label whole e =
+    let same =
+    word-parts (number why) 0 labels (detail why) (number other) file (second other) (detail other)
+    (stop-word labels bytes why p) (refusal-word file other q) e in
+    ⊎-elim (λ (h : number other ≤ 6). omega (arith, label .0, same .number-same))
+    (λ (h : 11 ≤ number other). omega (arith, label .1, same .number-same)) whole
+
+stop-done : (labels bytes done others : ℕ) (why : Reason) → FitsSeries (Stopped labels bytes why)
+    → FitsSeries (Done done others)
+    → packedSeries (Stopped labels bytes why) ≡ packedSeries (Done done others)
+    → ⊥
+stop-done labels bytes done others why p q e =
+    omega (
+      arith,
+      number-above-0 why,
+      sym (word-plain (number why) 0 labels (detail why) (stop-word labels bytes why p)) ∙ (e ∙ mod-eq-of-lt q),
+    )
+
+-- an answer as a run that is not asked
+abbrev unasked : Answer → Series
+unasked (Value n) = Done n 0
+unasked (Refused file why) = Unasked file why
+
+-- two runs that fit, told by number and bytes
+series-told : (before : ℕ) (s t : Series) → FitsSeries s → FitsSeries t → ToldApart s → ToldApart t
+    → SameTold before (run s) (run t)
+    → s ≡ t
+series-told before (Unasked f w) (Unasked g v) p q a b e =
+    ap unasked (loses-nothing (Refused f w) (Refused g v) p q (e .0))
+series-told before (Unasked f w) (Stopped l c v) p q a b e = absurd (stop-unasked l c f v w q p b a (sym (e .0)))
+series-told before (Unasked f w) (Done l c) p q a b e =
+    absurd (refused-value f l w (loses-nothing (Refused f w) (Value l) p q (e .0)))
+series-told before (Stopped l c v) (Unasked f w) p q a b e = absurd (stop-unasked l c f v w p q a b (e .0))
+series-told before (Stopped l c v) (Stopped m d w) p q a b e =
+    let same =
+    word-parts (number v) 0 l (detail v) (number w) 0 m (detail w) (stop-word l c v p) (stop-word m d w q) (e .0) in
+    rw (
+      same .second-same,
+      e .1,
+      same-reason v w (same .number-same) (same .detail-same) (p .1 .0 ∙ sym (q .1 .0)),
+    )
+series-told before (Stopped l c v) (Done m d) p q a b e = absurd (stop-done l c m d v p q (e .0))
+series-told before (Done m d) (Unasked f w) p q a b e =
+    absurd (refused-value f m w (sym (loses-nothing (Value m) (Refused f w) p q (e .0))))
+series-told before (Done m d) (Stopped l c v) p q a b e = absurd (stop-done l c m d v q p (sym (e .0)))
+series-told before (Done l c) (Done m d) p q a b e =
+    rw (same-value l m (loses-nothing (Value l) (Value m) p q (e .0)), e .1)
+
+-- what is told has the bytes of what was said, and is a stop where that is one
+told-bytes : (before : ℕ) (s : Series) → seriesBytes (toldSeries s) before ≡ seriesBytes s before
+told-bytes before (Unasked file why) = refl
+told-bytes before (Stopped labels bytes why) = refl
+told-bytes before (Done labels bytes) = refl
+
+told-kind : (s : Series) → ToldApart s → ToldApart (toldSeries s)
+told-kind (Unasked file why) h = h
+told-kind (Stopped labels bytes why) h = h
+told-kind (Done labels bytes) h = h
+
+sayings-told : (before : ℕ) (call other : Call) (a b : Saying) → Tells call a → Tells other b → Apart a → Apart b
+    → SameTold before a b
+    → asTold a ≡ asTold b
+sayings-told before call other (one a) (one b) p q x y e = ap one (loses-nothing a b (p .fits) (q .fits) e)
+sayings-told before call other (one a) (run t) p q x y e = absurd e
+sayings-told before call other (run s) (one b) p q x y e = absurd e
+sayings-told before call other (run s) (run t) p q x y e =
+    ap run
+    (series-told before (toldSeries s) (toldSeries t) (p .fits) (q .fits) (told-kind s x) (told-kind t y) (
+      sym (p .number) ∙ (e .0 ∙ q .number),
+      told-bytes before s ∙ (e .1 ∙ sym (told-bytes before t)),
+    ))
+
+-- two inputs of a call that are told the same: what is told of both is one
+module _ (call other : Call) (c : Typed call) (d : Typed other) (out another : List ℕ) (before : ℕ)
+    (e : SameTold before (outcomeOf call out .answer) (outcomeOf other another .answer)) where
+  pub same-told : asTold (outcomeOf call out .answer) ≡ asTold (outcomeOf other another .answer)
+  same-told =
+      sayings-told before call other (outcomeOf call out .answer) (outcomeOf other another .answer) (tells call c out)
+      (tells other d another) (told-apart call out) (told-apart other another) e
+
+  -- and so is what they say
+  pub same-said : (Exception call → ⊥) → (Exception other → ⊥)
+      → outcomeOf call out .answer ≡ outcomeOf other another .answer
+  same-said none none′ = sym (tells call c out .all none) ∙ (same-told ∙ tells other d another .all none′)

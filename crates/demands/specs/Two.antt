@@ -1,0 +1,172 @@
+-- Demand 2 for labels: what printing one comes to, case by case, over any source and of a pack; and how long a label is.
+-- Assumes nothing.
+use Prim.Native.Nat.{ℕ, _≤_, _<_}
+use mathlib.Core.Path.{_≡_}
+use mathlib.Core.List.{List, [], _++_}
+use mathlib.Core.Logic.{_⊎_}
+use mathlib.Core.Option.{Option, none, some}
+use lib.ListN.{length, drop}
+use Rattle.field_outward.specs.Outward.{outwardFault}
+use Rattle.refusal.specs.declared.Reason.{Reason}
+use Rattle.refusal.specs.declared.Reason.the-variants.{NoSuchNumber, Combination, MissingKey, Room, BadCode}
+use Rattle.refusal.specs.declared.Answer.{Answer}
+use Rattle.refusal.specs.declared.Answer.the-variants.{Value, Refused}
+use Rattle.refusal.specs.Outcome.{Outcome, said}
+use Rattle.source.specs.Address.{Lookup, Address, Elements}
+use Rattle.source.specs.Resolve.{forbidden, missing, elementsOf}
+use Rattle.source.specs.Same.{AllOf}
+use Rattle.file.specs.Formats.{tableFormat, pointFormat}
+use Rattle.file.specs.Accepted.{Accepted}
+use Rattle.label.specs.Lines.{linesOf}
+use Rattle.label.specs.Label.{labelOf}
+use Rattle.label.specs.Widths.{NoneAbove}
+use Rattle.ask.specs.Source.{Source, inCode}
+use Rattle.ask.specs.Labels.{kth, viewLabel, codeLabel}
+use Rattle.pack.specs.Opening.{opened}
+use Rattle.pack.specs.Points.{elementsAt, pointPlace, packLabel}
+
+-- ---- what is written
+
+-- a text that fits stands in front of the buffer, "bytes behind the label keep their values", and the answer is how many it has
+abbrev pub written : (text out : List ℕ) → Outcome Answer
+written text out = said (Value (length text)) (text ++ drop (length text) out)
+
+-- "10: lent buffer shorter than the label .. bytes needed"
+abbrev pub tooShort : (text out : List ℕ) → Outcome Answer
+tooShort text out = said (Refused 0 (Room (length text))) out
+
+-- ---- a label of a source
+
+-- neither "a missing key" nor "a forbidden combination"
+abbrev pub Printed : Lookup → Address → Type 0
+Printed look a = (forbidden a ≡ 0) × (missing look a ≡ 0)
+
+abbrev pub labelFor : Lookup → Address → List ℕ
+labelFor look a = labelOf (elementsOf look a)
+
+-- the k-th of some delivery points, files and code being accepted: "7, 8, 9, 10, lowest detail first"
+pub data Printing (look : Lookup) (views : List Address) (k : ℕ) (out : List ℕ) (o : Outcome Answer) : Type 0 where
+  no-number : kth views k ≡ none
+      → o ≡ said (Refused 0 NoSuchNumber) out
+      → Printing look views k out o
+  forbidden-mix : (a : Address) → kth views k ≡ some a → (forbidden a ≡ 0 → ⊥)
+      → o ≡ said (Refused 0 (Combination (forbidden a) 0)) out
+      → Printing look views k out o
+  key-missing : (a : Address) → kth views k ≡ some a → forbidden a ≡ 0 → (missing look a ≡ 0 → ⊥)
+      → o ≡ said (Refused 0 (MissingKey (missing look a) 0)) out
+      → Printing look views k out o
+  no-room : (a : Address) → kth views k ≡ some a → Printed look a → length out < length (labelFor look a)
+      → o ≡ tooShort (labelFor look a) out
+      → Printing look views k out o
+  printed : (a : Address) → kth views k ≡ some a → Printed look a → length (labelFor look a) ≤ length out
+      → o ≡ written (labelFor look a) out
+      → Printing look views k out o
+
+-- of a view: the files first
+pub data ViewAsked (s : Source) (view : ℕ) (out : List ℕ) : Type 0 where
+  files-refused : {file : ℕ} {why : Reason} → s .judged ≡ Refused file why
+      → viewLabel s view out ≡ said (Refused file why) out
+      → ViewAsked s view out
+  taken : {n : ℕ} → s .judged ≡ Value n
+      → Printing (s .look) (s .views) view out (viewLabel s view out)
+      → ViewAsked s view out
+
+-- of the k-th live view in a code: "12 where a code is given"
+pub data CodeAsked (s : Source) (code : List ℕ) (k : ℕ) (out : List ℕ) : Type 0 where
+  files-refused : {file : ℕ} {why : Reason} → s .judged ≡ Refused file why
+      → codeLabel s code k out ≡ said (Refused file why) out
+      → CodeAsked s code k out
+  code-refused : {n : ℕ} → s .judged ≡ Value n → (outwardFault code ≡ 0 → ⊥)
+      → codeLabel s code k out ≡ said (Refused 0 BadCode) out
+      → CodeAsked s code k out
+  taken : {n : ℕ} → s .judged ≡ Value n → outwardFault code ≡ 0
+      → Printing (s .look) (inCode code (s .live)) k out (codeLabel s code k out)
+      → CodeAsked s code k out
+
+-- ---- a label of a pack
+
+abbrev pub labelAt : (pack : List ℕ) → (k : ℕ) → List ℕ
+labelAt pack k = labelOf (elementsAt pack (pointPlace pack k))
+
+-- "Labels from a pack: 11, 7, 10"
+pub data PointAsked (pack : List ℕ) (k : ℕ) (out : List ℕ) : Type 0 where
+  pack-refused : {file : ℕ} {why : Reason} → opened pack ≡ Refused file why
+      → packLabel pack k out ≡ said (Refused file why) out
+      → PointAsked pack k out
+  no-number : {n : ℕ} → opened pack ≡ Value n → (k < 1) ⊎ (n < k)
+      → packLabel pack k out ≡ said (Refused 0 NoSuchNumber) out
+      → PointAsked pack k out
+  no-room : {n : ℕ} → opened pack ≡ Value n → 1 ≤ k → k ≤ n → length out < length (labelAt pack k)
+      → packLabel pack k out ≡ tooShort (labelAt pack k) out
+      → PointAsked pack k out
+  printed : {n : ℕ} → opened pack ≡ Value n → 1 ≤ k → k ≤ n → length (labelAt pack k) ≤ length out
+      → packLabel pack k out ≡ written (labelAt pack k) out
+      → PointAsked pack k out
+
+-- ---- exactly where there is a label
+
+-- there is a value exactly where something holds, and then this text is written
+pub record Exactly (Where : Type 0) (text out : List ℕ) (o : Outcome Answer) : Type 0 where
+  pub only : {n : ℕ} → o .answer ≡ Value n → Where
+  pub then : Where → o ≡ written text out
+
+-- an answer that is a value
+abbrev pub IsValue : Answer → Type 0
+IsValue (Value n) = Unit {0}
+IsValue (Refused file why) = ⊥
+
+-- files that are accepted: of any source, those that are answered with a value; of a pair, both
+abbrev pub Taken : Source → Type 0
+Taken s = IsValue (s .judged)
+
+abbrev pub BothAccepted : (table points : List ℕ) → Type 0
+BothAccepted table points = Accepted tableFormat table × Accepted pointFormat points
+
+-- there is such a number, rules 8 and 9 are satisfied, and the buffer has room
+abbrev pub Prints : Lookup → Option Address → (out : List ℕ) → Type 0
+Prints look none out = ⊥
+Prints look (some a) out = Printed look a × (length (labelFor look a) ≤ length out)
+
+abbrev pub textFor : Lookup → Option Address → List ℕ
+textFor look none = []
+textFor look (some a) = labelFor look a
+
+-- the label of a view, and of the k-th live view in a code, where files are accepted
+abbrev pub ViewExactly : (Files : Type 0) → Source → (view : ℕ) → (out : List ℕ) → Type 0
+ViewExactly Files s view out =
+    Exactly (Files × Prints (s .look) (kth (s .views) view) out)
+    (textFor (s .look) (kth (s .views) view))
+    out
+    (viewLabel s view out)
+
+abbrev pub CodeExactly : (Files : Type 0) → Source → (code : List ℕ) → (k : ℕ) → (out : List ℕ) → Type 0
+CodeExactly Files s code k out =
+    Exactly (Files × ((outwardFault code ≡ 0) × Prints (s .look) (kth (inCode code (s .live)) k) out))
+    (textFor (s .look) (kth (inCode code (s .live)) k))
+    out
+    (codeLabel s code k out)
+
+-- a pack that opens has a point of that number, and the buffer has room
+abbrev pub PointPrints : (pack : List ℕ) → (k : ℕ) → (out : List ℕ) → Answer → Type 0
+PointPrints pack k out (Value n) = (1 ≤ k) × ((k ≤ n) × (length (labelAt pack k) ≤ length out))
+PointPrints pack k out (Refused file why) = ⊥
+
+abbrev pub PointExactly : (pack : List ℕ) → (k : ℕ) → (out : List ℕ) → Type 0
+PointExactly pack k out =
+    Exactly (PointPrints pack k out (opened pack)) (labelAt pack k) out (packLabel pack k out)
+
+-- ---- how long a label is
+
+-- "A label has at most 11 lines and 499 bytes, no line above 163 without its end."
+pub record Bounded (e : Elements) : Type 0 where
+  pub lines : length (linesOf e) ≤ 11
+  pub bytes : length (labelOf e) ≤ 499
+  pub each : NoneAbove 163 (linesOf e)
+
+-- each view of a source, and so each live one
+abbrev pub AllBounded : Lookup → List Address → Type 0
+AllBounded look = AllOf (λ a. Bounded (elementsOf look a))
+
+-- each point of a pack that opens
+abbrev pub PointsBounded : (pack : List ℕ) → Type 0
+PointsBounded pack = (n k : ℕ) → opened pack ≡ Value n → 1 ≤ k → k ≤ n → Bounded (elementsAt pack (pointPlace pack k))
