@@ -13,8 +13,6 @@
 #include <stdlib.h>
 #include <string.h>
 
-/* The longest label. */
-#define LABEL 499
 /* Labels for which there is always room at a time. */
 #define ROUND 40
 /* No pack of a pair of files comes near this length. */
@@ -73,10 +71,10 @@ static int say_refusal(uint64_t answer)
     static const char *const parts[] = {"pack", "end", "rows", "points"};
 
     switch (TTW_REFUSAL(answer)) {
-    case 7:
+    case TTW_REFUSED_NUMBER:
         puts("This pack has no point of that number.");
         break;
-    case 11:
+    case TTW_REFUSED_PACK:
         printf("This pack is damaged: its %s. Load it again.\n", parts[TTW_DETAIL(answer) & 3]);
         break;
     default:
@@ -97,7 +95,7 @@ static int say_points(const struct pack *pack)
 
 static int say_label(const struct pack *pack, uint64_t k)
 {
-    uint8_t label[LABEL];
+    uint8_t label[TTW_LABEL_MAX];
     uint64_t answer = ttw_pack_label(pack->bytes, pack->length, k, label, sizeof label);
 
     if (TTW_REFUSAL(answer) != 0)
@@ -109,7 +107,7 @@ static int say_label(const struct pack *pack, uint64_t k)
 /* As many labels at a time as there is room for: behind those written, the next are asked for in an empty buffer. */
 static int say_labels(const struct pack *pack, uint64_t first, uint64_t count)
 {
-    static uint8_t labels[ROUND * LABEL];
+    static uint8_t labels[ROUND * TTW_LABEL_MAX];
     uint64_t answer;
 
     do {
@@ -119,7 +117,7 @@ static int say_labels(const struct pack *pack, uint64_t first, uint64_t count)
         fwrite(labels, 1, (size_t)bytes, stdout);
         first += TTW_SECOND(answer);
         count -= TTW_SECOND(answer);
-    } while (TTW_REFUSAL(answer) == 10);
+    } while (TTW_REFUSAL(answer) == TTW_REFUSED_ROOM);
     return TTW_REFUSAL(answer) == 0 ? DONE : say_refusal(answer);
 }
 

@@ -29,7 +29,12 @@
 extern "C" {
 #endif
 
-/* The refusal's number, 0 where there is a value. */
+/* The version of this header and of the library that it came with. */
+#define TTW_VERSION "0.1.0"
+/* The longest label in bytes: its lines, each ended by byte 10. */
+#define TTW_LABEL_MAX 499
+
+/* The refusal's number, 0 where there is a value. It has a name, one of enum ttw_refused. */
 #define TTW_REFUSAL(answer) ((answer) >> 56)
 /* The file to blame: 1 the table file, 2 the point file, 0 no file. */
 #define TTW_FILE(answer) (((answer) >> 52) & 15u)
@@ -40,6 +45,23 @@ extern "C" {
 #define TTW_DETAIL(answer) ((answer) & 0xFFFFFFFFu)
 /* The value, where the refusal's number is 0. */
 #define TTW_VALUE(answer) ((answer) & 0xFFFFFFFFFFFFFFu)
+
+/* A name for each refusal's number. What its details are stands below, where the calls that give it are; what to do
+ * about it says docs/REFUSALS.md. */
+enum ttw_refused {
+    TTW_REFUSED_LENGTH = 1,
+    TTW_REFUSED_HEADER = 2,
+    TTW_REFUSED_TRAILER = 3,
+    TTW_REFUSED_RECORD = 4,
+    TTW_REFUSED_SEQUENCE = 5,
+    TTW_REFUSED_ORGANISATION = 6,
+    TTW_REFUSED_NUMBER = 7,
+    TTW_REFUSED_COMBINATION = 8,
+    TTW_REFUSED_KEY = 9,
+    TTW_REFUSED_ROOM = 10,
+    TTW_REFUSED_PACK = 11,
+    TTW_REFUSED_CODE = 12
+};
 
 /* Refusals of a file, in the order in which they are tried (the detail is the record's number, counted from 1):
  *   1 the length is not 2 to 20,000 whole records (detail 0)
@@ -76,7 +98,7 @@ uint64_t ttw_live(const uint8_t *points, size_t points_len, const uint8_t *code,
 uint64_t ttw_codes(const uint8_t *points, size_t points_len, uint8_t *out, size_t out_len);
 
 /* Labels, one at a time. `out` is the one slice that is written: a refused call leaves all of it as it was, an accepted
- * one everything behind the bytes that it wrote. A label has at most 499 bytes: its lines, each ended by byte 10.
+ * one everything behind the bytes that it wrote. A label has at most TTW_LABEL_MAX bytes.
  * Refusals, in this order: the table file's (file 1), the point file's (file 2), 12 where a code is given, then
  *   7 no such view
  *   8 a forbidden combination (1 sub building without name or number, 2 dependent thoroughfare without thoroughfare,
@@ -107,11 +129,11 @@ uint64_t ttw_code_label(const uint8_t *table, size_t table_len, const uint8_t *p
  * Refused as a whole, in this order: the table file's refusals (file 1), the point file's (file 2), 12 where a code is
  * given; a pack's 11. Then neither `out` nor `*bytes` is written, whatever `first` and `count` are.
  *
- *     uint8_t out[40 * 499];
+ *     uint8_t out[40 * TTW_LABEL_MAX];
  *     uint64_t bytes = 0;
  *     uint64_t answer = ttw_labels(table, table_len, points, points_len, 1, 40, out, sizeof out, &bytes);
  *     fwrite(out, 1, bytes, stdout);
- *     if (TTW_REFUSAL(answer) == 9)
+ *     if (TTW_REFUSAL(answer) == TTW_REFUSED_KEY)
  *         printf("%lu labels, then a key has no row in force\n", (unsigned long)TTW_SECOND(answer));
  */
 

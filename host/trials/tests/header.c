@@ -76,7 +76,7 @@ static void say_runs(const uint8_t *table, size_t table_length, const uint8_t *p
                      const uint8_t *pack, size_t pack_length)
 {
     const uint8_t code[4] = {'A', 'B', '1', ' '};
-    uint8_t labels[2 * 499];
+    uint8_t labels[2 * TTW_LABEL_MAX];
     uint64_t bytes = 0;
     uint64_t answer;
 
@@ -99,7 +99,7 @@ static void say_runs(const uint8_t *table, size_t table_length, const uint8_t *p
 static void say_labels(const uint8_t *table, size_t table_length, const uint8_t *points, size_t points_length)
 {
     const uint8_t code[4] = {'A', 'B', '1', ' '};
-    uint8_t label[499];
+    uint8_t label[TTW_LABEL_MAX];
     uint8_t pack[ROOM];
     uint64_t built;
 
@@ -116,6 +116,25 @@ static void say_labels(const uint8_t *table, size_t table_length, const uint8_t 
     say("point 2", ttw_pack_label(pack, (size_t)TTW_VALUE(built), 2, label, sizeof label));
     say_runs(table, table_length, points, points_length, pack, (size_t)TTW_VALUE(built));
     say("pack without its last byte", ttw_pack(pack, (size_t)TTW_VALUE(built) - 1));
+}
+
+#define SAY_NAME(name) printf("%s %d\n", #name, name)
+
+/* The names of the refusals, each with its number. */
+static void say_names(void)
+{
+    SAY_NAME(TTW_REFUSED_LENGTH);
+    SAY_NAME(TTW_REFUSED_HEADER);
+    SAY_NAME(TTW_REFUSED_TRAILER);
+    SAY_NAME(TTW_REFUSED_RECORD);
+    SAY_NAME(TTW_REFUSED_SEQUENCE);
+    SAY_NAME(TTW_REFUSED_ORGANISATION);
+    SAY_NAME(TTW_REFUSED_NUMBER);
+    SAY_NAME(TTW_REFUSED_COMBINATION);
+    SAY_NAME(TTW_REFUSED_KEY);
+    SAY_NAME(TTW_REFUSED_ROOM);
+    SAY_NAME(TTW_REFUSED_PACK);
+    SAY_NAME(TTW_REFUSED_CODE);
 }
 
 int main(int argc, char **argv)
@@ -136,5 +155,6 @@ int main(int argc, char **argv)
     say("table with another header", ttw_table(table, table_length));
     points[2 * POINT_RECORD + LETTER] = 'X';
     say("points with another letter", ttw_points(points, points_length));
+    say_names();
     return 0;
 }

@@ -64,6 +64,18 @@ pack without its last byte: refused 11, file 0, second 0, detail 1
 empty table: refused 1, file 1, second 0, detail 0
 table with another header: refused 2, file 1, second 0, detail 1
 points with another letter: refused 4, file 2, second 41, detail 3
+TTW_REFUSED_LENGTH 1
+TTW_REFUSED_HEADER 2
+TTW_REFUSED_TRAILER 3
+TTW_REFUSED_RECORD 4
+TTW_REFUSED_SEQUENCE 5
+TTW_REFUSED_ORGANISATION 6
+TTW_REFUSED_NUMBER 7
+TTW_REFUSED_COMBINATION 8
+TTW_REFUSED_KEY 9
+TTW_REFUSED_ROOM 10
+TTW_REFUSED_PACK 11
+TTW_REFUSED_CODE 12
 ";
 
 #[test]

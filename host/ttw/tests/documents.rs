@@ -228,6 +228,39 @@ fn the_page_of_refusals_has_the_words_that_a_user_sees() {
     assert_eq!(headings, numbers);
 }
 
+/// What the header gives a name, as `NAME = NUMBER`.
+fn names_of_the_header() -> Vec<String> {
+    let header = text_of("include/ttwibonal.h");
+    let lines = header.lines().map(|line| line.trim().trim_end_matches(','));
+    let names = lines.filter(|line| line.starts_with("TTW_REFUSED_"));
+    names.map(str::to_string).collect()
+}
+
+#[test]
+fn the_page_of_refusals_has_the_names_of_the_header() {
+    let text = text_of("docs/REFUSALS.md");
+    let headings = text.lines().filter_map(|line| line.strip_prefix("## "));
+    let names = headings.map(|heading| {
+        let (number, rest) = heading.split_once(": ").expect("a number");
+        let name = rest.split_once('(').expect("a name").1;
+        format!("{} = {number}", name.trim_end_matches(')'))
+    });
+    assert_eq!(names.collect::<Vec<String>>(), names_of_the_header());
+}
+
+#[test]
+fn the_header_has_the_version_and_the_longest_label() {
+    let header = text_of("include/ttwibonal.h");
+    let version = env!("CARGO_PKG_VERSION");
+    let longest = ttw::ask::LABEL;
+    for line in [
+        format!("#define TTW_VERSION \"{version}\""),
+        format!("#define TTW_LABEL_MAX {longest}"),
+    ] {
+        assert!(header.lines().any(|is| is == line), "{line}");
+    }
+}
+
 #[test]
 fn the_page_for_trainers_has_every_sample() {
     let labels = text_of("samples/labels.txt");
