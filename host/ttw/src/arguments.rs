@@ -112,16 +112,17 @@ fn set_value(arguments: &mut Arguments, name: &str, value: &OsStr) -> Result<(),
         "--nth" => once(&mut arguments.nth, name, number(name, value)?),
         "--count" => once(&mut arguments.count, name, number(name, value)?),
         "--code" => once(&mut arguments.code, name, Code::new(value.as_bytes())),
-        _ => once(&mut arguments.out, name, folder(name, value)?),
+        _ => once(&mut arguments.out, name, place(name, value)?),
     }
 }
 
-/// A folder. An empty name would be the folder in which the command runs, and
-/// mostly comes from a variable that was not set.
-fn folder(name: &str, value: &OsStr) -> Result<PathBuf, Stop> {
+/// A file or a folder. An empty name would be the folder in which the command
+/// runs, and mostly comes from a variable that was not set.
+fn place(name: &str, value: &OsStr) -> Result<PathBuf, Stop> {
     if value.is_empty() {
-        let words = format!("{name} takes a folder, not an empty name");
-        return Err(Stop::could_not(words));
+        return Err(Stop::could_not(format!(
+            "{name} takes a name, not an empty one"
+        )));
     }
     Ok(PathBuf::from(value))
 }

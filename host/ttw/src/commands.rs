@@ -3,7 +3,7 @@
 use crate::arguments::{Arguments, Code};
 use crate::files::{make_folder, read_pack, write_whole};
 use crate::order::in_order;
-use crate::output::{print, printed, Output};
+use crate::output::{print, printed, send_to, Output};
 use crate::pair::Pair;
 use crate::progress::Progress;
 use crate::stop::{tell, Ended, Outcome, Stop};
@@ -58,6 +58,7 @@ pub fn labels(given: &Arguments) -> Outcome {
         let words = "--count needs --view or --nth, to count from";
         return Err(Stop::could_not(words.to_string()));
     }
+    send_to(given.out.as_deref());
     let pair = Pair::read_accepted(&given.files)?;
     match (view, code, nth) {
         (Some(view), _, _) => labels_from_view(&pair, view, given.count),
@@ -279,7 +280,7 @@ impl Packs<'_> {
         if self.written + self.failed == 0 {
             make_folder(self.folder)?;
         }
-        match write_whole(self.folder, &format!("{name}.pack"), &pack) {
+        match write_whole(&self.folder.join(format!("{name}.pack")), &pack) {
             Ok(()) => self.written += 1,
             Err(stop) => {
                 self.failed += 1;
@@ -313,6 +314,7 @@ pub fn show(given: &Arguments) -> Outcome {
         let words = "--count needs --nth, to count from";
         return Err(Stop::could_not(words.to_string()));
     }
+    send_to(given.out.as_deref());
     let pack = read_pack(&given.files[0])?;
     let points = ask::pack(&pack).map_err(|why| Stop::Refused(words(&why, "pack")))?;
     let name = |k| format!("point {k}");

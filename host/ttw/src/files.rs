@@ -2,11 +2,16 @@
 
 use crate::part;
 use crate::stop::Stop;
-use std::fs::File;
-use std::io::Read;
+use crate::system::standard_input;
+use std::fs::{self, File};
+use std::io::{self, Read, Write};
 use std::os::unix::ffi::OsStrExt;
 use std::path::Path;
 use ttw::words::shown;
+
+/// The name that stands for standard input where a pack is read, and for
+/// standard output where labels are written.
+pub const STANDARD: &str = "-";
 
 /// One byte more than the longest file that the library accepts, 20,000 table
 /// records: so much is enough to have a longer file refused, and a disk image
@@ -18,24 +23,26 @@ const PACK_READ: u64 = 64 << 20;
 
 /// A Changes file, or as much of it as is needed to refuse it.
 pub fn read_changes(path: &Path) -> Result<Vec<u8>, Stop> {
-    read_at_most(path, CHANGES_READ)
+    read_at_most(File::open(path), CHANGES_READ, &name_of(path))
 }
 
-/// A pack file.
+/// A pack file, or what comes on standard input.
 pub fn read_pack(path: &Path) -> Result<Vec<u8>, Stop> {
-    let pack = read_at_most(path, PACK_READ + 1)?;
+    let (file, name) = match path == Path::new(STANDARD) {
+        true => (standard_input(), "standard input".to_string()),
+        false => (File::open(path), name_of(path)),
+    };
+    let pack = read_at_most(file, PACK_READ + 1, &name)?;
     if pack.len() as u64 > PACK_READ {
-        let name = name_of(path);
         return Err(Stop::could_not(format!("{name} is too long for a pack")));
     }
     Ok(pack)
 }
 
-fn read_at_most(path: &Path, most: u64) -> Result<Vec<u8>, Stop> {
+fn read_at_most(file: io::Result<File>, most: u64, name: &str) -> Result<Vec<u8>, Stop> {
     let mut bytes = Vec::new();
-    File::open(path)
-        .and_then(|file| file.take(most).read_to_end(&mut bytes))
-        .map_err(|why| Stop::could_not(format!("cannot read {}: {why}", name_of(path))))?;
+    file.and_then(|file| file.take(most).read_to_end(&mut bytes))
+        .map_err(|why| Stop::could_not(format!("cannot read {name}: {why}")))?;
     Ok(bytes)
 }
 
@@ -45,15 +52,41 @@ pub fn make_folder(folder: &Path) -> Result<(), Stop> {
         .map_err(|why| Stop::could_not(format!("cannot make {}: {why}", name_of(folder))))
 }
 
-/// Writes a file whole or not at all.
-pub fn write_whole(folder: &Path, name: &str, bytes: &[u8]) -> Result<(), Stop> {
-    part::write_whole(folder, name, bytes).map_err(|why| {
-        let path = folder.join(name);
-        Stop::could_not(format!("cannot write {}: {why}", name_of(&path)))
+/// Writes these bytes as a file, whole or not at all.
+pub fn write_whole(path: &Path, bytes: &[u8]) -> Result<(), Stop> {
+    told_of(
+        path,
+        part::write_whole(path, |file| Ok(file.write_all(bytes)?)),
+    )
+}
+
+/// Has a file written by `fill`, whole or not at all. It may replace a plain file
+/// and nothing else: a device, a pipe, a link or a folder of that name was hardly
+/// meant.
+pub fn write_plain<T>(
+    path: &Path,
+    fill: impl FnOnce(&mut File) -> Result<T, Stop>,
+) -> Result<T, Stop> {
+    let is_plain = match fs::symlink_metadata(path) {
+        Ok(there) => there.is_file(),
+        Err(_) => !path.as_os_str().as_bytes().ends_with(b"/"),
+    };
+    if !is_plain {
+        let words = format!("cannot write {}: it is not a plain file", name_of(path));
+        return Err(Stop::could_not(words));
+    }
+    told_of(path, part::write_whole(path, fill))
+}
+
+/// An outcome of writing, in which an error of the system names the file.
+fn told_of<T>(path: &Path, written: Result<T, Stop>) -> Result<T, Stop> {
+    written.map_err(|stop| match stop {
+        Stop::Lost(why) => Stop::could_not(format!("cannot write {}: {why}", name_of(path))),
+        stop => stop,
     })
 }
 
 /// A path as it may stand in a message.
-fn name_of(path: &Path) -> String {
+pub fn name_of(path: &Path) -> String {
     shown(path.as_os_str().as_bytes())
 }

@@ -4,11 +4,12 @@
 pub const OVERVIEW: &str = "\
 ttw prints labels from Royal Mail's Changes files and cuts packs for handsets.
 
-  ttw check  CHANGES1 CHANGES2                     are both files accepted?
-  ttw codes  CHANGES1 CHANGES2                     outward codes with live views
-  ttw labels CHANGES1 CHANGES2 [--view N | --code AB1 [--nth K]] [--count N]
+  ttw check  CHANGES1 CHANGES2              are both files accepted?
+  ttw codes  CHANGES1 CHANGES2              outward codes with live views
+  ttw labels CHANGES1 CHANGES2 [--view N | --code AB1 [--nth K]]
+             [--count N] [--out FILE]
   ttw pack   CHANGES1 CHANGES2 (--code AB1 | --all) --out FOLDER
-  ttw show   PACK [--nth K [--count N]]            the labels of a pack
+  ttw show   PACK [--nth K [--count N]] [--out FILE]
 
   ttw help TOPIC      a command, or: files, refusals, status
   ttw --version
@@ -36,7 +37,8 @@ live if its amendment letter is I or C.
 ";
 
 pub const LABELS: &str = "\
-ttw labels CHANGES1 CHANGES2 [--view N | --code AB1 [--nth K]] [--count N]
+ttw labels CHANGES1 CHANGES2 [--view N | --code AB1 [--nth K]]
+           [--count N] [--out FILE]
 
 Prints labels. Without options those of all views, each under its number and
 amendment letter; with --code those of the live views in that code.
@@ -45,10 +47,16 @@ amendment letter; with --code those of the live views in that code.
   --code AB1   the live views of an outward code
   --nth K      with --code: the label of the K-th of them alone
   --count N    with --view or --nth: so many labels from there on
+  --out FILE   into a file, not to standard output
 
 A single label, and so many with --count, are printed as they stand, one behind
 the other, ready to be sent on; a refused label ends them. In a list a refused
 label says why in its place, and the list goes on.
+
+A file is written as a pack is, whole or not at all: see ttw help pack. Where a
+refused label ends the labels, or they cannot be written, an older file stays as
+it was. It replaces a plain file alone, no link, device or pipe. With --out -
+labels are printed as without it.
 ";
 
 pub const PACK: &str = "\
@@ -67,12 +75,14 @@ replaces an older one has its mode and, where this may be given, its owner.
 ";
 
 pub const SHOW: &str = "\
-ttw show PACK [--nth K [--count N]]
+ttw show PACK [--nth K [--count N]] [--out FILE]
 
-Checks a pack and prints the labels of its points, numbered from 1.
+Checks a pack and prints the labels of its points, numbered from 1. Where - is
+given for the pack, it is read from standard input.
 
   --nth K      the label of point K alone
   --count N    with --nth: so many labels from there on, one behind the other
+  --out FILE   into a file, not to standard output: see ttw help labels
 ";
 
 const FILES: &str = "\
@@ -80,7 +90,7 @@ CHANGES1 is the table file: localities, thoroughfares, descriptors, building
 names and sub building names, 169 bytes a record. CHANGES2 is the point file
 (Single Changes too): delivery points and organisations, 168 bytes a record.
 Both come without line ends, with a header first and a trailer last.
-A PACK is a file that ttw pack has cut.
+A PACK is a file that ttw pack has cut; - is one on standard input.
 ";
 
 const REFUSALS: &str = "\

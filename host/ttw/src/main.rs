@@ -47,7 +47,7 @@ const COMMANDS: [Command; 5] = [
     Command {
         name: "labels",
         files: 2,
-        options: &["--view", "--code", "--nth", "--count"],
+        options: &["--view", "--code", "--nth", "--count", "--out"],
         help: help::LABELS,
         run: commands::labels,
     },
@@ -61,7 +61,7 @@ const COMMANDS: [Command; 5] = [
     Command {
         name: "show",
         files: 1,
-        options: &["--nth", "--count"],
+        options: &["--nth", "--count", "--out"],
         help: help::SHOW,
         run: commands::show,
     },

@@ -5,9 +5,9 @@
 //! what was told as written stays written.
 
 use crate::system::{part_stands, random};
-use std::ffi::{CStr, CString, OsStr};
+use std::ffi::{CStr, CString, OsStr, OsString};
 use std::fs::{self, File, Metadata, OpenOptions, Permissions};
-use std::io::{self, Write};
+use std::io;
 use std::os::unix::ffi::{OsStrExt, OsStringExt};
 use std::os::unix::fs::{fchown, MetadataExt, OpenOptionsExt, PermissionsExt};
 use std::path::Path;
@@ -21,17 +21,20 @@ const TRIES: usize = 8;
 const NEW_MODE: u32 = 0o666;
 const KEPT_MODE: u32 = 0o777;
 
-/// Writes these bytes as the file of that name. It has the mode of the file that
-/// it replaces and, where this may be given, its owner.
-pub fn write_whole(folder: &Path, name: &str, bytes: &[u8]) -> io::Result<()> {
+/// Writes the file of that name, whose bytes come from `fill`; where that fails,
+/// there is none. It has the mode of the file that it replaces and, where this
+/// may be given, its owner.
+pub fn write_whole<T, E: From<io::Error>>(
+    path: &Path,
+    fill: impl FnOnce(&mut File) -> Result<T, E>,
+) -> Result<T, E> {
     // Opened first: where the folder cannot be brought to the disk, nothing is
     // written.
-    let place = File::open(folder)?;
-    let path = folder.join(name);
-    let older = fs::symlink_metadata(&path).ok().filter(Metadata::is_file);
+    let folder = File::open(above(path))?;
+    let older = fs::symlink_metadata(path).ok().filter(Metadata::is_file);
     let mode = older.as_ref().map(|older| older.mode() & KEPT_MODE);
-    let mut part = Part::create(folder, name, mode.unwrap_or(NEW_MODE))?;
-    part.file.write_all(bytes)?;
+    let mut part = Part::create(path, mode.unwrap_or(NEW_MODE))?;
+    let filled = fill(&mut part.file)?;
     if let Some(older) = older {
         keep_owner(&part.file, &older);
     }
@@ -39,8 +42,9 @@ pub fn write_whole(folder: &Path, name: &str, bytes: &[u8]) -> io::Result<()> {
         part.file.set_permissions(Permissions::from_mode(mode))?;
     }
     part.file.sync_all()?;
-    part.rename(&path)?;
-    sync_folder(&place)
+    part.rename(path)?;
+    sync_folder(&folder)?;
+    Ok(filled)
 }
 
 /// Gives a file to the owner and the group of an older one. Mostly only root may
@@ -70,9 +74,9 @@ fn is_not_found(made: &io::Result<()>) -> bool {
         .is_err_and(|why| why.kind() == io::ErrorKind::NotFound)
 }
 
-/// The folder that a folder stands in.
-fn above(folder: &Path) -> &Path {
-    match folder.parent() {
+/// The folder that a file or a folder stands in.
+fn above(path: &Path) -> &Path {
+    match path.parent() {
         Some(above) if above != Path::new("") => above,
         _ => Path::new("."),
     }
@@ -96,14 +100,18 @@ struct Part {
 }
 
 impl Part {
-    /// A new file: what stands under its name already is neither opened nor
-    /// followed, and another name is tried.
-    fn create(folder: &Path, name: &str, mode: u32) -> io::Result<Part> {
+    /// A new file beside the one that it is to be: what stands under its name
+    /// already is neither opened nor followed, and another name is tried.
+    fn create(whole: &Path, mode: u32) -> io::Result<Part> {
+        let whole_name = whole.file_name().ok_or(io::ErrorKind::InvalidInput)?;
         let mut new = OpenOptions::new();
         new.write(true).create_new(true).mode(mode);
         let mut tries = 1;
         loop {
-            let path = folder.join(format!(".{name}.{:016x}.part", random()?));
+            let mut name = OsString::from(".");
+            name.push(whole_name);
+            name.push(format!(".{:016x}.part", random()?));
+            let path = above(whole).join(name);
             let path = CString::new(path.into_os_string().into_vec())?;
             match new.open(path_of(&path)) {
                 Err(why) if why.kind() == io::ErrorKind::AlreadyExists && tries < TRIES => {

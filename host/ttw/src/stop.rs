@@ -30,6 +30,8 @@ pub enum Stop {
     Refused(String),
     /// Wrong usage, or the file system failed.
     CouldNot(String),
+    /// What was to be printed was not taken.
+    Lost(io::Error),
     /// Nobody reads the output any more, as behind `head`.
     Unread,
 }
@@ -44,6 +46,7 @@ impl Stop {
         match self {
             Stop::Refused(words) => tell(words),
             Stop::CouldNot(words) => tell(&format!("ttw: {words}")),
+            Stop::Lost(why) => tell(&format!("ttw: cannot print: {why}")),
             Stop::Unread => {}
         }
     }
@@ -55,7 +58,7 @@ impl From<io::Error> for Stop {
         if why.kind() == io::ErrorKind::BrokenPipe {
             Stop::Unread
         } else {
-            Stop::could_not(format!("cannot print: {why}"))
+            Stop::Lost(why)
         }
     }
 }
@@ -71,7 +74,9 @@ pub fn status(outcome: Outcome) -> ExitCode {
     match outcome {
         Ok(Ended::Done) => ExitCode::SUCCESS,
         Ok(Ended::Refused) | Err(Stop::Refused(_)) => ExitCode::from(1),
-        Ok(Ended::CouldNot) | Err(Stop::CouldNot(_) | Stop::Unread) => ExitCode::from(2),
+        Ok(Ended::CouldNot) | Err(Stop::CouldNot(_) | Stop::Lost(_) | Stop::Unread) => {
+            ExitCode::from(2)
+        }
     }
 }
 

@@ -1,18 +1,23 @@
 //! What the command asks of the system and Rust's library has no way for.
 
 use std::ffi::{c_char, c_int, c_void, CStr};
+use std::fs::File;
 use std::io;
-use std::os::fd::{IntoRawFd, OwnedFd};
+use std::os::fd::{AsFd, IntoRawFd, OwnedFd};
 use std::ptr;
 use std::sync::atomic::{AtomicBool, AtomicPtr, Ordering};
 
+const STANDARD_INPUT: c_int = 0;
 const STANDARD_OUTPUT: c_int = 1;
 const STANDARD_ERROR: c_int = 2;
 /// The command of `fcntl` for how a file was opened, and the bits of its answer
-/// that say whether it can be written.
+/// that say whether it can be read and written.
 const HOW_OPENED: c_int = 3;
 const ACCESS: c_int = 3;
 const READ_ONLY: c_int = 0;
+const WRITE_ONLY: c_int = 1;
+/// The number of the error that a file is not open, or not for that.
+const NOT_OPEN: i32 = 9;
 /// The signals of memory that is not there, that of a file that may not grow, and
 /// what has a signal left alone or ignored.
 const FAULTS: [c_int; 2] = [7, 11];
@@ -44,14 +49,14 @@ pub fn random() -> io::Result<u64> {
     Ok(u64::from_ne_bytes(bytes))
 }
 
-/// Runs before Rust's library does, which before `main` already hides a closed
-/// standard output and ends the process where memory is short.
+/// Runs before Rust's library does, which before `main` already hides that
+/// standard input or output is closed and ends the process where memory is short.
 #[used]
 #[link_section = ".init_array"]
 static BEFORE_RUST: extern "C" fn() = before_rust;
 
 extern "C" fn before_rust() {
-    ask_for_output();
+    ask_for_standard_files();
     set_signals(&FAULTS, IGNORED);
 }
 
@@ -76,21 +81,40 @@ fn set_signals(numbers: &[c_int], handler: usize) {
     }
 }
 
-/// Whether standard output could be written when the process began.
+/// Whether standard input could be read, and standard output written, when the
+/// process began.
+static READABLE: AtomicBool = AtomicBool::new(false);
 static WRITABLE: AtomicBool = AtomicBool::new(false);
 
-/// Rust's library opens `/dev/null` in the place of a closed standard output, and
-/// what is printed there is lost.
-fn ask_for_output() {
-    // SAFETY: it asks how a file was opened, if it is open at all.
-    let how = unsafe { fcntl(STANDARD_OUTPUT, HOW_OPENED) };
-    let writable = how >= 0 && how & ACCESS != READ_ONLY;
-    WRITABLE.store(writable, Ordering::Relaxed);
+/// Rust's library opens `/dev/null` in the place of a closed one: what is read
+/// there is nothing, and what is printed there is lost.
+fn ask_for_standard_files() {
+    for (file, not_for_this, answer) in [
+        (STANDARD_INPUT, WRITE_ONLY, &READABLE),
+        (STANDARD_OUTPUT, READ_ONLY, &WRITABLE),
+    ] {
+        // SAFETY: it asks how a file was opened, if it is open at all.
+        let how = unsafe { fcntl(file, HOW_OPENED) };
+        let is_open = how >= 0 && how & ACCESS != not_for_this;
+        answer.store(is_open, Ordering::Relaxed);
+    }
 }
 
-/// Whether standard output could be written when the process began.
-pub fn output_was_writable() -> bool {
-    WRITABLE.load(Ordering::Relaxed)
+/// Standard input. Rust's own takes one that is not for reading for an empty one.
+pub fn standard_input() -> io::Result<File> {
+    standard_file(&READABLE, io::stdin().as_fd().try_clone_to_owned())
+}
+
+/// Standard output. Rust's own takes a closed one for one that nobody reads.
+pub fn standard_output() -> io::Result<File> {
+    standard_file(&WRITABLE, io::stdout().as_fd().try_clone_to_owned())
+}
+
+fn standard_file(was_open: &AtomicBool, file: io::Result<OwnedFd>) -> io::Result<File> {
+    if !was_open.load(Ordering::Relaxed) {
+        return Err(io::Error::from_raw_os_error(NOT_OPEN));
+    }
+    file.map(File::from)
 }
 
 /// Closes a file, and says whether all that was written to it was taken: some

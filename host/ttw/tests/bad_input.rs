@@ -287,11 +287,11 @@ const MISUSES: [(&[&str], &str); 20] = [
     (&["pack", "a", "b", "--all"], "pack needs --out FOLDER"),
     (
         &["pack", "a", "b", "--all", "--out", ""],
-        "--out takes a folder, not an empty name",
+        "--out takes a name, not an empty one",
     ),
     (
         &["pack", "a", "b", "--all", "--out="],
-        "--out takes a folder, not an empty name",
+        "--out takes a name, not an empty one",
     ),
     (
         &["pack", "a", "b", "--out", "c"],

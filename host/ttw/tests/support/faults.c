@@ -160,6 +160,13 @@ int open64(const char *path, int flags, ...)
     return REAL(open64)(path, flags, mode);
 }
 
+ssize_t write(int file, const void *bytes, size_t length)
+{
+    if (failing[0] == 'w' && fails("write", name_of(file)))
+        return -1;
+    return REAL(write)(file, bytes, length);
+}
+
 int fsync(int file)
 {
     say("sync %s\n", name_of(file));
