@@ -26,7 +26,8 @@ ttw check CHANGES1 CHANGES2
 
 Says how many records both files have, and how many views the point file has.
 A refused file is told with the record at which its first fault stands; where
-both are refused, both are told.
+both are refused, both are told. Where each has the other's header, they look
+swapped, and that is told too.
 ";
 
 pub const CODES: &str = "\

@@ -1,10 +1,17 @@
 //! The two Changes files of a command.
 
-use crate::files::read_changes;
+use crate::files::{name_of, read_changes};
 use crate::stop::Stop;
 use std::path::PathBuf;
 use ttw::ask::{self, Refusal};
 use ttw::words::words;
+
+/// Bytes of a record in each file.
+const TABLE_RECORD: usize = 169;
+const POINT_RECORD: usize = 168;
+
+/// The refusal of a header.
+const HEADER: u8 = 2;
 
 /// A table file and a point file as they were read.
 pub struct Pair {
@@ -21,7 +28,8 @@ impl Pair {
     }
 
     /// Reads two files that the library accepts. Where it refuses both, both
-    /// refusals are told, so that one run shows all that is to be mended.
+    /// refusals are told, so that one run shows all that is to be mended; and
+    /// where the files look swapped, that is told too.
     pub fn read_accepted(files: &[PathBuf]) -> Result<Pair, Stop> {
         let pair = Pair::read(files)?;
         let answers = [ask::table(&pair.table), ask::points(&pair.points)];
@@ -29,7 +37,27 @@ impl Pair {
         if refusals.is_empty() {
             return Ok(pair);
         }
-        let lines: Vec<String> = refusals.iter().map(|why| words(why, "files")).collect();
+        let mut lines: Vec<String> = refusals.iter().map(|why| words(why, "files")).collect();
+        if pair.looks_swapped() {
+            let [first, second] = [name_of(&files[0]), name_of(&files[1])];
+            lines.push(format!(
+                "the files look swapped: {second} begins as a table file, {first} as a point file"
+            ));
+        }
         Err(Stop::Refused(lines.join("\n")))
     }
+
+    /// Whether each file has the header of the other.
+    fn looks_swapped(&self) -> bool {
+        has_header(&self.points, TABLE_RECORD, ask::table)
+            && has_header(&self.table, POINT_RECORD, ask::points)
+    }
+}
+
+/// Whether a file begins with the header of such a file. The library is asked
+/// about two records alone, whose length is right, so that whatever stands
+/// behind them it comes to the header.
+fn has_header(file: &[u8], record: usize, ask: fn(&[u8]) -> Result<u64, Refusal>) -> bool {
+    let refused = |two| ask(two).is_err_and(|why| why.number == HEADER);
+    file.get(..2 * record).is_some_and(|two| !refused(two))
 }

@@ -139,10 +139,59 @@ fn the_wrong_files() {
     let length = "the length is not that of 2 to 20,000 whole records (refusal 1)";
     let run = folder.ttw(&["check", "AB1.pack", "changes2"]);
     run.only_tells(1, &format!("table: {length}"));
-    let run = folder.ttw(&["check", "changes2", "changes1"]);
-    run.only_tells(1, &format!("table: {length}\npoints: {length}"));
     let told = "pack: not a pack, or its end is damaged (refusal 11, step 1)";
     folder.ttw(&["show", "changes1"]).only_tells(1, told);
+}
+
+const SWAPPED: &str =
+    "the files look swapped: changes1 begins as a table file, changes2 as a point file";
+
+#[test]
+fn swapped_files_are_told_by_every_command() {
+    let folder = worked();
+    let length = "the length is not that of 2 to 20,000 whole records (refusal 1)";
+    let told = format!("table: {length}\npoints: {length}\n{SWAPPED}");
+    for (command, options) in [
+        ("check", &[][..]),
+        ("codes", &[]),
+        ("labels", &[]),
+        ("labels", &["--view", "1"]),
+        ("pack", &["--all", "--out", "packs"]),
+        ("pack", &["--code", "AB1", "--out", "packs"]),
+    ] {
+        let swapped = [&[command, "changes2", "changes1"], options].concat();
+        folder.ttw(&swapped).only_tells(1, &told);
+    }
+    assert_eq!(folder.names("."), ["changes1", "changes2"]);
+}
+
+/// A header is known by itself, whatever stands behind it, and by nothing else.
+#[test]
+fn files_look_swapped_where_each_has_the_others_header() {
+    let folder = worked();
+    let pair = worked_pair();
+    let swapped = |table: &[u8], points: &[u8]| {
+        folder.put("changes1", table);
+        folder.put("changes2", points);
+        let run = folder.ttw(&["check", "changes2", "changes1"]);
+        assert_eq!(run.status, Some(1));
+        run.told.lines().any(|line| line == SWAPPED)
+    };
+    let (table, points) = (&pair.table[..], &pair.points[..]);
+    assert!(swapped(table, points));
+    assert!(swapped(&table[..table.len() - 1], points), "cut short");
+    assert!(swapped(table, &points[..2 * 168]), "without its trailer");
+    assert!(swapped(&[table, b"\n"].concat(), points), "a line end");
+    // 168 records of 169 bytes are 169 records of 168: no length is wrong.
+    let long: Vec<u8> = table.iter().copied().cycle().take(168 * 169).collect();
+    assert!(swapped(&long, points));
+    assert!(!swapped(&table[..2 * 169 - 1], points), "not two records");
+    assert!(!swapped(table, b""));
+    assert!(!swapped(points, points), "the point file twice");
+    assert!(!swapped(table, table), "the table file twice");
+    let mut other = points.to_vec();
+    other[14] = b'X';
+    assert!(!swapped(table, &other), "no header");
 }
 
 /// The worked pair with bytes written over its files.
