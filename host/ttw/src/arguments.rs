@@ -29,6 +29,37 @@ impl Code {
     }
 }
 
+/// What an option takes.
+#[derive(Clone, Copy, PartialEq, Eq)]
+pub enum Takes {
+    /// Nothing, and every command has it.
+    NothingAnywhere,
+    Nothing,
+    Number,
+    Code,
+    /// A file or a folder.
+    Place,
+}
+
+impl Takes {
+    /// Whether it is a value that no file's name is.
+    pub fn is_plain(self) -> bool {
+        matches!(self, Takes::Number | Takes::Code)
+    }
+}
+
+/// Every option.
+pub const OPTIONS: [(&str, Takes); 8] = [
+    ("--help", Takes::NothingAnywhere),
+    ("--version", Takes::NothingAnywhere),
+    ("--all", Takes::Nothing),
+    ("--view", Takes::Number),
+    ("--nth", Takes::Number),
+    ("--count", Takes::Number),
+    ("--code", Takes::Code),
+    ("--out", Takes::Place),
+];
+
 /// Files and options, each option at most once.
 #[derive(Default)]
 pub struct Arguments {
@@ -79,12 +110,13 @@ fn read_option<'a>(
     rest: &mut impl Iterator<Item = &'a OsString>,
     options: &[&str],
 ) -> Result<(), Stop> {
-    let always = ["--help", "--version"].contains(&name);
-    if !always && !options.contains(&name) {
+    let is_here = |takes: Takes| takes == Takes::NothingAnywhere || options.contains(&name);
+    let known = OPTIONS.iter().find(|option| option.0 == name);
+    let Some((_, takes)) = known.filter(|option| is_here(option.1)) else {
         let name = shown(name.as_bytes());
         return Err(Stop::could_not(format!("there is no option {name} here")));
-    }
-    if always || name == "--all" {
+    };
+    if matches!(takes, Takes::NothingAnywhere | Takes::Nothing) {
         if value.is_some() {
             return Err(Stop::could_not(format!("{name} takes no value")));
         }

@@ -11,7 +11,8 @@ ttw prints labels from Royal Mail's Changes files and cuts packs for handsets.
   ttw pack   CHANGES1 CHANGES2 (--code AB1 | --all) --out FOLDER
   ttw show   PACK [--nth K [--count N]] [--out FILE]
 
-  ttw help TOPIC      a command, or: files, refusals, status
+  ttw help TOPIC           a command, or: files, refusals, status
+  ttw help --man, --bash   the same as a man page; completion for bash
   ttw --version
 
 Exit status: 0 done, 1 something was refused, 2 could not.

@@ -3,8 +3,10 @@
 
 mod arguments;
 mod commands;
+mod completion;
 mod files;
 mod help;
+mod man;
 mod memory;
 mod order;
 mod output;
@@ -110,12 +112,18 @@ fn run_command(command: &Command, rest: &[OsString]) -> Outcome {
     (command.run)(&given)
 }
 
-/// `ttw help`, and `ttw help TOPIC`.
+/// `ttw help`, and `ttw help TOPIC`; for `make install` the same text as a man
+/// page, and the table of commands as a script for bash.
 fn print_help(rest: &[OsString]) -> Outcome {
     let Some(topic) = rest.first() else {
         return print(help::OVERVIEW);
     };
     let topic = topic.to_string_lossy();
+    match topic.as_ref() {
+        "--man" => return print(man::page()),
+        "--bash" => return print(completion::script()),
+        _ => {}
+    }
     let commands = COMMANDS.iter().map(|command| (command.name, command.help));
     match commands
         .chain(help::TOPICS)

@@ -58,7 +58,8 @@ fn a_stage_stands_in_front_of_the_prefix_and_in_no_file() {
     let shown = stage.display().to_string();
     install(&folder, &shown, "/opt/t t").prints("");
     assert_eq!(folder.names("a stage"), ["opt"]);
-    assert_eq!(folder.names("a stage/opt/t t"), ["bin", "include", "lib"]);
+    let below = ["bin", "include", "lib", "share"];
+    assert_eq!(folder.names("a stage/opt/t t"), below);
     let described = folder.read("a stage/opt/t t/lib/pkgconfig/ttwibonal.pc");
     let described = String::from_utf8_lossy(&described).into_owned();
     assert!(described.starts_with("prefix=/opt/t t\n"), "{described}");
@@ -91,9 +92,34 @@ fn modes_do_not_hang_on_the_mask() {
             "644 lib/libttwibonal.a",
             "755 lib/pkgconfig",
             "644 lib/pkgconfig/ttwibonal.pc",
+            "755 share",
+            "755 share/bash-completion",
+            "755 share/bash-completion/completions",
+            "644 share/bash-completion/completions/ttw",
+            "755 share/man",
+            "755 share/man/man1",
+            "644 share/man/man1/ttw.1",
         ];
         assert_eq!(modes(&folder), expected, "{mask}");
     }
+}
+
+#[test]
+fn man_page_and_completion_are_those_of_the_command() {
+    let folder = Folder::new();
+    install(&folder, "", "usr").prints("");
+    for (file, option) in [
+        ("usr/share/man/man1/ttw.1", "--man"),
+        ("usr/share/bash-completion/completions/ttw", "--bash"),
+    ] {
+        let printed = folder.ttw(&["help", option]);
+        assert!(!printed.out.is_empty());
+        assert_eq!(folder.read(file), printed.out.as_bytes());
+    }
+    let mut broken = Command::new(root().join("scripts/install"));
+    broken.args(["other", "/bin/false"]).env_remove("DESTDIR");
+    let run = run(broken.current_dir(&folder.0));
+    assert_eq!(run.status, Some(1), "a command that prints no page");
 }
 
 #[test]

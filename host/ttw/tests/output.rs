@@ -9,7 +9,7 @@ use support::faults::Faults;
 use support::{compiled_handset, run, Folder};
 
 /// Everything that prints, each way once.
-const PRINTING: [&str; 18] = [
+const PRINTING: [&str; 20] = [
     "check changes1 changes2",
     "codes changes1 changes2",
     "labels changes1 changes2",
@@ -24,6 +24,8 @@ const PRINTING: [&str; 18] = [
     "help",
     "help pack",
     "help files",
+    "help --man",
+    "help --bash",
     "--help",
     "show --help",
     "--version",
