@@ -7,6 +7,7 @@ SECONDS = 60
 SEED = 1
 
 CARGO = ../scripts/x86-64 cargo --offline --quiet
+BUILD_TTW = cd host && $(CARGO) build --release --package ttw
 
 # For scripts/install, whatever bytes it has. DESTDIR, where it is given, make hands on by itself.
 export PREFIX
@@ -15,7 +16,7 @@ help:
 	@echo 'make run       print the labels of the sample files and cut their packs'
 	@echo 'make test      prove every crate, try the must-fail edits, run the host tests'
 	@echo 'make ttw       build the command ttw: host/target/release/ttw'
-	@echo 'make install   copy library, header, pkg-config file and ttw below PREFIX=/usr/local, staged in DESTDIR'
+	@echo 'make install   copy library, header, pkg-config file, ttw and its man page below PREFIX=/usr/local, staged in DESTDIR'
 	@echo 'make bench     time each call beside a plain compiled version'
 	@echo 'make fuzz      try the calls on mutated and hand-made input for SECONDS=60 from SEED=1'
 	@echo 'make annotate  print the pack of docs/PACK.md byte by byte'
@@ -25,8 +26,9 @@ help:
 	@echo 'make install-arm  copy it with header and pkg-config file below PREFIX=..'
 
 # The samples have a code that is refused, which ttw tells with status 1.
-run: ttw
-	@rt check labels >/dev/null
+run:
+	@scripts/prove ttwibonal labels
+	@$(BUILD_TTW)
 	@cd samples && ../target/bin/labels
 	@host/target/release/ttw pack samples/changes1 samples/changes2 --all --out target/packs 2>&1; [ $$? -le 1 ]
 
@@ -38,16 +40,16 @@ ready-arm:
 
 # The proved library, for all that links it.
 library:
-	@rt staticlib ttwibonal >/dev/null
+	@scripts/prove ttwibonal
 
 ttw: library
-	@cd host && $(CARGO) build --release --package ttw
+	@$(BUILD_TTW)
 
 install: ttw
 	@scripts/install "$$PREFIX"
 
 # The same for the handset's machine. What stands below /usr/local is this machine's, so PREFIX has to be said.
-library-arm:
+library-arm: library
 	@scripts/library-arm ttwibonal
 
 test-arm:
@@ -64,6 +66,6 @@ bench: library
 fuzz: library
 	@cd host && $(CARGO) run --release --package ttw-fuzz -- --seconds $(SECONDS) --seed $(SEED)
 
-annotate: library
-	@rt staticlib test_leaves >/dev/null
+annotate:
+	@scripts/prove ttwibonal test_leaves
 	@cd host && $(CARGO) run --package ttw-trials --bin annotate

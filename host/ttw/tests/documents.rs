@@ -17,7 +17,15 @@ use ttw::words::words;
 fn desk() -> Folder {
     let folder = Folder::new();
     for name in [
-        "Makefile", "examples", "host", "include", "samples", "scripts", "target",
+        "Makefile",
+        "crates",
+        "crates.txt",
+        "examples",
+        "host",
+        "include",
+        "samples",
+        "scripts",
+        "target",
     ] {
         symlink(root().join(name), folder.0.join(name)).expect("a link");
     }
