@@ -51,6 +51,9 @@ pub fn random() -> io::Result<u64> {
 
 /// Runs before Rust's library does, which before `main` already hides that
 /// standard input or output is closed and ends the process where memory is short.
+/// From here on a write beyond the limit of a file's size does not end it, but
+/// fails as on a full disk; where an emulator plays the processor, that library
+/// has it write a file too.
 #[used]
 #[link_section = ".init_array"]
 static BEFORE_RUST: extern "C" fn() = before_rust;
@@ -58,15 +61,14 @@ static BEFORE_RUST: extern "C" fn() = before_rust;
 extern "C" fn before_rust() {
     ask_for_standard_files();
     set_signals(&FAULTS, IGNORED);
+    set_signals(&[FILE_SIZE], IGNORED);
 }
 
 /// What has to be set once Rust's library has begun: faults end the process
-/// again, and a write beyond the limit of a file's size does not, but fails as
-/// on a full disk. And all threads take from one store of memory, where a store
-/// for each would ask for much more than is used.
+/// again. And all threads take from one store of memory, where a store for each
+/// would ask for much more than is used.
 pub fn begin() {
     set_signals(&FAULTS, DEFAULT);
-    set_signals(&[FILE_SIZE], IGNORED);
     // SAFETY: it sets a number of the allocator.
     unsafe { mallopt(MOST_STORES, 1) };
 }

@@ -157,13 +157,10 @@ fn a_full_disk_leaves_the_older_file() {
     }
     // The folder did not reach the disk: the labels may stand or not, and are told.
     at("fsync", &here, "5").run.only_tells(2, broken);
-    // An emulator writes files of its own, and ends where it may not.
-    if !is_emulated() {
-        let limited = "ulimit -f 0; exec \"$TTW\" show AB1.pack --out limited";
-        let told = "ttw: cannot write limited: File too large (os error 27)";
-        folder.shell(limited).only_tells(2, told);
-        assert!(!folder.0.join("limited").exists());
-    }
+    let limited = "ulimit -f 0; exec \"$TTW\" show AB1.pack --out limited";
+    let told = "ttw: cannot write limited: File too large (os error 27)";
+    folder.shell(limited).only_tells(2, told);
+    assert!(!folder.0.join("limited").exists());
 }
 
 #[test]
