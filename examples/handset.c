@@ -153,7 +153,7 @@ int main(int argc, char **argv)
 
     if (argc < 2 || argc > 4 || (argc > 2 && !read_number(argv[2], &k)) ||
         (argc > 3 && !read_number(argv[3], &count))) {
-        fputs("usage: handset PACK [NUMBER [COUNT]]\n", stderr);
+        fputs("usage: handset PACK [NUMBER [COUNT]] (ttwibonal " TTW_VERSION ")\n", stderr);
         return COULD_NOT;
     }
     if (!load(argv[1], &pack)) {

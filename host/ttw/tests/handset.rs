@@ -116,7 +116,9 @@ fn the_example_prints_labels_and_says_refusals() {
         let misused = run(Command::new(&program)
             .args(arguments)
             .current_dir(&folder.0));
-        misused.only_tells(2, "usage: handset PACK [NUMBER [COUNT]]");
+        let version = env!("CARGO_PKG_VERSION");
+        let usage = format!("usage: handset PACK [NUMBER [COUNT]] (ttwibonal {version})");
+        misused.only_tells(2, &usage);
     }
 }
 
