@@ -185,6 +185,16 @@ fn the_files_that_documents_name_exist() {
     }
 }
 
+#[test]
+fn the_architecture_has_every_script() {
+    let page = text_of("docs/ARCHITECTURE.md");
+    let scripts = names_in(&root().join("scripts"));
+    assert!(!scripts.is_empty());
+    for name in scripts {
+        assert!(page.contains(&format!("`scripts/{name}`")), "{name}");
+    }
+}
+
 fn refusal(number: u8, file: u8, second: u64, detail: u64) -> Refusal {
     Refusal {
         number,

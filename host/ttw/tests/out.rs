@@ -164,6 +164,16 @@ fn a_full_disk_leaves_the_older_file() {
 }
 
 #[test]
+fn no_part_stays_where_memory_ends_behind_it() {
+    let folder = desk();
+    folder.put("labels", b"older");
+    let settings = [("FAULTS_FAIL", "memory 1 1 12")];
+    let seen = Faults::new(&folder).ttw(&settings, &SHOW);
+    older_stays(&folder, &seen.run, 2, "ttw: no memory is left");
+    assert_eq!(seen.parts().len(), 1, "{:?}", seen.calls);
+}
+
+#[test]
 fn a_folder_that_is_not_there_is_not_made() {
     let folder = desk();
     let none = "No such file or directory (os error 2)";

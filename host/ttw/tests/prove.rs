@@ -256,6 +256,14 @@ fn make_asks_for_the_library_in_this_way_alone() {
 }
 
 #[test]
+fn a_kit_that_is_not_there_ends_it_before_anything_is_said() {
+    let folder = desk();
+    folder.put("rt", b"#!/bin/sh\necho none >&2\nexit 127\n");
+    prove(&folder, "scripts/prove top").only_tells(127, "none");
+    assert!(!folder.0.join("target").exists());
+}
+
+#[test]
 fn no_name_is_wrong_usage() {
     let mut script = Command::new(root().join("scripts/prove"));
     run(&mut script).only_tells(2, "usage: scripts/prove NAME..");
