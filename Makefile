@@ -60,8 +60,9 @@ install-arm:
 	@$(MAKE) --no-print-directory library-arm
 	@scripts/install --arm "$$PREFIX"
 
-bench: library
-	@cd host && $(CARGO) run --release --package ttw-bench
+# On Arm it is the handset's library that is timed: that one runs there without an emulator.
+bench: $(if $(filter aarch64,$(shell uname -m)),library-arm,library)
+	@cd host && cargo --offline --quiet run --release --target-dir target/bench --package ttw-bench
 
 fuzz: library
 	@cd host && $(CARGO) run --release --package ttw-fuzz -- --seconds $(SECONDS) --seed $(SEED)
