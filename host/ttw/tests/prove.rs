@@ -182,6 +182,40 @@ fn nothing_is_said_where_all_is_proved_already() {
     assert!(run.told.starts_with("Proving 2 of 3 crates, "), "{run:?}");
 }
 
+/// rt takes its time to see that nothing has changed.
+#[test]
+fn something_is_said_where_it_takes_a_while_all_the_same() {
+    let folder = desk();
+    made_anew(&folder);
+    fs::remove_dir_all(folder.0.join("target/made")).expect("removed");
+    folder.put("slow", b"");
+    let run = prove(
+        &folder,
+        "sed -i 's/sleep 2.5/sleep 4/' rt; scripts/prove top",
+    );
+    let lines: Vec<&str> = run.told.lines().collect();
+    let first = "Looking whether 3 crates are still proved, less than a minute where all ";
+    assert!(lines[0].starts_with(first), "{lines:?}");
+    let last = lines.last().expect("a line");
+    assert!(
+        last.starts_with("3 of 3 crates proved, 0 min 0"),
+        "{lines:?}"
+    );
+}
+
+#[test]
+fn a_kit_that_does_not_say_what_it_is_leaves_no_note() {
+    let folder = desk();
+    made_anew(&folder);
+    let noted = folder.read("target/made/top");
+    folder.put("kit", b"");
+    made_anew(&folder);
+    made_anew(&folder);
+    assert_eq!(folder.read("target/made/top"), noted);
+    folder.put("kit", b"kit 1 logic 0\n");
+    silent(&folder, "top");
+}
+
 #[test]
 fn a_failure_names_the_log_and_shows_its_end() {
     let folder = desk();
