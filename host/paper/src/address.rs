@@ -19,18 +19,6 @@ pub(crate) const ORGANISATION: usize = 7;
 /// The type of the row that each reference names.
 pub(crate) const ROW_TYPE: [u8; REFERENCES] = [1, 2, 3, 2, 3, 4, 5, 6];
 
-/// The references that a view gives as keys: all but the organisation, which
-/// its follower gives.
-pub(crate) const KEYS: [Field; REFERENCES - 1] = [
-    point::LOCALITY,
-    point::THOROUGHFARE,
-    point::DESCRIPTOR,
-    point::DEPENDENT_THOROUGHFARE,
-    point::DEPENDENT_DESCRIPTOR,
-    point::BUILDING_NAME,
-    point::SUB_BUILDING_NAME,
-];
-
 /// The texts of a row without their padding: three for a locality (town,
 /// dependent, double dependent), two for an organisation (name, department),
 /// one for any other; those that a row doesn't have are empty.

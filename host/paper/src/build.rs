@@ -1,44 +1,49 @@
 //! Document 01, "The pack": cutting a pack for one outward code. Refusals come
-//! in this order: table file, point file, 12, then the 8 or 9 of the first live
-//! view in that code that has one, together with its view number, then 10.
+//! in this order: the files, 12, then the 8 or 9 of the first live view in that
+//! code that has one, together with its view number, then 10.
 
-use crate::address::{text_rules, Texts, ORGANISATION, REFERENCES};
+use crate::address::{text_rules, Texts, ORGANISATION, REFERENCES, ROW_TYPE};
 use crate::fields::value;
-use crate::files::{check_code, PointFile, TableFile, View};
 use crate::label::lend;
 use crate::layout::pack::{ABSENT, EDITION_BUILT, TRAILER};
-use crate::layout::point;
-use crate::pair::{rows_of, Rows};
+use crate::pair::Changes;
 use crate::refusal::Refusal;
+use crate::source::{rows_of, Rows, Source, View};
 
 /// Writes the pack of an outward code into `out` and answers its length.
 pub fn build(table: &[u8], points: &[u8], code: &[u8], out: &mut [u8]) -> Result<usize, Refusal> {
-    let table = TableFile::accept(table)?;
-    let points = PointFile::accept(points)?;
-    check_code(code)?;
+    build_from(Changes::accept(table, points)?, code, out)
+}
+
+/// The same, of any accepted files.
+pub(crate) fn build_from<'a>(
+    source: impl Source<'a>,
+    code: &'a [u8],
+    out: &mut [u8],
+) -> Result<usize, Refusal> {
     let mut packed = Vec::new();
-    for view in points.live_views(code) {
-        let rows = rows_of(table, &view).map_err(|refusal| Refusal {
+    for view in source.live_views(code)? {
+        let rows = rows_of(source, &view).map_err(|refusal| Refusal {
             second: view.number,
             ..refusal
         })?;
         packed.push((view, rows));
     }
-    lend(&pack_bytes(table, &packed, code), out)
+    lend(&pack_bytes(source, &packed, code), out)
 }
 
 /// Rows, then points, then a trailer that points back.
-fn pack_bytes(table: TableFile, packed: &[(View, Rows)], code: &[u8]) -> Vec<u8> {
+fn pack_bytes<'a>(source: impl Source<'a>, packed: &[(View, Rows)], code: &[u8]) -> Vec<u8> {
     let mut area = RowArea::default();
-    let table_offsets = put_table_rows(table, packed, &mut area);
+    let table_offsets = put_table_rows(source, packed, &mut area);
     let mut points = Vec::new();
     for (view, rows) in packed {
         let mut offsets = [ABSENT; REFERENCES];
-        for (offset, row) in offsets.iter_mut().zip(rows) {
-            *offset = row.map_or(ABSENT, |number| table_offsets[number]);
+        for (offset, row) in offsets[..ORGANISATION].iter_mut().zip(rows) {
+            *offset = row.map_or(ABSENT, |row| table_offsets[row]);
         }
-        if view.follower.is_some() {
-            offsets[ORGANISATION] = area.put(6, view.organisation());
+        if let Some(row) = rows[ORGANISATION] {
+            offsets[ORGANISATION] = area.put(6, source.texts(ORGANISATION, row));
         }
         put_point(view, &offsets, &mut points);
     }
@@ -56,20 +61,32 @@ fn pack_bytes(table: TableFile, packed: &[(View, Rows)], code: &[u8]) -> Vec<u8>
 }
 
 /// First the table rows used by a packed view, by type then key, each once.
-/// This is the order of the table file. Answers the offset of each used row by
-/// its record number.
-fn put_table_rows(table: TableFile, packed: &[(View, Rows)], area: &mut RowArea) -> Vec<u32> {
-    let mut used = vec![false; table.numbers().end];
-    for (_, rows) in packed {
-        for number in rows.iter().flatten() {
-            used[*number] = true;
+/// This is the order of their numbers. Answers the offset of each used row by
+/// its number.
+fn put_table_rows<'a>(
+    source: impl Source<'a>,
+    packed: &[(View, Rows)],
+    area: &mut RowArea,
+) -> Vec<u32> {
+    let references = || packed.iter().flat_map(|(_, rows)| table_rows(rows));
+    let numbers = references().map(|(_, row)| row + 1).max().unwrap_or(0);
+    let mut used = vec![None; numbers];
+    for (place, row) in references() {
+        used[row] = Some(place);
+    }
+    let mut offsets = vec![ABSENT; numbers];
+    for (row, place) in used.into_iter().enumerate() {
+        if let Some(place) = place {
+            offsets[row] = area.put(ROW_TYPE[place], source.texts(place, row));
         }
     }
-    let mut offsets = vec![ABSENT; table.numbers().end];
-    for number in table.numbers().filter(|number| used[*number]) {
-        offsets[number] = area.put(table.row_type(number), table.texts(number));
-    }
     offsets
+}
+
+/// The table rows among these, each behind the reference that names it.
+fn table_rows(rows: &Rows) -> impl Iterator<Item = (usize, usize)> + '_ {
+    let places = rows[..ORGANISATION].iter().enumerate();
+    places.filter_map(|(place, row)| row.map(|row| (place, row)))
 }
 
 /// The rows written so far.
@@ -96,22 +113,22 @@ impl RowArea {
 
 /// Writes a point, 57 bytes.
 fn put_point(view: &View, offsets: &[u32; REFERENCES], points: &mut Vec<u8>) {
-    let record = view.record;
-    points.extend(&record[point::OUTWARD]);
-    points.extend(&record[point::INWARD]);
-    points.extend(&record[point::POSTCODE_TYPE]);
-    points.extend((value(&record[point::ADDRESS_KEY]) as u32).to_be_bytes());
-    points.extend((value(&record[point::ORGANISATION_KEY]) as u32).to_be_bytes());
+    points.extend(view.outward());
+    points.extend(view.inward());
+    points.extend(view.postcode_type());
+    points.extend((value(view.address_key()) as u32).to_be_bytes());
+    points.extend((value(view.organisation_key()) as u32).to_be_bytes());
     points.extend((view.building_number() as u16).to_be_bytes());
-    points.extend(&record[point::CONCATENATION]);
-    points.extend(&record[point::PO_BOX]);
+    points.extend(view.concatenation());
+    points.extend(view.po_box());
     for offset in offsets {
         points.extend(offset.to_be_bytes());
     }
 }
 
-/// A count or a place in a pack. Files of 20,000 records give packs of a few
-/// million bytes, so that every such number has room in 4 bytes.
+/// A count or a place in a pack. It has less than 1,000,000 points and rows of
+/// each type, none of them longer than 123 bytes, so that every such number has
+/// room in 4 bytes.
 fn number_of(length: usize) -> u32 {
     length as u32
 }

@@ -4,19 +4,30 @@
 //! 4, 5, 6.
 
 use crate::address::{Texts, NO_TEXTS};
-use crate::fields::{outward_fault, trimmed, value};
-use crate::layout::{point, table, FileRules, FEWEST_RECORDS, MOST_RECORDS, POINTS, TABLE};
+use crate::fields::trimmed;
+use crate::layout::{point, table, FileRules, FEWEST_RECORDS, POINTS, POINT_FIELDS, TABLE};
 use crate::records::{is_header, is_trailer};
 use crate::refusal::Refusal;
-use std::collections::BTreeMap;
+use crate::source::{codes_of, live_in, needs_organisation, nth, View};
+use std::ops::Range;
 
 pub use crate::records::{point_fault, table_fault};
 
 /// The number of records of an accepted table file, or its first refusal.
 pub fn check_table(table: &[u8]) -> Result<usize, Refusal> {
-    let records = check_frame(table, &TABLE)?;
+    check_file(table, &TABLE, table_fault)
+}
+
+/// The number of records of an accepted file whose records stand each for
+/// itself, or its first refusal.
+pub(crate) fn check_file(
+    file: &[u8],
+    rules: &FileRules,
+    fault: fn(&[u8]) -> usize,
+) -> Result<usize, Refusal> {
+    let records = check_frame(file, rules)?;
     for number in 2..records {
-        check_record(table, &TABLE, number, table_fault)?;
+        check_record(file, rules, number, fault)?;
     }
     Ok(records)
 }
@@ -38,46 +49,23 @@ pub fn views(points: &[u8]) -> Result<usize, Refusal> {
 
 /// The amendment letter of a view; 7 where there is no view of that number.
 pub fn letter(points: &[u8], view: u64) -> Result<u8, Refusal> {
-    Ok(PointFile::accept(points)?.view(view)?.letter())
+    let view = nth(PointFile::accept(points)?.views(), view)?;
+    Ok(view.letter().unwrap_or_default())
 }
 
 /// How many live views of an outward code the point file has.
 pub fn live(points: &[u8], code: &[u8]) -> Result<usize, Refusal> {
     let points = PointFile::accept(points)?;
-    check_code(code)?;
-    Ok(points.live_views(code).count())
+    Ok(live_in(points.views(), code)?.count())
 }
 
-/// The outward codes with live views, rising, into `out`: each its 4 bytes and how
-/// many live views it has in 4, the most significant first. The value is how many
-/// codes there are; 10 where `out` is shorter.
+/// The outward codes with live views, as [`codes_of`] writes them.
 pub fn codes(points: &[u8], out: &mut [u8]) -> Result<usize, Refusal> {
-    let mut counted: BTreeMap<&[u8], u32> = BTreeMap::new();
-    for view in PointFile::accept(points)?.views().filter(View::is_live) {
-        *counted.entry(&view.record[point::OUTWARD]).or_default() += 1;
-    }
-    let needed = 8 * counted.len();
-    if out.len() < needed {
-        return Err(Refusal::new(10, needed as u64));
-    }
-    for ((code, count), entry) in counted.iter().zip(out.chunks_exact_mut(8)) {
-        entry[..4].copy_from_slice(code);
-        entry[4..].copy_from_slice(&count.to_be_bytes());
-    }
-    Ok(counted.len())
-}
-
-/// A code is given as 4 bytes, padded; another length is malformed: 12.
-pub(crate) fn check_code(code: &[u8]) -> Result<(), Refusal> {
-    if outward_fault(code) == 0 {
-        Ok(())
-    } else {
-        Err(Refusal::new(12, 0))
-    }
+    codes_of(PointFile::accept(points)?.views(), out)
 }
 
 /// The record of that number; the header is number 1.
-fn record_at<'a>(file: &'a [u8], rules: &FileRules, number: usize) -> &'a [u8] {
+pub(crate) fn record_at<'a>(file: &'a [u8], rules: &FileRules, number: usize) -> &'a [u8] {
     &file[(number - 1) * rules.record..number * rules.record]
 }
 
@@ -85,7 +73,7 @@ fn record_at<'a>(file: &'a [u8], rules: &FileRules, number: usize) -> &'a [u8] {
 fn check_frame(file: &[u8], rules: &FileRules) -> Result<usize, Refusal> {
     let records = file.len() / rules.record;
     let whole = file.len().is_multiple_of(rules.record);
-    if !whole || !(FEWEST_RECORDS..=MOST_RECORDS).contains(&records) {
+    if !whole || !(FEWEST_RECORDS..=rules.most_records).contains(&records) {
         return Err(Refusal::of_file(rules.file, 1, 0));
     }
     if !is_header(record_at(file, rules, 1), rules) {
@@ -112,11 +100,35 @@ fn check_record(
     }
     if number > 2 {
         let before = record_at(file, rules, number - 1);
-        if record[rules.sequence.clone()] <= before[rules.sequence.clone()] {
+        if sequence_of(record, rules).le(sequence_of(before, rules)) {
             return Err(Refusal::of_file(rules.file, 5, number as u64));
         }
     }
     Ok(())
+}
+
+/// The fields of a record by which it is above the one before.
+pub(crate) fn sequence_of<'a>(
+    record: &'a [u8],
+    rules: &'a FileRules,
+) -> impl Iterator<Item = &'a [u8]> {
+    rules.sequence.iter().map(|field| &record[field.clone()])
+}
+
+/// The last of these record numbers for which this holds, if it holds for the
+/// first ones of them and for no other. It is looked for by halving.
+pub(crate) fn last_that(numbers: Range<usize>, holds: impl Fn(usize) -> bool) -> Option<usize> {
+    let first = numbers.start;
+    let Range { mut start, mut end } = numbers;
+    while start < end {
+        let middle = start + (end - start) / 2;
+        if holds(middle) {
+            start = middle + 1;
+        } else {
+            end = middle;
+        }
+    }
+    (start > first).then(|| start - 1)
 }
 
 /// Refusal 6: a type 1 record that lacks its follower, or a stray type 2 or 3.
@@ -150,16 +162,13 @@ fn is_view(record: &[u8]) -> bool {
 }
 
 /// The record type that a view needs next: S with an organisation key above
-/// zero a type 2, L a type 3, S with key zero none. The small user indicator
-/// doesn't count here.
+/// zero a type 2, L a type 3, S with key zero none.
 fn follower_type(view: &[u8]) -> Option<&'static [u8]> {
-    if view[point::POSTCODE_TYPE] == *b"L" {
-        Some(b"3")
-    } else if value(&view[point::ORGANISATION_KEY]) > 0 {
-        Some(b"2")
-    } else {
-        None
-    }
+    let kind: &[u8] = match &view[point::POSTCODE_TYPE] {
+        b"L" => b"3",
+        _ => b"2",
+    };
+    needs_organisation(view, &POINT_FIELDS).then_some(kind)
 }
 
 /// A table file that has been accepted.
@@ -180,7 +189,7 @@ impl<'a> TableFile<'a> {
     }
 
     /// The numbers of the records between header and trailer.
-    pub fn numbers(self) -> std::ops::Range<usize> {
+    fn numbers(self) -> Range<usize> {
         2..self.records
     }
 
@@ -196,28 +205,19 @@ impl<'a> TableFile<'a> {
         (!matches!(letter, b'B' | b'D')).then_some(last)
     }
 
-    /// The last record for a type and a key, looked for by halving, since the
-    /// records rise.
+    /// The last record for a type and a key; the records rise.
     fn last_row(self, row_type: u8, key: &[u8]) -> Option<usize> {
         let mut wanted = [b'0' + row_type; 9];
         wanted[table::KEY].copy_from_slice(key);
-        let mut first_above = 2;
-        let mut end = self.records;
-        while first_above < end {
-            let middle = first_above + (end - first_above) / 2;
-            if self.record(middle)[table::NAME] <= wanted[..] {
-                first_above = middle + 1;
-            } else {
-                end = middle;
-            }
-        }
-        let last = first_above - 1;
-        let found = last >= 2 && self.record(last)[table::NAME] == wanted[..];
+        let last = last_that(self.numbers(), |number| {
+            self.record(number)[table::NAME] <= wanted[..]
+        })?;
+        let found = self.record(last)[table::NAME] == wanted[..];
         found.then_some(last)
     }
 
     /// The type of a row, as a number.
-    pub fn row_type(self, number: usize) -> u8 {
+    fn row_type(self, number: usize) -> u8 {
         self.record(number)[0] - b'0'
     }
 
@@ -257,76 +257,21 @@ impl<'a> PointFile<'a> {
         self.records
     }
 
+    pub fn record(self, number: usize) -> &'a [u8] {
+        record_at(self.file, &POINTS, number)
+    }
+
     /// The views, numbered from 1 in file order.
     pub fn views(self) -> impl Iterator<Item = View<'a>> {
         (2..self.records)
-            .map(move |number| (number, record_at(self.file, &POINTS, number)))
+            .map(move |at| (at, self.record(at)))
             .filter(|(_, record)| is_view(record))
             .zip(1..)
-            .map(move |((at, record), number)| View {
+            .map(|((at, record), number)| View {
                 number,
+                at,
                 record,
-                follower: follower_type(record).map(|_| record_at(self.file, &POINTS, at + 1)),
+                fields: &POINT_FIELDS,
             })
-    }
-
-    /// The view of that number; 7 where there is none.
-    pub fn view(self, number: u64) -> Result<View<'a>, Refusal> {
-        nth(self.views(), number)
-    }
-
-    /// The live views of an outward code in file order.
-    pub fn live_views(self, code: &'a [u8]) -> impl Iterator<Item = View<'a>> {
-        self.views()
-            .filter(move |view| view.is_live() && view.record[point::OUTWARD] == *code)
-    }
-
-    /// The k-th live view of an outward code, counted from 1; 7 where there is
-    /// none.
-    pub fn live_view(self, code: &'a [u8], k: u64) -> Result<View<'a>, Refusal> {
-        nth(self.live_views(code), k)
-    }
-}
-
-/// The view at that place, 1 being the first; 7 where there is none.
-fn nth<'a>(views: impl Iterator<Item = View<'a>>, place: u64) -> Result<View<'a>, Refusal> {
-    let mut places = 1..;
-    for view in views {
-        if places.next() == Some(place) {
-            return Ok(view);
-        }
-    }
-    Err(Refusal::new(7, 0))
-}
-
-/// A type 1 record of an accepted point file, with the follower it needs.
-pub(crate) struct View<'a> {
-    pub number: u64,
-    pub record: &'a [u8],
-    pub follower: Option<&'a [u8]>,
-}
-
-impl<'a> View<'a> {
-    pub fn letter(&self) -> u8 {
-        self.record[point::LETTER.start]
-    }
-
-    /// A view is live if its amendment letter is I or C.
-    pub fn is_live(&self) -> bool {
-        matches!(self.letter(), b'I' | b'C')
-    }
-
-    pub fn building_number(&self) -> u64 {
-        value(&self.record[point::BUILDING_NUMBER])
-    }
-
-    /// Organisation and department, as the follower gives them.
-    pub fn organisation(&self) -> Texts<'a> {
-        let mut texts = NO_TEXTS;
-        if let Some(follower) = self.follower {
-            texts[0] = trimmed(&follower[point::ORGANISATION]);
-            texts[1] = trimmed(&follower[point::DEPARTMENT]);
-        }
-        texts
     }
 }

@@ -63,6 +63,8 @@ pub mod fields;
 pub mod files;
 pub mod label;
 mod layout;
+mod listing;
+pub mod mainfile;
 pub mod make;
 pub mod pack;
 pub mod pair;
@@ -70,6 +72,7 @@ mod records;
 pub mod refusal;
 pub mod report;
 pub mod runs;
+mod source;
 
 pub use build::build;
 pub use files::{check_points, check_table, codes, letter, live, point_fault, table_fault, views};

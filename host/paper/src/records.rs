@@ -6,7 +6,9 @@ use crate::fields::{
     digits_fault, filled_fault, inward_fault, is_blank, outward_fault, suffix_fault, text_fault,
     value,
 };
-use crate::layout::{point, table, Field, FileRules, POINTS, TABLE};
+use crate::layout::{
+    address, main, point, table, Field, FileRules, MAIN, MAIN_FILES, POINTS, TABLE,
+};
 
 /// A field and the test that it has to pass.
 type Test = (Field, fn(&[u8]) -> usize);
@@ -74,7 +76,7 @@ pub fn table_fault(record: &[u8]) -> usize {
         return fault;
     }
     match record[0] {
-        b'1' => locality_fault(record),
+        b'1' => locality_fault(record, TABLE_LOCALITY),
         b'2' => first_fault(record, &[(table::THOROUGHFARE, filled_fault)]),
         b'3' => first_fault(record, &[(table::DESCRIPTOR, filled_fault)]),
         b'4' => first_fault(record, &[(table::BUILDING_NAME, filled_fault)]),
@@ -82,17 +84,26 @@ pub fn table_fault(record: &[u8]) -> usize {
     }
 }
 
+/// Post town, dependent and double dependent locality.
+type LocalityTexts = [Field; 3];
+
+const TABLE_LOCALITY: LocalityTexts = [
+    table::POST_TOWN,
+    table::DEPENDENT_LOCALITY,
+    table::DOUBLE_DEPENDENT_LOCALITY,
+];
+
 /// Post town isn't blank; a double dependent locality needs a dependent one,
 /// and without one is at fault at its first byte.
-fn locality_fault(record: &[u8]) -> usize {
-    let alone = is_blank(&record[table::DEPENDENT_LOCALITY]);
+fn locality_fault(record: &[u8], [town, dependent, double_dependent]: LocalityTexts) -> usize {
+    let alone = is_blank(&record[dependent.clone()]);
     let double_fault: fn(&[u8]) -> usize = if alone { blank_fault } else { text_fault };
     first_fault(
         record,
         &[
-            (table::POST_TOWN, filled_fault),
-            (table::DEPENDENT_LOCALITY, text_fault),
-            (table::DOUBLE_DEPENDENT_LOCALITY, double_fault),
+            (town, filled_fault),
+            (dependent, text_fault),
+            (double_dependent, double_fault),
         ],
     )
 }
@@ -114,20 +125,116 @@ pub fn point_fault(record: &[u8]) -> usize {
     }
 }
 
-/// Header identifier: all zero bytes or all spaces; then the file's own name.
-/// The edition is not read.
+/// The first fault of a record between header and trailer, for each file of a
+/// Mainfile set in order. A record of another length is at fault at byte 1.
+pub static MAIN_FAULTS: [fn(&[u8]) -> usize; MAIN_FILES] = [
+    |record| main_fault(record, 0, main_locality_fault),
+    |record| {
+        main_fault(record, 1, |row| {
+            named_fault(row, main::KEY, main::THOROUGHFARE)
+        })
+    },
+    |record| {
+        main_fault(record, 2, |row| {
+            named_fault(row, main::DESCRIPTOR_KEY, main::DESCRIPTOR)
+        })
+    },
+    |record| {
+        main_fault(record, 3, |row| {
+            named_fault(row, main::KEY, main::BUILDING_NAME)
+        })
+    },
+    |record| {
+        main_fault(record, 4, |row| {
+            named_fault(row, main::KEY, main::SUB_BUILDING_NAME)
+        })
+    },
+    |record| main_fault(record, 5, organisation_fault),
+    |record| main_fault(record, 6, |address| first_fault(address, &ADDRESS)),
+];
+
+/// The fault of a record that has the length of its file's records.
+fn main_fault(record: &[u8], index: usize, fault: fn(&[u8]) -> usize) -> usize {
+    if record.len() == MAIN[index].record {
+        fault(record)
+    } else {
+        1
+    }
+}
+
+fn main_locality_fault(record: &[u8]) -> usize {
+    let fault = first_fault(record, &[(main::LOCALITY_KEY, table_key_fault)]);
+    if fault != 0 {
+        return fault;
+    }
+    locality_fault(
+        record,
+        [
+            main::POST_TOWN,
+            main::DEPENDENT_LOCALITY,
+            main::DOUBLE_DEPENDENT_LOCALITY,
+        ],
+    )
+}
+
+/// A row of a key and a text that isn't blank.
+fn named_fault(record: &[u8], key: Field, text: Field) -> usize {
+    first_fault(record, &[(key, table_key_fault), (text, filled_fault)])
+}
+
+/// An organisation of type S needs a name; one of type L doesn't.
+fn organisation_fault(record: &[u8]) -> usize {
+    let small = record[main::ORGANISATION_TYPE] == *b"S";
+    let name_fault: fn(&[u8]) -> usize = if small { filled_fault } else { text_fault };
+    first_fault(
+        record,
+        &[
+            (main::KEY, table_key_fault),
+            (main::ORGANISATION_TYPE, postcode_type_fault),
+            (main::ORGANISATION, name_fault),
+            (main::DEPARTMENT, text_fault),
+        ],
+    )
+}
+
+/// All that an address record has.
+const ADDRESS: [Test; 18] = [
+    (address::OUTWARD, outward_fault),
+    (address::INWARD, inward_fault),
+    (address::ADDRESS_KEY, digits_fault),
+    (address::LOCALITY, digits_fault),
+    (address::THOROUGHFARE, digits_fault),
+    (address::DESCRIPTOR, digits_fault),
+    (address::DEPENDENT_THOROUGHFARE, digits_fault),
+    (address::DEPENDENT_DESCRIPTOR, digits_fault),
+    (address::BUILDING_NUMBER, digits_fault),
+    (address::BUILDING_NAME, digits_fault),
+    (address::SUB_BUILDING_NAME, digits_fault),
+    (address::HOUSEHOLDS, digits_fault),
+    (address::ORGANISATION_KEY, digits_fault),
+    (address::POSTCODE_TYPE, postcode_type_fault),
+    (address::CONCATENATION, mark_fault),
+    (address::SUFFIX, suffix_fault),
+    (address::INDICATOR, mark_fault),
+    (address::PO_BOX, text_fault),
+];
+
+/// Header identifier: all zero bytes or all spaces; then digits 0, where the
+/// file has them, and the file's own name. The edition is not read.
 pub(crate) fn is_header(record: &[u8], rules: &FileRules) -> bool {
     let identifier = &record[rules.identifier.clone()];
     (is_all(identifier, 0) || is_all(identifier, b' '))
+        && is_all(&record[rules.digits.clone()], b'0')
         && record[rules.file_identifier.clone()] == *rules.name
 }
 
-/// Trailer identifier: all 255 or all spaces; the count is the number of
-/// records in the file.
+/// Trailer identifier: all 255 or all spaces; then digits 9, where the file has
+/// them; the count is the number of records in the file.
 pub(crate) fn is_trailer(record: &[u8], rules: &FileRules, records: usize) -> bool {
     let identifier = &record[rules.identifier.clone()];
     let count = &record[rules.count.clone()];
     (is_all(identifier, 255) || is_all(identifier, b' '))
+        && is_all(&record[rules.digits.clone()], b'9')
         && digits_fault(count) == 0
         && value(count) == records as u64
 }

@@ -2,8 +2,8 @@
 
 use crate::files::{PointFile, TableFile};
 use crate::layout::{FileRules, POINTS, TABLE};
-use crate::pair::view_label;
-use crate::refusal::Refusal;
+use crate::listing::{entry, refused};
+use crate::pair::Changes;
 
 /// The program takes files of at most this many records.
 const MOST_REPORTED: usize = 300;
@@ -30,12 +30,7 @@ fn pair_report(table: &[u8], points: &[u8]) -> Result<Vec<u8>, String> {
     let first = format!("pair {} {} {views}\n", table.records(), points.records());
     let mut text = first.into_bytes();
     for view in points.views() {
-        let letter = char::from(view.letter());
-        text.extend(format!("view {} {letter}\n", view.number).bytes());
-        match view_label(table, &view) {
-            Ok(label) => text.extend(label),
-            Err(why) => text.extend(refused(why).bytes()),
-        }
+        text.extend(entry(Changes { table, points }, &view));
     }
     Ok(text)
 }
@@ -46,14 +41,5 @@ fn check_length(name: &str, file: &[u8], rules: &FileRules) -> Result<(), String
         Err(format!("{name} long\n"))
     } else {
         Ok(())
-    }
-}
-
-/// `refused`, number, detail, and the byte of a malformed record last.
-fn refused(refusal: Refusal) -> String {
-    let line = format!("refused {} {}", refusal.number, refusal.detail);
-    match refusal.number {
-        4 => format!("{line} {}\n", refusal.second),
-        _ => format!("{line}\n"),
     }
 }

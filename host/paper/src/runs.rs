@@ -3,11 +3,12 @@
 //! stops before the first label that is refused or does not fit; only a refused
 //! file, pack or code refuses the whole.
 
-use crate::files::{check_code, PointFile, TableFile};
 use crate::label::lend;
+use crate::listing::entry;
 use crate::pack;
-use crate::pair::view_label;
+use crate::pair::Changes;
 use crate::refusal::{packed, Refusal};
+use crate::source::{view_label, Source, View};
 
 /// How far a run of labels came.
 #[derive(Clone, Copy, PartialEq, Eq, Debug)]
@@ -28,10 +29,8 @@ pub fn labels(
     count: u64,
     out: &mut [u8],
 ) -> Result<Run, Refusal> {
-    let table = TableFile::accept(table)?;
-    let points = PointFile::accept(points)?;
-    let views = from(first, points.views());
-    Ok(run(views.map(|view| view_label(table, &view)), count, out))
+    let changes = Changes::accept(table, points)?;
+    Ok(label_run(changes, changes.views(), first, count, out))
 }
 
 /// Writes the labels of so many live views of an outward code, from the first
@@ -44,11 +43,9 @@ pub fn code_labels(
     count: u64,
     out: &mut [u8],
 ) -> Result<Run, Refusal> {
-    let table = TableFile::accept(table)?;
-    let points = PointFile::accept(points)?;
-    check_code(code)?;
-    let views = from(first, points.live_views(code));
-    Ok(run(views.map(|view| view_label(table, &view)), count, out))
+    let changes = Changes::accept(table, points)?;
+    let views = changes.live_views(code)?;
+    Ok(label_run(changes, views, first, count, out))
 }
 
 /// Writes the labels of so many points of a pack, from number `first` on, into
@@ -56,6 +53,31 @@ pub fn code_labels(
 pub fn pack_labels(pack: &[u8], first: u64, count: u64, out: &mut [u8]) -> Result<Run, Refusal> {
     let points = from(first, pack::points(pack)?);
     Ok(run(points.map(|point| Ok(point.label())), count, out))
+}
+
+/// Writes the labels of so many of these views, from the first that is given
+/// on, into `out`.
+pub(crate) fn label_run<'a>(
+    source: impl Source<'a>,
+    views: impl Iterator<Item = View<'a>>,
+    first: u64,
+    count: u64,
+    out: &mut [u8],
+) -> Run {
+    let labels = from(first, views).map(|view| view_label(source, &view));
+    run(labels, count, out)
+}
+
+/// The same as a listing, which a refused label doesn't stop.
+pub(crate) fn list_run<'a>(
+    source: impl Source<'a>,
+    views: impl Iterator<Item = View<'a>>,
+    first: u64,
+    count: u64,
+    out: &mut [u8],
+) -> Run {
+    let entries = from(first, views).map(|view| Ok(entry(source, &view)));
+    run(entries, count, out)
 }
 
 /// A run as one number: how many labels, or the refusal of the label before
