@@ -9,7 +9,7 @@ use crate::address::{Texts, NO_TEXTS, ORGANISATION, ROW_TYPE};
 use crate::build::build_from;
 use crate::fields::trimmed;
 use crate::files::{check_file, last_that, record_at, sequence_of};
-use crate::layout::{main, Field, ADDRESS_FIELDS, MAIN, MAIN_FILES, MOST_MAIN_RECORDS};
+use crate::layout::{main, Field, ADDRESS_FIELDS, MAIN, MAIN_FILES};
 use crate::refusal::Refusal;
 use crate::runs::{label_run, list_run, Run};
 use crate::source::{codes_of, live_in, write_label, Source, View};
@@ -151,6 +151,11 @@ impl<'a> Mainfile<'a> {
         Ok(Mainfile { set, records })
     }
 
+    /// How many records stand in the files before the one at that place.
+    fn records_before(self, index: usize) -> usize {
+        self.records[..index].iter().sum()
+    }
+
     /// The number of the record of a file whose sequence is this, the file
     /// standing at that place in the set.
     fn record_of(self, index: usize, wanted: &[&[u8]]) -> Option<usize> {
@@ -181,9 +186,9 @@ impl<'a> Source<'a> for Mainfile<'a> {
         addresses.views()
     }
 
-    /// The row's record number, and the file's place in front of it. A small
-    /// user's organisation goes by its organisation key, a large user's by the
-    /// address key.
+    /// The row's record number, counted through the files. A small user's
+    /// organisation goes by its organisation key, a large user's by the address
+    /// key.
     fn row(self, view: &View<'a>, place: usize) -> Option<usize> {
         let index = file_of(place);
         let record = match (place, view.postcode_type()) {
@@ -191,12 +196,13 @@ impl<'a> Source<'a> for Mainfile<'a> {
             (ORGANISATION, _) => self.record_of(index, &[b"S", view.organisation_key()]),
             _ => self.record_of(index, &[view.key(place)]),
         };
-        Some(index * MOST_MAIN_RECORDS + record?)
+        Some(self.records_before(index) + record?)
     }
 
     fn texts(self, place: usize, row: usize) -> Texts<'a> {
         let index = file_of(place);
-        let record = record_at(self.set[index], &MAIN[index], row % MOST_MAIN_RECORDS);
+        let number = row - self.records_before(index);
+        let record = record_at(self.set[index], &MAIN[index], number);
         let mut texts = NO_TEXTS;
         for (text, field) in texts.iter_mut().zip(text_fields(index)) {
             *text = trimmed(&record[field.clone()]);

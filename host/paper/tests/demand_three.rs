@@ -1,15 +1,15 @@
-//! Demand 3 on thousands of random pairs: building is refused exactly when it
-//! has to be, and otherwise gives a pack that opens and answers, for every k
-//! and every buffer, what the files answer.
+//! Demand 3 on thousands of random pairs and Mainfile sets: building is refused
+//! exactly when it has to be, and otherwise gives a pack that opens and answers,
+//! for every k and every buffer, what the files answer.
 //!
 //! What is expected is worked out here from the plain rows and views that the
 //! makers made the files from, and not by reading the files.
 
-use paper::make::{outward, pair, Pair, Rng, TableRow, View};
-use paper::{build, code_label, live, open, pack_label, Refusal};
+use paper::make::{joined_key, main_set, outward, pair, MainSet, Pair, Rng, TableRow, View};
+use paper::{mainfile, open, pack_label, Refusal};
 use std::collections::{BTreeMap, BTreeSet};
 
-const PAIRS: u64 = 4_000;
+const ROUNDS: u64 = 4_000;
 const ROW_TYPES: [u8; 7] = [1, 2, 3, 2, 3, 4, 5];
 
 /// How often each thing was seen, so that nothing is tested in vain.
@@ -20,24 +20,112 @@ struct Seen {
     points: usize,
     organisation_rows: usize,
     forbidden: [usize; 4],
-    missing: [usize; 8],
+    missing: [usize; 9],
     labels: usize,
     refused_labels: usize,
     respelt: usize,
     ended: usize,
 }
 
-/// The live views of a code with their numbers.
-fn packed<'a>(pair: &'a Pair, code: &[u8]) -> Vec<(u64, &'a View)> {
+/// The files that are asked.
+#[derive(Clone, Copy)]
+enum Files<'a> {
+    Pair(&'a Pair),
+    Main(&'a MainSet),
+}
+
+impl<'a> Files<'a> {
+    fn build(self, code: &[u8], out: &mut [u8]) -> Result<usize, Refusal> {
+        match self {
+            Files::Pair(pair) => paper::build(&pair.table, &pair.points, code, out),
+            Files::Main(main) => mainfile::build(main.set(), code, out),
+        }
+    }
+
+    fn code_label(self, code: &[u8], k: u64, out: &mut [u8]) -> Result<usize, Refusal> {
+        match self {
+            Files::Pair(pair) => paper::code_label(&pair.table, &pair.points, code, k, out),
+            Files::Main(main) => mainfile::code_label(main.set(), code, k, out),
+        }
+    }
+
+    fn live(self, code: &[u8]) -> Result<usize, Refusal> {
+        match self {
+            Files::Pair(pair) => paper::live(&pair.points, code),
+            Files::Main(main) => mainfile::live(&main.files[6], code),
+        }
+    }
+
+    fn rows(self) -> &'a [TableRow] {
+        match self {
+            Files::Pair(pair) => &pair.rows,
+            Files::Main(main) => &main.rows,
+        }
+    }
+
+    fn views(self) -> &'a [View] {
+        match self {
+            Files::Pair(pair) => &pair.views,
+            Files::Main(main) => &main.addresses,
+        }
+    }
+
+    fn is_live(self, view: &View) -> bool {
+        matches!(self, Files::Main(_)) || view.is_live()
+    }
+
+    /// What the organisation row of a view has, if it needs one.
+    fn organisation(self, view: &View) -> Organisation {
+        match self {
+            Files::Pair(_) => view
+                .follower
+                .as_ref()
+                .map_or(Organisation::None, |follower| {
+                    Organisation::Row([follower.organisation.clone(), follower.department.clone()])
+                }),
+            Files::Main(main) => joined_key(view).map_or(Organisation::None, |key| {
+                let mut rows = main.organisations.iter();
+                let row =
+                    rows.find(|row| row.postcode_type == view.postcode_type && row.key == key);
+                row.map_or(Organisation::Missing, |row| {
+                    Organisation::Row([row.name.clone(), row.department.clone()])
+                })
+            }),
+        }
+    }
+}
+
+/// The organisation of a view.
+enum Organisation {
+    None,
+    Missing,
+    Row([String; 2]),
+}
+
+/// A live view of a code.
+struct Packed<'a> {
+    number: u64,
+    view: &'a View,
+    organisation: Organisation,
+}
+
+/// The live views of a code.
+fn packed<'a>(files: Files<'a>, code: &[u8]) -> Vec<Packed<'a>> {
     let code = String::from_utf8_lossy(code);
     (1..)
-        .zip(&pair.views)
-        .filter(|(_, view)| view.is_live() && view.outward == code.trim_end())
+        .zip(files.views())
+        .filter(|(_, view)| files.is_live(view) && view.outward == code.trim_end())
+        .map(|(number, view)| Packed {
+            number,
+            view,
+            organisation: files.organisation(view),
+        })
         .collect()
 }
 
 /// The 8 or 9 of a view: its number and detail.
-fn verdict(view: &View, rows: &BTreeMap<(u8, u32), &TableRow>) -> Option<(u8, u64)> {
+fn verdict(packed: &Packed, rows: &BTreeMap<(u8, u32), &TableRow>) -> Option<(u8, u64)> {
+    let view = packed.view;
     if view.sub_building > 0 && view.building == 0 && view.building_number == 0 {
         return Some((8, 1));
     }
@@ -58,7 +146,7 @@ fn verdict(view: &View, rows: &BTreeMap<(u8, u32), &TableRow>) -> Option<(u8, u6
             return Some((9, detail));
         }
     }
-    None
+    matches!(packed.organisation, Organisation::Missing).then_some((9, 8))
 }
 
 fn row_bytes(row_type: u8, texts: &[String]) -> Vec<u8> {
@@ -71,20 +159,16 @@ fn row_bytes(row_type: u8, texts: &[String]) -> Vec<u8> {
 }
 
 /// The types and keys that these views use, each once, by type then key.
-fn used_rows(views: &[(u64, &View)]) -> BTreeSet<(u8, u32)> {
+fn used_rows(views: &[Packed]) -> BTreeSet<(u8, u32)> {
     let names = |view: &View| ROW_TYPES.into_iter().zip(view.keys());
-    let all = views.iter().flat_map(|(_, view)| names(view));
+    let all = views.iter().flat_map(|packed| names(packed.view));
     all.filter(|(_, key)| *key > 0).collect()
 }
 
 /// The pack that document 01 asks for: the used table rows once each by type
-/// then key, one row of type 6 for each packed view with a follower, the points
-/// and the trailer.
-fn expected_pack(
-    views: &[(u64, &View)],
-    rows: &BTreeMap<(u8, u32), &TableRow>,
-    code: &[u8],
-) -> Vec<u8> {
+/// then key, one row of type 6 for each packed view with an organisation, the
+/// points and the trailer.
+fn expected_pack(views: &[Packed], rows: &BTreeMap<(u8, u32), &TableRow>, code: &[u8]) -> Vec<u8> {
     let mut pack = Vec::new();
     let mut offsets = BTreeMap::new();
     for name in used_rows(views) {
@@ -93,15 +177,14 @@ fn expected_pack(
     }
     let mut points = Vec::new();
     let mut row_count = offsets.len() as u32;
-    for (_, view) in views {
+    for packed in views {
         let mut organisation = u32::MAX;
-        if let Some(follower) = &view.follower {
+        if let Organisation::Row(texts) = &packed.organisation {
             organisation = pack.len() as u32;
             row_count += 1;
-            let texts = [follower.organisation.clone(), follower.department.clone()];
-            pack.extend(row_bytes(6, &texts));
+            pack.extend(row_bytes(6, texts));
         }
-        points.extend(point_bytes(view, code, &offsets, organisation));
+        points.extend(point_bytes(packed.view, code, &offsets, organisation));
     }
     let points_start = pack.len() as u32;
     let length = points_start + points.len() as u32 + 21;
@@ -147,8 +230,8 @@ fn lent<T>(rng: &Rng, length: usize, call: impl Fn(&mut [u8]) -> T) -> (T, Vec<u
 
 /// Files and pack give the same answer and the same buffer, for buffers of
 /// every length around the one needed.
-fn same_label(rng: &Rng, pair: &Pair, code: &[u8], pack: &[u8], k: u64, seen: &mut Seen) {
-    let from_files = |out: &mut [u8]| code_label(&pair.table, &pair.points, code, k, out);
+fn same_label(rng: &Rng, files: Files, code: &[u8], pack: &[u8], k: u64, seen: &mut Seen) {
+    let from_files = |out: &mut [u8]| files.code_label(code, k, out);
     let from_pack = |out: &mut [u8]| pack_label(pack, k, out);
     let needed = from_files(&mut [0; 499]).unwrap_or(0);
     for length in [0, needed.saturating_sub(1), needed, needed + 1, 499] {
@@ -181,8 +264,8 @@ fn same_label(rng: &Rng, pair: &Pair, code: &[u8], pack: &[u8], k: u64, seen: &m
 }
 
 /// A pack that has to build.
-fn check_pack(rng: &Rng, pair: &Pair, code: &[u8], expected: &[u8], seen: &mut Seen) {
-    let into = |out: &mut [u8]| build(&pair.table, &pair.points, code, out);
+fn check_pack(rng: &Rng, files: Files, code: &[u8], expected: &[u8], seen: &mut Seen) {
+    let into = |out: &mut [u8]| files.build(code, out);
     let needed = expected.len();
     for length in [0, needed - 1] {
         let room = Refusal {
@@ -202,34 +285,33 @@ fn check_pack(rng: &Rng, pair: &Pair, code: &[u8], expected: &[u8], seen: &mut S
         assert_eq!(buffer[needed..], lent(rng, length, |_| ()).1[needed..]);
     }
     let count = open(expected).expect("a pack that was built opens") as u64;
-    assert_eq!(live(&pair.points, code), Ok(count as usize));
+    assert_eq!(files.live(code), Ok(count as usize));
     for k in (0..=count + 1).chain([u64::MAX, 1 << 32, (1 << 32) + 1]) {
-        same_label(rng, pair, code, expected, k, seen);
+        same_label(rng, files, code, expected, k, seen);
     }
     seen.packs += 1;
     seen.empty_packs += usize::from(count == 0);
     seen.points += count as usize;
 }
 
-fn check_code(rng: &Rng, pair: &Pair, code: &[u8], seen: &mut Seen) {
+fn check_code(rng: &Rng, files: Files, code: &[u8], seen: &mut Seen) {
     // of two rows for a key the map keeps the last
-    let mut rows: BTreeMap<(u8, u32), &TableRow> = pair
-        .rows
+    let mut rows: BTreeMap<(u8, u32), &TableRow> = files
+        .rows()
         .iter()
         .map(|row| ((row.row_type, row.key), row))
         .collect();
-    seen.respelt += pair.rows.len() - rows.len();
+    seen.respelt += files.rows().len() - rows.len();
     let keys = rows.len();
     rows.retain(|_, row| row.is_in_force());
     seen.ended += keys - rows.len();
-    let views = packed(pair, code);
+    let views = packed(files, code);
     let refused = views
         .iter()
-        .find_map(|(number, view)| verdict(view, &rows).map(|verdict| (*number, verdict)));
+        .find_map(|packed| verdict(packed, &rows).map(|verdict| (packed.number, verdict)));
     match refused {
         Some((second, (number, detail))) => {
-            let (answer, buffer) =
-                lent(rng, 100, |out| build(&pair.table, &pair.points, code, out));
+            let (answer, buffer) = lent(rng, 100, |out| files.build(code, out));
             assert_eq!(
                 answer,
                 Err(Refusal {
@@ -247,43 +329,66 @@ fn check_code(rng: &Rng, pair: &Pair, code: &[u8], seen: &mut Seen) {
         }
         None => {
             let expected = expected_pack(&views, &rows, code);
-            seen.organisation_rows += views.iter().filter(|(_, v)| v.follower.is_some()).count();
-            check_pack(rng, pair, code, &expected, seen);
+            let has_row = |packed: &&Packed| matches!(packed.organisation, Organisation::Row(_));
+            seen.organisation_rows += views.iter().filter(has_row).count();
+            check_pack(rng, files, code, &expected, seen);
         }
     }
 }
 
-#[test]
-fn packs_answer_what_their_files_answer() {
-    let mut seen = Seen::default();
-    for seed in 0..PAIRS {
-        let rng = &mut Rng::new(seed);
-        let most_records = *rng.pick(&[2, 5, 12, 30, 60]);
-        let pair = pair(rng, most_records);
-        let mut codes: BTreeSet<Vec<u8>> = pair
-            .views
-            .iter()
-            .map(|view| format!("{:4}", view.outward).into_bytes())
-            .collect();
-        codes.insert(outward(rng));
-        for code in codes {
-            check_code(rng, &pair, &code, &mut seen);
-        }
+/// Every code of the files, and one that is perhaps none of theirs.
+fn check_files(rng: &mut Rng, files: Files, seen: &mut Seen) {
+    let mut codes: BTreeSet<Vec<u8>> = files
+        .views()
+        .iter()
+        .map(|view| format!("{:4}", view.outward).into_bytes())
+        .collect();
+    codes.insert(outward(rng));
+    for code in codes {
+        check_code(rng, files, &code, seen);
     }
+}
+
+/// Fails where too little was seen; fields 1 to so many have to be missing.
+fn assert_seen(seen: &Seen, fields: usize) {
     println!("{seen:?}");
     assert!(seen.packs > 4_000 && seen.empty_packs > 100 && seen.points > 4_000);
     assert!(seen.organisation_rows > 1_000);
-    assert!(seen.respelt > 1_000 && seen.ended > 1_000);
     assert!(seen.forbidden[1..].iter().all(|count| *count > 0));
-    assert!(seen.missing[1..].iter().all(|count| *count > 0));
+    assert!(seen.missing[1..=fields].iter().all(|count| *count > 0));
     assert!(seen.labels > 10_000 && seen.refused_labels > 10_000);
+}
+
+#[test]
+fn packs_answer_what_their_pairs_answer() {
+    let mut seen = Seen::default();
+    for seed in 0..ROUNDS {
+        let rng = &mut Rng::new(seed);
+        let most_records = *rng.pick(&[2, 5, 12, 30, 60]);
+        let pair = pair(rng, most_records);
+        check_files(rng, Files::Pair(&pair), &mut seen);
+    }
+    assert_seen(&seen, 7);
+    assert!(seen.respelt > 1_000 && seen.ended > 1_000);
+}
+
+#[test]
+fn packs_answer_what_their_mainfile_sets_answer() {
+    let mut seen = Seen::default();
+    for seed in 0..ROUNDS {
+        let rng = &mut Rng::new(seed);
+        let most_records = *rng.pick(&[2, 5, 12, 30]);
+        let set = main_set(rng, most_records);
+        check_files(rng, Files::Main(&set), &mut seen);
+    }
+    assert_seen(&seen, 8);
 }
 
 #[test]
 fn a_code_without_live_views_gives_21_bytes() {
     let pair = paper::make::worked_pair();
     let mut pack = [7; 30];
-    assert_eq!(build(&pair.table, &pair.points, b"DN55", &mut pack), Ok(21));
+    assert_eq!(Files::Pair(&pair).build(b"DN55", &mut pack), Ok(21));
     assert_eq!(&pack[..21], b"\0\0\0\0\0\0\0\0\0\0\0\0DN55\0\0\0\x15\x01");
     assert_eq!(pack[21..], [7; 9]);
     assert_eq!(open(&pack[..21]), Ok(0));

@@ -7,4 +7,5 @@ pub mod leaves;
 pub mod packs;
 pub mod rooms;
 pub mod runs;
-pub mod samples;
+
+pub use paper::make::samples;

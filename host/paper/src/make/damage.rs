@@ -1,4 +1,5 @@
-use super::{exact_pair, padded, point_file_of, table_file_of, Follower, Rng, View};
+use super::records::{Frame, MAIN_FRAMES, POINT_FRAME, TABLE_FRAME};
+use super::{exact_pair, exact_set, padded, point_file_of, Follower, Rng, View};
 use crate::refusal::Refusal;
 
 /// Where in a file the damage is done.
@@ -80,47 +81,65 @@ pub fn table_breaks(row_type: u8) -> Vec<Break> {
         _ => (24, 30),
     };
     let mut breaks = table_front_breaks();
-    breaks.push(Break::new(start, &padded("", width), start + 1));
-    breaks.extend(text_breaks(start, width));
+    breaks.extend(filled_breaks(start, width));
     if row_type == 1 {
-        breaks.extend(text_breaks(99, 35));
-        breaks.extend(double_dependent_breaks());
+        breaks.extend(dependent_breaks(99));
     }
     breaks
 }
 
 /// Changes in front of a table record's texts.
 fn table_front_breaks() -> Vec<Break> {
-    vec![
-        Break::new(0, b"0", 1),
-        Break::new(0, b"6", 1),
-        Break::new(0, b"A", 1),
-        Break::new(1, b"00000000", 2),
-        Break::new(1, b" ", 2),
-        Break::new(8, b"X", 9),
+    let mut breaks = one_byte_breaks(0, b"06A");
+    breaks.extend(key_breaks(1, 8));
+    breaks.extend([
         Break::new(9, b"-", 10),
         Break::new(16, b" ", 17),
         Break::new(17, b":", 18),
         Break::new(22, b"/", 23),
-        Break::new(23, b"A", 24),
-        Break::new(23, b"i", 24),
-        Break::new(23, b"\0", 24),
+    ]);
+    breaks.extend(one_byte_breaks(23, b"Ai\0"));
+    breaks
+}
+
+/// Changes of a table key.
+fn key_breaks(start: usize, width: usize) -> Vec<Break> {
+    vec![
+        Break::new(start, &vec![b'0'; width], start + 1),
+        Break::new(start, b" ", start + 1),
+        Break::new(start + width - 1, b"X", start + width),
     ]
 }
 
-/// Changes in a locality's dependent and double dependent locality together.
-fn double_dependent_breaks() -> Vec<Break> {
-    [
-        ("", "X", 135),
-        ("", "XYz", 135),
-        ("X", "XYz", 137),
-        ("X", " Y", 135),
-    ]
-    .map(|(dependent, double, fault)| {
+/// Changes of a field of one byte into each of these.
+fn one_byte_breaks(at: usize, bytes: &[u8]) -> Vec<Break> {
+    let breaks = bytes.iter().map(|byte| Break::new(at, &[*byte], at + 1));
+    breaks.collect()
+}
+
+/// Changes in a locality's dependent locality and in the double dependent one
+/// behind it, also together.
+fn dependent_breaks(start: usize) -> Vec<Break> {
+    let mut breaks = text_breaks(start, 35);
+    let double_start = start + 35;
+    let together = [
+        ("", "X", 1),
+        ("", "XYz", 1),
+        ("X", "XYz", 3),
+        ("X", " Y", 1),
+    ];
+    breaks.extend(together.map(|(dependent, double, fault)| {
         let bytes = [padded(dependent, 35), padded(double, 35)].concat();
-        Break::new(99, &bytes, fault)
-    })
-    .to_vec()
+        Break::new(start, &bytes, double_start + fault)
+    }));
+    breaks
+}
+
+/// Changes that make a text malformed that may not be blank.
+fn filled_breaks(start: usize, width: usize) -> Vec<Break> {
+    let mut breaks = vec![Break::new(start, &padded("", width), start + 1)];
+    breaks.extend(text_breaks(start, width));
+    breaks
 }
 
 /// Changes that make a text malformed, whether or not it may be blank.
@@ -147,8 +166,7 @@ pub fn point_breaks(record_type: u8) -> Vec<Break> {
     match record_type {
         1 => breaks.extend(view_breaks()),
         2 => {
-            breaks.push(Break::new(42, &padded("", 60), 43));
-            breaks.extend(text_breaks(42, 60));
+            breaks.extend(filled_breaks(42, 60));
             breaks.extend(text_breaks(102, 60));
         }
         _ => {
@@ -161,37 +179,45 @@ pub fn point_breaks(record_type: u8) -> Vec<Break> {
 
 /// Changes in the first 42 bytes of a point record.
 fn front_breaks() -> Vec<Break> {
-    let mut breaks = [digit_breaks(0, 8), digit_breaks(8, 6)].concat();
+    [
+        digit_breaks(0, 8),
+        digit_breaks(8, 6),
+        postcode_breaks(14),
+        suffix_breaks(21),
+        one_byte_breaks(23, b"X "),
+        digit_breaks(24, 8),
+        digit_breaks(32, 8),
+        one_byte_breaks(40, b" A"),
+        one_byte_breaks(41, b"04"),
+    ]
+    .concat()
+}
+
+/// Changes of an outward code and the inward code behind it.
+fn postcode_breaks(start: usize) -> Vec<Break> {
     let codes: [(&[u8], usize); 9] = [
-        (b"QA1 ", 15),
-        (b"AI1 ", 16),
-        (b"W1Z ", 17),
-        (b"EC1L", 18),
-        (b"1AB ", 15),
-        (b"ABC ", 15),
-        (b" AB1", 15),
-        (b"ab1 ", 15),
-        (b"A1 A", 15),
+        (b"QA1 ", 1),
+        (b"AI1 ", 2),
+        (b"W1Z ", 3),
+        (b"EC1L", 4),
+        (b"1AB ", 1),
+        (b"ABC ", 1),
+        (b" AB1", 1),
+        (b"ab1 ", 1),
+        (b"A1 A", 1),
     ];
-    breaks.extend(codes.map(|(code, fault)| Break::new(14, code, fault)));
-    breaks.extend([
-        Break::new(18, b"A", 19),
-        Break::new(19, b"C", 20),
-        Break::new(20, b"V", 21),
-        Break::new(20, b"1", 21),
-        Break::new(21, b"A", 22),
-        Break::new(22, b"1", 23),
-        Break::new(22, b"a", 23),
-        Break::new(23, b"X", 24),
-        Break::new(23, b" ", 24),
-    ]);
-    breaks.extend([digit_breaks(24, 8), digit_breaks(32, 8)].concat());
-    breaks.extend([
-        Break::new(40, b" ", 41),
-        Break::new(40, b"A", 41),
-        Break::new(41, b"0", 42),
-        Break::new(41, b"4", 42),
-    ]);
+    let mut breaks: Vec<Break> = codes
+        .map(|(code, fault)| Break::new(start, code, start + fault))
+        .to_vec();
+    breaks.extend(one_byte_breaks(start + 4, b"A"));
+    breaks.extend(one_byte_breaks(start + 5, b"C"));
+    breaks.extend(one_byte_breaks(start + 6, b"V1"));
+    breaks
+}
+
+fn suffix_breaks(start: usize) -> Vec<Break> {
+    let mut breaks = one_byte_breaks(start, b"A");
+    breaks.extend(one_byte_breaks(start + 1, b"1a"));
     breaks
 }
 
@@ -209,18 +235,80 @@ fn view_breaks() -> Vec<Break> {
         (102, 4),
         (114, 2),
     ];
-    let mut breaks: Vec<Break> = digits
-        .into_iter()
-        .flat_map(|(start, width)| digit_breaks(start, width))
-        .collect();
+    let mut breaks = all_digit_breaks(&digits);
     breaks.extend(text_breaks(107, 6));
-    breaks.extend([
-        Break::new(106, b"N", 107),
-        Break::new(106, b"y", 107),
-        Break::new(113, b"N", 114),
-        Break::new(113, b"\0", 114),
-    ]);
+    breaks.extend(one_byte_breaks(106, b"Ny"));
+    breaks.extend(one_byte_breaks(113, b"N\0"));
     breaks
+}
+
+/// Changes of numeric fields, given as start and width.
+fn all_digit_breaks(fields: &[(usize, usize)]) -> Vec<Break> {
+    let breaks = fields
+        .iter()
+        .map(|(start, width)| digit_breaks(*start, *width));
+    breaks.collect::<Vec<_>>().concat()
+}
+
+/// Changes that make a record of a Mainfile set's file (1 to 7) malformed, in
+/// every field that is read.
+pub fn main_breaks(file: u8, record: &[u8]) -> Vec<Break> {
+    match file {
+        1 => [
+            key_breaks(0, 6),
+            filled_breaks(51, 30),
+            dependent_breaks(81),
+        ]
+        .concat(),
+        2 => [key_breaks(0, 8), filled_breaks(8, 60)].concat(),
+        3 => [key_breaks(0, 4), filled_breaks(4, 20)].concat(),
+        4 => [key_breaks(0, 8), filled_breaks(8, 50)].concat(),
+        5 => [key_breaks(0, 8), filled_breaks(8, 30)].concat(),
+        6 => organisation_breaks(record[8] == b'S'),
+        _ => address_breaks(),
+    }
+}
+
+/// Changes of an organisation row: a small user's needs a name.
+fn organisation_breaks(small: bool) -> Vec<Break> {
+    let name = if small {
+        filled_breaks(9, 60)
+    } else {
+        text_breaks(9, 60)
+    };
+    [
+        key_breaks(0, 8),
+        one_byte_breaks(8, b"X s\0"),
+        name,
+        text_breaks(69, 60),
+    ]
+    .concat()
+}
+
+fn address_breaks() -> Vec<Break> {
+    let digits = [
+        (7, 8),
+        (15, 6),
+        (21, 8),
+        (29, 4),
+        (33, 8),
+        (41, 4),
+        (45, 4),
+        (49, 8),
+        (57, 8),
+        (65, 4),
+        (69, 8),
+    ];
+    [
+        postcode_breaks(0),
+        all_digit_breaks(&digits),
+        one_byte_breaks(77, b"X s"),
+        one_byte_breaks(78, b"Ny"),
+        suffix_breaks(79),
+        one_byte_breaks(81, b"N\0"),
+        text_breaks(82, 6),
+    ]
+    .concat()
 }
 
 fn digit_breaks(start: usize, width: usize) -> Vec<Break> {
@@ -236,30 +324,81 @@ fn digit_breaks(start: usize, width: usize) -> Vec<Break> {
 /// record, 3 at the last.
 pub fn damaged_table(rng: &mut Rng, number: u8, place: Place) -> Option<Damaged> {
     let size = 7 + rng.below(20);
-    let mut records: Vec<Vec<u8>> = exact_pair(rng, size, 2)
-        .rows
-        .iter()
-        .map(|row| row.record())
-        .collect();
-    let at = place.record(rng, size);
-    match (number, place) {
-        (1..=3, _) => return damaged_frame(rng, table_file_of(&records), 1, number, place),
-        (4 | 5, Place::First | Place::Last) | (5, Place::Second) => return None,
-        (4, _) => {
-            let breaks = table_breaks(records[at - 2][0] - b'0');
-            let byte = broken(rng, &mut records[at - 2], &breaks);
-            return Some(Damaged {
-                file: table_file_of(&records),
-                refusal: Refusal::malformed(1, at, byte),
-            });
+    let rows = exact_pair(rng, size, 2).rows;
+    let records = rows.iter().map(|row| row.record()).collect();
+    Kind::Table.damaged(rng, records, number, place)
+}
+
+/// The file of a Mainfile set (1 to 7) that has to give this refusal (1 to 5) at
+/// that place; none where the refusal can't stand there.
+pub fn damaged_main(rng: &mut Rng, file: u8, number: u8, place: Place) -> Option<Damaged> {
+    let kind = Kind::Main(file);
+    let size = 7 + rng.below(20);
+    let made = &exact_set(rng, size).files[usize::from(file) - 1];
+    let records = made.chunks(kind.frame().record).map(<[u8]>::to_vec);
+    let records = records.skip(1).take(size - 2).collect();
+    kind.damaged(rng, records, number, place)
+}
+
+/// A kind of file whose records stand each for itself.
+#[derive(Clone, Copy)]
+enum Kind {
+    Table,
+    /// A file of a Mainfile set, 1 to 7.
+    Main(u8),
+}
+
+impl Kind {
+    fn frame(self) -> &'static Frame {
+        match self {
+            Kind::Table => &TABLE_FRAME,
+            Kind::Main(file) => &MAIN_FRAMES[usize::from(file) - 1],
         }
-        (5, _) => records[at - 2] = not_above(rng, &records[..at - 2]),
-        _ => return None,
     }
-    Some(Damaged {
-        file: table_file_of(&records),
-        refusal: Refusal::of_file(1, number, at as u64),
-    })
+
+    fn breaks(self, record: &[u8]) -> Vec<Break> {
+        match self {
+            Kind::Table => table_breaks(record[0] - b'0'),
+            Kind::Main(file) => main_breaks(file, record),
+        }
+    }
+
+    /// A record that is not above the last of these.
+    fn not_above(self, rng: &mut Rng, before: &[Vec<u8>]) -> Vec<u8> {
+        match self {
+            Kind::Table => not_above(rng, before),
+            Kind::Main(file) => not_above_in_main(rng, file, before),
+        }
+    }
+
+    /// The file of these records with the damage of that refusal at that place.
+    fn damaged(
+        self,
+        rng: &mut Rng,
+        mut records: Vec<Vec<u8>>,
+        number: u8,
+        place: Place,
+    ) -> Option<Damaged> {
+        let frame = self.frame();
+        let at = place.record(rng, records.len() + 2);
+        let refusal = match (number, place) {
+            (1..=3, _) => return damaged_frame(rng, frame, &records, number, place),
+            (4 | 5, Place::First | Place::Last) | (5, Place::Second) => return None,
+            (4, _) => {
+                let breaks = self.breaks(&records[at - 2]);
+                Refusal::malformed(frame.file, at, broken(rng, &mut records[at - 2], &breaks))
+            }
+            (5, _) => {
+                records[at - 2] = self.not_above(rng, &records[..at - 2]);
+                Refusal::of_file(frame.file, 5, at as u64)
+            }
+            _ => return None,
+        };
+        Some(Damaged {
+            file: frame.around(&records),
+            refusal,
+        })
+    }
 }
 
 /// A table record that is not above the last of these: one of them, or the last
@@ -275,16 +414,35 @@ fn not_above(rng: &mut Rng, before: &[Vec<u8>]) -> Vec<u8> {
     record
 }
 
+/// A record of a Mainfile set's file that is not above the last of these: one of
+/// them, or the last in other words with the same keys, or with a lower one.
+fn not_above_in_main(rng: &mut Rng, file: u8, before: &[Vec<u8>]) -> Vec<u8> {
+    let mut record = before[before.len() - 1].clone();
+    let key = match file {
+        1 => 0..6,
+        3 => 0..4,
+        7 => 7..15,
+        _ => 0..8,
+    };
+    match rng.below(3) {
+        0 => return rng.pick(before).clone(),
+        1 if file == 7 => record[77] ^= b'S' ^ b'L',
+        1 => record[[51, 8, 4, 8, 8, 9][usize::from(file) - 1]] = b'X',
+        _ => {
+            record[key.clone()].fill(b'0');
+            record[key.end - 1] = b'1';
+        }
+    }
+    record
+}
+
 /// A point file that has to give this refusal (1 to 6) at that place; none
 /// where the refusal can't stand there.
 pub fn damaged_points(rng: &mut Rng, number: u8, place: Place) -> Option<Damaged> {
     let size = 14 + rng.below(20);
     let views = exact_pair(rng, 20, size).views;
     match (number, place) {
-        (1..=3, _) => {
-            let file = point_file_of(&records_of(&views));
-            damaged_frame(rng, file, 2, number, place)
-        }
+        (1..=3, _) => damaged_frame(rng, &POINT_FRAME, &records_of(&views), number, place),
         (_, Place::First | Place::Last) | (5, Place::Second) => None,
         (4, _) => Some(malformed_point(rng, &views, place)),
         (5, _) => Some(misplaced_view(rng, views, place)),
@@ -294,83 +452,107 @@ pub fn damaged_points(rng: &mut Rng, number: u8, place: Place) -> Option<Damaged
     }
 }
 
-/// Refusals 1 to 3 of an accepted file.
+/// Refusals 1 to 3 of a file with these records.
 fn damaged_frame(
     rng: &mut Rng,
-    mut file: Vec<u8>,
-    blamed: u8,
+    frame: &Frame,
+    records: &[Vec<u8>],
     number: u8,
     place: Place,
 ) -> Option<Damaged> {
-    let (width, identifier) = if blamed == 1 { (169, 9) } else { (168, 14) };
-    let records = file.len() / width;
+    let mut file = frame.around(records);
+    let count = records.len() + 2;
     let detail = match (number, place) {
         (1, Place::First) => {
-            damage_length(rng, &mut file, width);
+            damage_length(rng, frame, &mut file);
             0
         }
         (2, Place::First) => {
-            damage_header(rng, &mut file[..width], identifier);
+            damage_header(rng, frame, &mut file[..frame.record]);
             1
         }
         (3, Place::Last) => {
-            let start = file.len() - width;
-            damage_trailer(rng, &mut file[start..], identifier, records);
-            records
+            let start = file.len() - frame.record;
+            damage_trailer(rng, frame, &mut file[start..], count);
+            count
         }
         _ => return None,
     };
     Some(Damaged {
         file,
-        refusal: Refusal::of_file(blamed, number, detail as u64),
+        refusal: Refusal::of_file(frame.file, number, detail as u64),
     })
 }
 
-/// A length that isn't 2 to 20,000 whole records.
-fn damage_length(rng: &mut Rng, file: &mut Vec<u8>, width: usize) {
-    let length = match rng.below(8) {
+/// A length that isn't 2 whole records up to the most. Too many of a Mainfile
+/// set are rare, since they take 100 megabytes.
+fn damage_length(rng: &mut Rng, frame: &Frame, file: &mut Vec<u8>) {
+    let (width, most) = (frame.record, frame.most_records);
+    let kinds = if most > 20_000 && !rng.one_in(40) {
+        6
+    } else {
+        8
+    };
+    let length = match rng.below(kinds) {
         0 => 0,
         1 => width,
         2 => file.len() + 1,
         3 => file.len() - 1 - rng.below(width - 1),
         4 => 2 * width - 1,
-        5 => 20_001 * width,
-        6 => 20_000 * width + 1,
-        _ => rng.below(width),
+        5 => rng.below(width),
+        6 => (most + 1) * width,
+        _ => most * width + 1,
     };
     file.resize(length, b' ');
 }
 
-/// An identifier that is neither all zero nor all spaces, or another name.
-fn damage_header(rng: &mut Rng, header: &mut [u8], identifier: usize) {
+/// An identifier that is neither all zero nor all spaces, digits that aren't all
+/// 0, or another name.
+fn damage_header(rng: &mut Rng, frame: &Frame, header: &mut [u8]) {
+    let name = frame.front();
     match rng.below(4) {
-        0 => header[rng.below(identifier)] = b' ',
-        1 => header[..identifier].fill(255),
-        2 => header[identifier + rng.below(8)] = *rng.pick(b"X0c \0"),
-        _ => header[identifier + 7] = *rng.pick(b"034"),
+        0 => damage_front(rng, frame, header),
+        1 => header[..name].fill(255),
+        2 => {
+            let at = name + rng.below(8);
+            header[at] = match *rng.pick(b"X0c \0") {
+                same if same == header[at] => b'X',
+                other => other,
+            };
+        }
+        _ => header[name + 7] = *rng.pick(b"034"),
     }
 }
 
-/// An identifier that is neither all 255 nor all spaces, or a wrong count; one
-/// of these would be right if a byte above the digits counted as a digit.
-fn damage_trailer(rng: &mut Rng, trailer: &mut [u8], identifier: usize, records: usize) {
+/// One byte of an identifier, or a digit behind it; or all digits, as if the
+/// file had no such digits.
+fn damage_front(rng: &mut Rng, frame: &Frame, record: &mut [u8]) {
+    let digits = frame.identifier..frame.front();
+    match rng.below(3) {
+        0 if frame.identifier > 0 => record[rng.below(frame.identifier)] = b' ',
+        1 if frame.digits > 0 => record[digits].fill(*rng.pick(b" \0\xff1")),
+        _ if frame.digits > 0 => {
+            record[digits.start + rng.below(frame.digits)] = *rng.pick(b" \x00A18");
+        }
+        _ => record[rng.below(frame.identifier)] = b' ',
+    }
+}
+
+/// An identifier that is neither all 255 nor all spaces, digits that aren't all
+/// 9, or a wrong count; one of these would be right if a byte above the digits
+/// counted as a digit.
+fn damage_trailer(rng: &mut Rng, frame: &Frame, trailer: &mut [u8], records: usize) {
     let last = char::from(b'0' + records.clamp(10, 70) as u8);
     let count = match rng.below(7) {
-        0 => {
-            trailer[rng.below(identifier)] = b' ';
-            return;
-        }
-        1 => {
-            trailer[..identifier].fill(0);
-            return;
-        }
+        0 => return damage_front(rng, frame, trailer),
+        1 => return trailer[..frame.front()].fill(0),
         2 => format!("{:08}", records + 1),
         3 => format!("{:08}", records - 2),
         4 => format!("{records:8}"),
         5 => format!("0000000{last}"),
         _ => format!("{records:07} "),
     };
-    trailer[identifier..identifier + 8].copy_from_slice(count.as_bytes());
+    trailer[frame.front()..][..8].copy_from_slice(count.as_bytes());
 }
 
 fn records_of(views: &[View]) -> Vec<Vec<u8>> {

@@ -1,10 +1,11 @@
 //! Makers of test data: single records and whole files from plain structs,
-//! random accepted pairs, damaged files, packs, outward codes and the guide's
-//! examples. All are repeatable: the same seed gives the same bytes.
+//! random accepted pairs and Mainfile sets, damaged files, packs, outward codes,
+//! the guide's examples and the samples. All are repeatable: the same seed gives
+//! the same bytes.
 //!
 //! Records are written here field by field, in the order and with the widths of
-//! document 01, and not by the places that the reading uses, so that a wrong
-//! width on either side is found.
+//! document 01 or of the guide's chapter 5, and not by the places that the
+//! reading uses, so that a wrong width on either side is found.
 
 mod codes;
 mod damage;
@@ -13,17 +14,22 @@ mod packs;
 mod pairs;
 mod records;
 mod rng;
+pub mod samples;
+mod sets;
 mod texts;
 
 pub use codes::{bad_outward, inward, outward};
 pub use damage::{
-    damaged_points, damaged_table, point_breaks, scratch, table_breaks, Break, Damaged, Place,
+    damaged_main, damaged_points, damaged_table, main_breaks, point_breaks, scratch, table_breaks,
+    Break, Damaged, Place,
 };
 pub use packs::{
     damaged_packs, full_draft, pack_draft, worked_pack, DamagedPack, PackDraft, PackPoint, PackRow,
 };
 pub use pairs::{exact_pair, pair, worked_pair, Pair};
 pub use records::{
-    padded, point_file, point_file_of, table_file, table_file_of, Follower, TableRow, View,
+    main_file_of, padded, point_file, point_file_of, table_file, table_file_of, Follower,
+    Organisation, TableRow, View,
 };
 pub use rng::Rng;
+pub use sets::{exact_set, joined_key, long_file, long_set, main_set, set_of_pair, MainSet};

@@ -131,7 +131,7 @@ fn row(rng: &mut Rng, highest_key: u32) -> TableRow {
     row_of(rng, row_type, key)
 }
 
-fn row_of(rng: &mut Rng, row_type: u8, key: u32) -> TableRow {
+pub(super) fn row_of(rng: &mut Rng, row_type: u8, key: u32) -> TableRow {
     let row = match row_type {
         1 => locality(rng, key),
         2 => TableRow::thoroughfare(key, &place(rng, 60)),
@@ -220,7 +220,7 @@ fn locality(rng: &mut Rng, key: u32) -> TableRow {
 /// A random view of these rows. Once in so many times its keys are chosen
 /// without regard to what may stand together and to which rows there are; 0 is
 /// never.
-fn view(rng: &mut Rng, rows: &[TableRow], one_fault_in: usize) -> View {
+pub(super) fn view(rng: &mut Rng, rows: &[TableRow], one_fault_in: usize) -> View {
     let careless = rng.one_in(one_fault_in);
     let mut view = View {
         date: rng.within(20_110_901, 20_110_903),
@@ -393,12 +393,12 @@ fn change_unread_points(rng: &mut Rng, pair: &mut Pair) {
     }
 }
 
-fn fill(rng: &mut Rng, bytes: &mut [u8]) {
+pub(super) fn fill(rng: &mut Rng, bytes: &mut [u8]) {
     for byte in bytes {
         *byte = rng.byte();
     }
 }
 
-fn text(bytes: Vec<u8>) -> String {
+pub(super) fn text(bytes: Vec<u8>) -> String {
     String::from_utf8_lossy(&bytes).trim_end().to_string()
 }

@@ -61,6 +61,20 @@ impl TableRow {
         record.number(self.date, 8);
         record.number(self.time, 6);
         record.bytes(&[self.letter]);
+        self.put_texts(&mut record);
+        record.filled_to(169)
+    }
+
+    /// The record in a Mainfile set's file of this type.
+    pub fn main_record(&self) -> Vec<u8> {
+        let mut record = Record::default();
+        record.number(self.key, key_width(self.row_type));
+        self.put_texts(&mut record);
+        record.filled_to(MAIN_FRAMES[usize::from(self.row_type) - 1].record)
+    }
+
+    /// The texts, a locality's behind its filler.
+    fn put_texts(&self, record: &mut Record) {
         let widths: &[usize] = match self.row_type {
             1 => &[30, 35, 35],
             2 => &[60],
@@ -74,7 +88,51 @@ impl TableRow {
         for (text, width) in self.texts.iter().zip(widths) {
             record.text(text, *width);
         }
-        record.filled_to(169)
+    }
+}
+
+/// How many digits the key of a row has in a Mainfile set.
+fn key_width(row_type: u8) -> usize {
+    match row_type {
+        1 => 6,
+        3 => 4,
+        _ => 8,
+    }
+}
+
+/// The highest key of a row in a Mainfile set.
+pub fn highest_main_key(row_type: u8) -> u32 {
+    10_u32.pow(key_width(row_type) as u32) - 1
+}
+
+/// A row of a Mainfile set's organisation file.
+#[derive(Clone, Debug, PartialEq, Eq)]
+pub struct Organisation {
+    /// S small user, L large user.
+    pub postcode_type: u8,
+    pub key: u32,
+    pub name: String,
+    pub department: String,
+}
+
+impl Organisation {
+    pub fn new(postcode_type: u8, key: u32, name: &str, department: &str) -> Organisation {
+        Organisation {
+            postcode_type,
+            key,
+            name: name.to_string(),
+            department: department.to_string(),
+        }
+    }
+
+    /// The record, 153 bytes.
+    pub fn record(&self) -> Vec<u8> {
+        let mut record = Record::default();
+        record.number(self.key, 8);
+        record.bytes(&[self.postcode_type]);
+        record.text(&self.name, 60);
+        record.text(&self.department, 60);
+        record.filled_to(153)
     }
 }
 
@@ -233,6 +291,29 @@ impl View {
         record.filled_to(168)
     }
 
+    /// The record in a Mainfile set's address file, 88 bytes.
+    pub fn address_record(&self) -> Vec<u8> {
+        let mut record = Record::default();
+        record.text(&self.outward, 4);
+        record.text(&self.inward, 3);
+        record.number(self.address_key, 8);
+        record.number(self.locality, 6);
+        record.number(self.thoroughfare, 8);
+        record.number(self.descriptor, 4);
+        record.number(self.dependent_thoroughfare, 8);
+        record.number(self.dependent_descriptor, 4);
+        record.number(self.building_number, 4);
+        record.number(self.building, 8);
+        record.number(self.sub_building, 8);
+        record.number(self.households, 4);
+        record.number(self.organisation_key, 8);
+        record.bytes(&[self.postcode_type, self.concatenation]);
+        record.text(&self.suffix, 2);
+        record.bytes(&[self.indicator]);
+        record.text(&self.po_box, 6);
+        record.filled_to(88)
+    }
+
     /// The view's record and its follower's.
     pub fn records(&self) -> Vec<Vec<u8>> {
         let mut records = vec![self.record()];
@@ -260,26 +341,95 @@ pub fn point_file(views: &[View]) -> Vec<u8> {
 
 /// A table file of these records between a header and a trailer.
 pub fn table_file_of(records: &[Vec<u8>]) -> Vec<u8> {
-    framed(records, 9, "CHANGES1", 169)
+    TABLE_FRAME.around(records)
 }
 
 /// A point file of these records between a header and a trailer.
 pub fn point_file_of(records: &[Vec<u8>]) -> Vec<u8> {
-    framed(records, 14, "CHANGES2", 168)
+    POINT_FRAME.around(records)
 }
 
-fn framed(records: &[Vec<u8>], identifier: usize, name: &str, length: usize) -> Vec<u8> {
-    let mut header = Record::default();
-    header.bytes(&vec![0; identifier]);
-    header.text(name, 8);
-    header.text("Y11M09", 6);
-    let mut trailer = Record::default();
-    trailer.bytes(&vec![255; identifier]);
-    trailer.number(records.len() as u32 + 2, 8);
-    let mut file = header.filled_to(length);
-    file.extend(records.concat());
-    file.extend(trailer.filled_to(length));
-    file
+/// The file of a Mainfile set (1 to 7) that has these records between a header
+/// and a trailer.
+pub fn main_file_of(file: u8, records: &[Vec<u8>]) -> Vec<u8> {
+    MAIN_FRAMES[usize::from(file) - 1].around(records)
+}
+
+/// How a file is laid out around its records.
+pub(super) struct Frame {
+    /// The file's number in a refusal.
+    pub file: u8,
+    pub record: usize,
+    pub most_records: usize,
+    /// How many zero bytes a header begins with, and a trailer bytes 255.
+    pub identifier: usize,
+    /// How many digits stand behind these: 0 in a header, 9 in a trailer.
+    pub digits: usize,
+    pub name: &'static str,
+}
+
+pub(super) static TABLE_FRAME: Frame = Frame {
+    file: 1,
+    record: 169,
+    most_records: 20_000,
+    identifier: 9,
+    digits: 0,
+    name: "CHANGES1",
+};
+
+pub(super) static POINT_FRAME: Frame = Frame {
+    file: 2,
+    record: 168,
+    most_records: 20_000,
+    identifier: 14,
+    digits: 0,
+    name: "CHANGES2",
+};
+
+/// The files of a Mainfile set.
+pub(super) static MAIN_FRAMES: [Frame; 7] = [
+    Frame::main(1, 151, 0, "LOCALITY"),
+    Frame::main(2, 68, 0, "THOROUGH"),
+    Frame::main(3, 30, 0, "THDESCRI"),
+    Frame::main(4, 58, 0, "BUILDING"),
+    Frame::main(5, 38, 0, "SUBBUILD"),
+    Frame::main(6, 153, 0, "ORGANISA"),
+    Frame::main(7, 88, 7, "ADDRESS "),
+];
+
+impl Frame {
+    const fn main(file: u8, record: usize, identifier: usize, name: &'static str) -> Frame {
+        Frame {
+            file,
+            record,
+            most_records: 1_000_000,
+            identifier,
+            digits: 8,
+            name,
+        }
+    }
+
+    /// Where the name or the count stands.
+    pub fn front(&self) -> usize {
+        self.identifier + self.digits
+    }
+
+    /// A file of these records between a header and a trailer.
+    pub fn around(&self, records: &[Vec<u8>]) -> Vec<u8> {
+        let mut header = Record::default();
+        header.bytes(&vec![0; self.identifier]);
+        header.bytes(&vec![b'0'; self.digits]);
+        header.text(self.name, 8);
+        header.text("Y11M09", 6);
+        let mut trailer = Record::default();
+        trailer.bytes(&vec![255; self.identifier]);
+        trailer.bytes(&vec![b'9'; self.digits]);
+        trailer.number(records.len() as u32 + 2, 8);
+        let mut file = header.filled_to(self.record);
+        file.extend(records.concat());
+        file.extend(trailer.filled_to(self.record));
+        file
+    }
 }
 
 /// A text in a field of that width: padded with spaces, or cut.
