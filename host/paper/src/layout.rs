@@ -59,7 +59,7 @@ pub static TABLE: FileRules = FileRules {
     file_identifier: 9..17,
     name: b"CHANGES1",
     count: 9..17,
-    sequence: &[0..24],
+    sequence: &[table::SEQUENCE],
 };
 
 /// The point file, Changes2.
@@ -72,7 +72,7 @@ pub static POINTS: FileRules = FileRules {
     file_identifier: 14..22,
     name: b"CHANGES2",
     count: 14..22,
-    sequence: &[0..42],
+    sequence: &[point::SEQUENCE],
 };
 
 /// How many files a Mainfile set has.
@@ -199,6 +199,8 @@ pub mod table {
 
     /// What a row stands for: its type and key.
     pub const NAME: Field = 0..9;
+    /// What the sequence is over: all of these.
+    pub const SEQUENCE: Field = 0..24;
 
     /// Type 1, locality, behind a filler of 45.
     pub const POST_TOWN: Field = 69..99;
@@ -232,6 +234,8 @@ pub mod point {
 
     /// The bytes that a follower has from its owner.
     pub const OWNED: Field = 0..41;
+    /// What the sequence is over: all of these.
+    pub const SEQUENCE: Field = 0..42;
 
     /// Type 1, a view.
     pub const LOCALITY: Field = 42..50;

@@ -2,8 +2,8 @@
 
 use paper::make::{
     bad_outward, damaged_packs, damaged_points, damaged_table, exact_pair, full_draft,
-    point_breaks, point_file, point_file_of, table_breaks, table_file, table_file_of, worked_pair,
-    Pair, Place, Rng, TableRow, View,
+    point_breaks, point_file, point_file_of, table_breaks, table_file, table_file_of, whole_view,
+    worked_pair, Pair, Place, Rng, TableRow, View, MISSING,
 };
 use paper::{
     build, check_points, check_table, code_label, label, label_of, letter, live, open, pack_label,
@@ -297,32 +297,9 @@ fn stray_records_are_tested_before_they_are_stray() {
     );
 }
 
-/// The refusals of rule 8 and of missing keys, for a view that has all rows.
-fn all_rows() -> (Vec<TableRow>, View) {
-    let rows = vec![
-        TableRow::locality(1, "HOLT", "", ""),
-        TableRow::thoroughfare(2, "HIGH"),
-        TableRow::thoroughfare(4, "SEASTONE"),
-        TableRow::descriptor(3, "STREET"),
-        TableRow::descriptor(5, "COURT"),
-        TableRow::building(6, "THE MANOR"),
-        TableRow::sub_building(7, "FLAT 1"),
-    ];
-    let view = View {
-        locality: 1,
-        thoroughfare: 2,
-        descriptor: 3,
-        dependent_thoroughfare: 4,
-        dependent_descriptor: 5,
-        building: 6,
-        sub_building: 7,
-        ..View::default()
-    };
-    (rows, view)
-}
-
+/// The 8 or 9 of a view of the rows that a whole view has.
 fn label_refusal(view: &View) -> Option<(u8, u64)> {
-    let pair = Pair::new(all_rows().0, vec![view.clone()]);
+    let pair = Pair::new(whole_view().0, vec![view.clone()]);
     let answer = label_of(&pair.table, &pair.points, 1);
     let mut pack = [0; 1_000];
     let built = build(&pair.table, &pair.points, b"AB1 ", &mut pack);
@@ -334,9 +311,9 @@ fn label_refusal(view: &View) -> Option<(u8, u64)> {
     answer.err().map(|why| (why.number, why.detail))
 }
 
-/// The refusal of the view that has all rows, after a change.
+/// The refusal of the view that has every key, after a change.
 fn changed(change: impl Fn(&mut View)) -> Option<(u8, u64)> {
-    let mut view = all_rows().1;
+    let mut view = whole_view().1;
     change(&mut view);
     label_refusal(&view)
 }
@@ -382,18 +359,10 @@ fn rule_8_gives_its_lowest_detail_and_comes_before_9() {
 
 #[test]
 fn refusal_9_has_seven_details_lowest_first() {
-    let missing: [fn(&mut View); 7] = [
-        |view| view.locality = 99,
-        |view| view.thoroughfare = 99,
-        |view| view.descriptor = 99,
-        |view| view.dependent_thoroughfare = 99,
-        |view| view.dependent_descriptor = 99,
-        |view| view.building = 99,
-        |view| view.sub_building = 99,
-    ];
+    let missing = &MISSING[..7];
     for (detail, change) in (1..).zip(missing) {
         assert_eq!(changed(change), Some((9, detail)));
-        let mut view = all_rows().1;
+        let mut view = whole_view().1;
         for change in &missing[detail as usize - 1..] {
             change(&mut view);
         }
@@ -487,7 +456,7 @@ fn labels_blame_the_table_file_first() {
 
 #[test]
 fn building_names_the_first_live_view_that_is_refused() {
-    let (rows, view) = all_rows();
+    let (rows, view) = whole_view();
     let views = [
         (b'I', "AB1", 7),
         (b'D', "AB1", 90),

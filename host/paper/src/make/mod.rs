@@ -17,6 +17,7 @@ mod rng;
 pub mod samples;
 mod sets;
 mod texts;
+mod whole;
 
 pub use codes::{bad_outward, inward, outward};
 pub use damage::{
@@ -33,3 +34,4 @@ pub use records::{
 };
 pub use rng::Rng;
 pub use sets::{exact_set, joined_key, long_file, long_set, main_set, set_of_pair, MainSet};
+pub use whole::{whole_view, MISSING};

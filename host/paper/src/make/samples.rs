@@ -3,7 +3,7 @@
 //! organisations of both kinds, missing keys, forbidden combinations; in the pair
 //! all four letters too.
 
-use super::{MainSet, Organisation, Pair, TableRow, View};
+use super::{MainSet, Organisation, Pair, TableRow, View, MISSING};
 use crate::label_of;
 
 fn rows() -> Vec<TableRow> {
@@ -266,15 +266,7 @@ fn refused() -> Vec<View> {
         organisation_key: 5,
         ..in_lane()
     };
-    let changes: [fn(&mut View); 14] = [
-        |view| view.locality = 99,
-        |view| view.thoroughfare = 99,
-        |view| view.descriptor = 99,
-        |view| view.dependent_thoroughfare = 99,
-        |view| view.dependent_descriptor = 99,
-        |view| view.building = 99,
-        |view| view.sub_building = 99,
-        |view| view.organisation_key = 7,
+    let others: [fn(&mut View); 6] = [
         |view| view.postcode_type = b'L',
         |view| view.locality = 0,
         |view| view.building = 0,
@@ -282,7 +274,7 @@ fn refused() -> Vec<View> {
         |view| view.dependent_thoroughfare = 0,
         |view| (view.thoroughfare, view.dependent_thoroughfare) = (0, 0),
     ];
-    let changed = changes.iter().map(|change| {
+    let changed = MISSING.iter().chain(&others).map(|change| {
         let mut view = everything.clone();
         change(&mut view);
         view

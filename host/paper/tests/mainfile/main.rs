@@ -1,0 +1,10 @@
+//! Document 02, No. 5: a Mainfile set.
+
+mod damaged;
+mod guide;
+mod pairs;
+mod random;
+mod refusals;
+mod rows;
+mod samples;
+mod worked;
