@@ -59,7 +59,9 @@ pub fn live(points: &[u8], code: &[u8]) -> Result<usize, Refusal> {
     Ok(live_in(points.views(), code)?.count())
 }
 
-/// The outward codes with live views, as [`codes_of`] writes them.
+/// The outward codes with live views, rising, into `out`: each its 4 bytes and how
+/// many live views it has in 4, the most significant first. The value is how many
+/// codes there are; 10 where `out` is shorter.
 pub fn codes(points: &[u8], out: &mut [u8]) -> Result<usize, Refusal> {
     codes_of(PointFile::accept(points)?.views(), out)
 }

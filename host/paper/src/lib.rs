@@ -1,8 +1,9 @@
 //! Document 01 read plainly: labels and packs from a table file (Changes1) and
-//! a point file (Changes2). This is the second program, written from the
-//! documents alone, against which the proved library is tested. Plain and
-//! obvious goes before clever; nothing here panics, whatever bytes and numbers
-//! come in, and no call takes more than O(f log f) for files of f records.
+//! a point file (Changes2), or from a Mainfile set. This is the second program,
+//! written from the documents alone, against which the proved library is tested.
+//! Plain and obvious goes before clever; nothing here panics, whatever bytes and
+//! numbers come in, and no call takes more than O(f log f) for files of f
+//! records.
 //!
 //! Read it beside document 01 in this order:
 //!
@@ -15,11 +16,13 @@
 //! | `files` | Order of refusals, Sequence, Followers; rows and views |
 //! | `address` | What views and points have in common; rule 8 |
 //! | `label` | The label |
+//! | `source` | Views, their rows and labels, whatever the files; refusals 7, 8, 9, 12 |
 //! | `pair` | Labels asked of two files |
+//! | `mainfile` | Document 02, Mainfile; layouts in the guide's chapter 5 |
 //! | `runs` | Document 02, Print a street at a time |
 //! | `pack`, `build` | The pack; Pack check |
-//! | `report` | One run, complete |
-//! | [`make`] | Test data: files, damaged files, packs, codes, the guide's examples |
+//! | `listing`, `report` | One run, complete |
+//! | [`make`] | Test data: files, damaged files, packs, codes, the guide's examples, the samples |
 //!
 //! # Decisions
 //!
@@ -53,6 +56,9 @@
 //! | When is a file longer than 300 records? | when it has more than 300 x 169 or 168 bytes | also if it isn't whole records |
 //! | A run of no labels, or from number 0? | no label is asked for, so none is refused; 7 before the first, if there is to be one | "equal to asking for each in turn" |
 //! | Table file refused, point file too long, or both long? | the table file's one line | "the table file first" |
+//!
+//! What document 02 and the guide's chapter 5 leave open about a Mainfile set
+//! stands in docs/READINGS.md.
 //!
 //! The makers and tests date the views of document 01's run themselves, since
 //! it says only that view 2 is later.

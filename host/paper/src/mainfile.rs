@@ -2,17 +2,18 @@
 //! view is an address record, numbered from 1 in file order, and every one is
 //! live.
 //!
-//! Refusals come in this order: 1 to 5 of file 1, then of file 2, up to 7; then
-//! those of a [`Source`].
+//! Refusals come in this order: 1 to 5 of file 1, then of file 2, up to 7; 12
+//! where a code is given, then 7, 8, 9, 10, lowest detail first.
 
 use crate::address::{Texts, NO_TEXTS, ORGANISATION, ROW_TYPE};
 use crate::build::build_from;
 use crate::fields::trimmed;
 use crate::files::{check_file, last_that, record_at, sequence_of};
 use crate::layout::{main, Field, ADDRESS_FIELDS, MAIN, MAIN_FILES};
+use crate::listing::entry;
 use crate::refusal::Refusal;
-use crate::runs::{label_run, list_run, Run};
-use crate::source::{codes_of, live_in, write_label, Source, View};
+use crate::runs::{view_run, Run};
+use crate::source::{codes_of, live_in, view_label, write_label, Source, View};
 
 pub use crate::records::MAIN_FAULTS;
 
@@ -54,7 +55,7 @@ pub fn live(addresses: &[u8], code: &[u8]) -> Result<usize, Refusal> {
     Ok(live_in(addresses.views(), code)?.count())
 }
 
-/// The outward codes of the address file, as [`codes_of`] writes them.
+/// The outward codes of the address file, as [`crate::codes`] writes them.
 pub fn codes(addresses: &[u8], out: &mut [u8]) -> Result<usize, Refusal> {
     codes_of(AddressFile::accept(addresses)?.views(), out)
 }
@@ -75,7 +76,9 @@ pub fn code_label(set: Set, code: &[u8], k: u64, out: &mut [u8]) -> Result<usize
 /// Writes the labels of so many views, from number `first` on, into `out`.
 pub fn labels(set: Set, first: u64, count: u64, out: &mut [u8]) -> Result<Run, Refusal> {
     let main = Mainfile::accept(set)?;
-    Ok(label_run(main, main.views(), first, count, out))
+    Ok(view_run(main.views(), first, count, out, |view| {
+        view_label(main, view)
+    }))
 }
 
 /// Writes the labels of so many addresses of an outward code, from the first
@@ -88,14 +91,19 @@ pub fn code_labels(
     out: &mut [u8],
 ) -> Result<Run, Refusal> {
     let main = Mainfile::accept(set)?;
-    Ok(label_run(main, main.live_views(code)?, first, count, out))
+    let views = main.live_views(code)?;
+    Ok(view_run(views, first, count, out, |view| {
+        view_label(main, view)
+    }))
 }
 
 /// Lists so many views, from number `first` on: for each the line `view` with
 /// its number, then the label or the line `refused`, number, detail.
 pub fn list(set: Set, first: u64, count: u64, out: &mut [u8]) -> Result<Run, Refusal> {
     let main = Mainfile::accept(set)?;
-    Ok(list_run(main, main.views(), first, count, out))
+    Ok(view_run(main.views(), first, count, out, |view| {
+        Ok(entry(main, view))
+    }))
 }
 
 /// Lists so many addresses of an outward code, from the first that is given on.
@@ -107,7 +115,10 @@ pub fn code_list(
     out: &mut [u8],
 ) -> Result<Run, Refusal> {
     let main = Mainfile::accept(set)?;
-    Ok(list_run(main, main.live_views(code)?, first, count, out))
+    let views = main.live_views(code)?;
+    Ok(view_run(views, first, count, out, |view| {
+        Ok(entry(main, view))
+    }))
 }
 
 /// Writes the pack of an outward code into `out` and answers its length.

@@ -6,7 +6,8 @@
 pub struct Refusal {
     /// Document 01's number, 1 to 12.
     pub number: u8,
-    /// The file to blame: 1 the table file, 2 the point file, 0 neither.
+    /// The file to blame: 1 the table file, 2 the point file; 1 to 7 in a
+    /// Mainfile set; 0 none.
     pub file: u8,
     /// The byte of the record where 4 is given, the view number where building
     /// gives 8 or 9, how many labels stand before where a run of labels stops,
@@ -22,7 +23,7 @@ impl Refusal {
         Refusal::of_file(0, number, detail)
     }
 
-    /// A refusal of the table file (1) or the point file (2).
+    /// A refusal of the file of that number.
     pub fn of_file(file: u8, number: u8, detail: u64) -> Refusal {
         Refusal {
             number,

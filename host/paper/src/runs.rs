@@ -4,7 +4,6 @@
 //! file, pack or code refuses the whole.
 
 use crate::label::lend;
-use crate::listing::entry;
 use crate::pack;
 use crate::pair::Changes;
 use crate::refusal::{packed, Refusal};
@@ -30,7 +29,9 @@ pub fn labels(
     out: &mut [u8],
 ) -> Result<Run, Refusal> {
     let changes = Changes::accept(table, points)?;
-    Ok(label_run(changes, changes.views(), first, count, out))
+    Ok(view_run(changes.views(), first, count, out, |view| {
+        view_label(changes, view)
+    }))
 }
 
 /// Writes the labels of so many live views of an outward code, from the first
@@ -45,7 +46,9 @@ pub fn code_labels(
 ) -> Result<Run, Refusal> {
     let changes = Changes::accept(table, points)?;
     let views = changes.live_views(code)?;
-    Ok(label_run(changes, views, first, count, out))
+    Ok(view_run(views, first, count, out, |view| {
+        view_label(changes, view)
+    }))
 }
 
 /// Writes the labels of so many points of a pack, from number `first` on, into
@@ -55,29 +58,16 @@ pub fn pack_labels(pack: &[u8], first: u64, count: u64, out: &mut [u8]) -> Resul
     Ok(run(points.map(|point| Ok(point.label())), count, out))
 }
 
-/// Writes the labels of so many of these views, from the first that is given
-/// on, into `out`.
-pub(crate) fn label_run<'a>(
-    source: impl Source<'a>,
+/// Writes so many of these views, from the first that is given on, into `out`,
+/// each as it is printed.
+pub(crate) fn view_run<'a>(
     views: impl Iterator<Item = View<'a>>,
     first: u64,
     count: u64,
     out: &mut [u8],
+    printed: impl Fn(&View<'a>) -> Result<Vec<u8>, Refusal>,
 ) -> Run {
-    let labels = from(first, views).map(|view| view_label(source, &view));
-    run(labels, count, out)
-}
-
-/// The same as a listing, which a refused label doesn't stop.
-pub(crate) fn list_run<'a>(
-    source: impl Source<'a>,
-    views: impl Iterator<Item = View<'a>>,
-    first: u64,
-    count: u64,
-    out: &mut [u8],
-) -> Run {
-    let entries = from(first, views).map(|view| Ok(entry(source, &view)));
-    run(entries, count, out)
+    run(from(first, views).map(|view| printed(&view)), count, out)
 }
 
 /// A run as one number: how many labels, or the refusal of the label before

@@ -131,9 +131,8 @@ pub(crate) fn live_in<'a>(
     Ok(views.filter(move |view| view.is_live() && view.outward() == code))
 }
 
-/// The outward codes of the live ones of these views, rising, into `out`: each
-/// its 4 bytes and how many live views it has in 4, the most significant first.
-/// The value is how many codes there are; 10 where `out` is shorter.
+/// The outward codes of the live ones of these views, as [`crate::codes`] writes
+/// them.
 pub(crate) fn codes_of<'a>(
     views: impl Iterator<Item = View<'a>>,
     out: &mut [u8],

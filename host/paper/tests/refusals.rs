@@ -3,7 +3,7 @@
 use paper::make::{
     bad_outward, damaged_packs, damaged_points, damaged_table, exact_pair, full_draft,
     point_breaks, point_file, point_file_of, table_breaks, table_file, table_file_of, whole_view,
-    worked_pair, Pair, Place, Rng, TableRow, View, MISSING,
+    worked_pair, Pair, Place, Rng, TableRow, View, FORBIDDEN, MISSING,
 };
 use paper::{
     build, check_points, check_table, code_label, label, label_of, letter, live, open, pack_label,
@@ -318,25 +318,17 @@ fn changed(change: impl Fn(&mut View)) -> Option<(u8, u64)> {
     label_refusal(&view)
 }
 
-fn without_street(view: &mut View) {
-    view.thoroughfare = 0;
-    view.dependent_thoroughfare = 0;
-}
-
 #[test]
 fn rule_8_has_three_details() {
     assert_eq!(changed(|_| ()), None);
-    assert_eq!(changed(|view| view.building = 0), Some((8, 1)));
-    assert_eq!(changed(|view| view.thoroughfare = 0), Some((8, 2)));
-    assert_eq!(
-        changed(|view| view.dependent_thoroughfare = 0),
-        Some((8, 3))
-    );
-    assert_eq!(changed(without_street), Some((8, 3)));
+    for (change, detail) in FORBIDDEN {
+        assert_eq!(changed(change), Some((8, detail)));
+    }
     let numbered = |view: &mut View| (view.building, view.building_number) = (0, 1);
     assert_eq!(changed(numbered), None);
     let own_descriptor = |view: &mut View| {
-        without_street(view);
+        view.thoroughfare = 0;
+        view.dependent_thoroughfare = 0;
         view.dependent_descriptor = 0;
     };
     assert_eq!(changed(own_descriptor), Some((8, 3)));

@@ -34,4 +34,4 @@ pub use records::{
 };
 pub use rng::Rng;
 pub use sets::{exact_set, joined_key, long_file, long_set, main_set, set_of_pair, MainSet};
-pub use whole::{whole_view, MISSING};
+pub use whole::{whole_view, Change, FORBIDDEN, MISSING};

@@ -3,7 +3,7 @@
 //! organisations of both kinds, missing keys, forbidden combinations; in the pair
 //! all four letters too.
 
-use super::{MainSet, Organisation, Pair, TableRow, View, MISSING};
+use super::{Change, MainSet, Organisation, Pair, TableRow, View, FORBIDDEN, MISSING};
 use crate::label_of;
 
 fn rows() -> Vec<TableRow> {
@@ -266,18 +266,16 @@ fn refused() -> Vec<View> {
         organisation_key: 5,
         ..in_lane()
     };
-    let others: [fn(&mut View); 6] = [
-        |view| view.postcode_type = b'L',
-        |view| view.locality = 0,
-        |view| view.building = 0,
-        |view| view.thoroughfare = 0,
-        |view| view.dependent_thoroughfare = 0,
-        |view| (view.thoroughfare, view.dependent_thoroughfare) = (0, 0),
-    ];
-    let changed = MISSING.iter().chain(&others).map(|change| {
-        let mut view = everything.clone();
-        change(&mut view);
-        view
-    });
+    let others: [Change; 2] = [|view| view.postcode_type = b'L', |view| view.locality = 0];
+    let forbidden = FORBIDDEN.map(|(change, _)| change);
+    let changed = MISSING
+        .iter()
+        .chain(&others)
+        .chain(&forbidden)
+        .map(|change| {
+            let mut view = everything.clone();
+            change(&mut view);
+            view
+        });
     changed.collect()
 }

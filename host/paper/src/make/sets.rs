@@ -250,7 +250,7 @@ fn with_keys(view: &View, number: u32, rows: &BTreeMap<(u8, u32), TableRow>) -> 
     };
     View {
         address_key: number,
-        organisation_key: number.min(view.organisation_key * number),
+        organisation_key: if view.organisation_key > 0 { number } else { 0 },
         locality: key_of(1, view.locality),
         thoroughfare: key_of(2, view.thoroughfare),
         descriptor: key_of(3, view.descriptor),

@@ -25,9 +25,12 @@ pub fn whole_view() -> (Vec<TableRow>, View) {
     (rows, view)
 }
 
+/// A change of a view.
+pub type Change = fn(&mut View);
+
 /// Changes after which a view lacks the row of field 1, 2 and so on up to 8, the
 /// organisation of a Mainfile set: its key is one that no row has.
-pub const MISSING: [fn(&mut View); 8] = [
+pub const MISSING: [Change; 8] = [
     |view| view.locality = 99,
     |view| view.thoroughfare = 99,
     |view| view.descriptor = 99,
@@ -37,3 +40,17 @@ pub const MISSING: [fn(&mut View); 8] = [
     |view| view.sub_building = 99,
     |view| view.organisation_key = 99,
 ];
+
+/// Changes after which a view that has every key breaks rule 8, each with the
+/// detail.
+pub const FORBIDDEN: [(Change, u64); 4] = [
+    (|view| view.building = 0, 1),
+    (|view| view.thoroughfare = 0, 2),
+    (|view| view.dependent_thoroughfare = 0, 3),
+    (without_street, 3),
+];
+
+fn without_street(view: &mut View) {
+    view.thoroughfare = 0;
+    view.dependent_thoroughfare = 0;
+}

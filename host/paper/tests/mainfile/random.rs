@@ -4,7 +4,7 @@
 use paper::mainfile::{
     build, check, code_label, code_labels, code_list, codes, label, labels, list, live, views, Set,
 };
-use paper::make::{exact_set, joined_key, main_set, scratch, Rng, View};
+use paper::make::{exact_set, joined_key, main_set, scratch, MainSet, Rng, View};
 use paper::{Refusal, Run};
 use std::collections::{BTreeMap, BTreeSet};
 
@@ -180,6 +180,38 @@ fn a_code_has_the_views_of_its_stretch() {
             assert_eq!(by_code, by_view);
         }
     }
+}
+
+/// Document 02, No. 13, for a set: without the rows that no address refers to,
+/// every listing and pack is the same.
+#[test]
+fn rows_that_no_address_uses_do_not_matter() {
+    let mut left_out = 0;
+    for seed in 0..300 {
+        let full = main_set(&mut Rng::new(seed), 20);
+        let row_types = [1, 2, 3, 2, 3, 4, 5];
+        let names = |view: &View| row_types.into_iter().zip(view.keys());
+        let used: BTreeSet<(u8, u32)> = full.addresses.iter().flat_map(names).collect();
+        let joined = |view: &View| joined_key(view).map(|key| (view.postcode_type, key));
+        let organised: BTreeSet<(u8, u32)> = full.addresses.iter().filter_map(joined).collect();
+        let mut rows = full.rows.clone();
+        rows.retain(|row| used.contains(&(row.row_type, row.key)));
+        let mut organisations = full.organisations.clone();
+        organisations.retain(|row| organised.contains(&(row.postcode_type, row.key)));
+        left_out += full.rows.len() + full.organisations.len() - rows.len() - organisations.len();
+        let bare = MainSet::new(rows, organisations, full.addresses.clone());
+        let count = full.addresses.len() as u64;
+        let (mut ours, mut theirs) = ([0; 12_000], [0; 12_000]);
+        let answer = list(bare.set(), 1, count, &mut ours);
+        assert_eq!(answer, list(full.set(), 1, count, &mut theirs));
+        for address in &full.addresses {
+            let code = format!("{:4}", address.outward);
+            let answer = build(bare.set(), code.as_bytes(), &mut ours);
+            assert_eq!(answer, build(full.set(), code.as_bytes(), &mut theirs));
+        }
+        assert_eq!(ours, theirs);
+    }
+    assert!(left_out > 1_000, "{left_out}");
 }
 
 /// Every call, with any files and numbers; 6 does not occur.

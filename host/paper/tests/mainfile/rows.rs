@@ -1,7 +1,7 @@
 //! Which rows an address is joined to, and its refusals 8 and 9.
 
 use paper::mainfile::{build, label};
-use paper::make::{whole_view, MainSet, Organisation, View, MISSING};
+use paper::make::{whole_view, MainSet, Organisation, View, FORBIDDEN, MISSING};
 use paper::Refusal;
 
 /// A whole view as a small user of organisation 8.
@@ -91,16 +91,11 @@ fn refusal_9_has_eight_details_lowest_first_and_8_comes_before() {
 #[test]
 fn rule_8_has_three_details() {
     assert_eq!(changed(|_| ()), None);
-    assert_eq!(changed(|view| view.building = 0), Some((8, 1)));
-    assert_eq!(changed(|view| view.thoroughfare = 0), Some((8, 2)));
-    assert_eq!(
-        changed(|view| view.dependent_thoroughfare = 0),
-        Some((8, 3))
-    );
+    for (change, detail) in FORBIDDEN {
+        assert_eq!(changed(change), Some((8, detail)));
+    }
     let numbered = |view: &mut View| (view.building, view.building_number) = (0, 1);
     assert_eq!(changed(numbered), None);
-    let no_street = |view: &mut View| (view.thoroughfare, view.dependent_thoroughfare) = (0, 0);
-    assert_eq!(changed(no_street), Some((8, 3)));
 }
 
 /// An address at the town with these organisations: the first line of its label,
