@@ -12,12 +12,13 @@ use Rattle.field.specs.Test.{every}
 use Rattle.field.specs.Digits.{digitsFault}
 use Rattle.field.specs.Text.{textByte, blank, startsBlank, textFault, filledFault, part}
 use Rattle.field.proofs.Tests.{and-left, and-right}
-use Rattle.field_test.proofs.Laws.{begun-text, blank-text, every-append, every-front, every-back}
+use Rattle.field.proofs.Parts.{every-append, every-front, every-back, part-join}
+use Rattle.field_test.proofs.Laws.{begun-text, blank-text}
 use Rattle.field_outward.specs.Outward.{outwardFault}
 use Rattle.field_outward.specs.Inward.{inwardFault, suffixFault}
 use Rattle.file_fault.specs.Fields.{field, place, first, faultIn, oneOf}
 use Rattle.file_fault.specs.Point.{pointHead, viewFields, pointRest, pointFault}
-use Rattle.file_fault.proofs.Laws.{part-join, digits-join, view-digits}
+use Rattle.file_fault.proofs.Laws.{digits-join, view-digits}
 
 pub three : (a b c : Bool) → a && (b && c) ≡ true → (a ≡ true) × (b ≡ true) × (c ≡ true)
 three a b c e =

@@ -14,13 +14,13 @@ use Rattle.field.specs.Digits.{digit, digitsFault, digitValue, value}
 use Rattle.field.specs.Text.{part}
 use Rattle.field.proofs.Tests.{and-left, and-right, range-low, range-high}
 use Rattle.field.proofs.Texts.{part-bound}
-use Rattle.field.proofs.Values.{value-whole}
+use Rattle.field.proofs.Values.{digit-again, value-whole, first-digit}
 use Rattle.field.proofs.Fronts.{digits-below}
 use Rattle.file_record.specs.Parts.{recordAt}
 use Rattle.file_record.proofs.Records.{part-length, record-length}
 use Rattle.file_compare.specs.Order.{order}
 use Rattle.file_compare.proofs.Order.{above-below, front-below, order-equal, order-bound, below-above}
-use Rattle.file_compare.proofs.Digits.{digit-again, first-digit, digits-rise}
+use Rattle.file_compare.proofs.Digits.{digits-rise}
 use Rattle.file_fault.specs.Fields.{keyFault}
 use Rattle.file_fault.specs.Table.{tableFault}
 use Rattle.file_fault.proofs.Passing.{digits-pass, table-passes, one-passes}

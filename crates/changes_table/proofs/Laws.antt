@@ -10,10 +10,11 @@ use Rattle.field.specs.Test.{every, elem, only}
 use Rattle.field.specs.Digits.{digitsFault}
 use Rattle.field.specs.Text.{textByte, blank, startsBlank, textFault, filledFault, part}
 use Rattle.field.proofs.Tests.{and-left, and-right, and-false}
-use Rattle.field_test.proofs.Laws.{every-append, every-front, every-back, begun-text, blank-text}
+use Rattle.field.proofs.Parts.{every-append, every-front, every-back, part-join}
+use Rattle.field_test.proofs.Laws.{begun-text, blank-text}
 use Rattle.file_fault.specs.Fields.{place, faultIn, oneOf, keyFault}
 use Rattle.file_fault.specs.Table.{tableHead, tableRest, localityFields, doubleFault, tableFault}
-use Rattle.file_fault.proofs.Laws.{part-join, digits-join, one-byte}
+use Rattle.file_fault.proofs.Laws.{digits-join, one-byte}
 
 pub three : (a b c : Bool) → a && (b && c) ≡ true → (a ≡ true) × (b ≡ true) × (c ≡ true)
 three a b c e =

@@ -6,7 +6,7 @@ use mathlib.Core.Bool.{Bool, true, false, cond, _&&_}
 use mathlib.Core.List.{List, [], _∷_}
 use native.Mathlib.Omega.{arith}
 use native.Mathlib.Numerals.{add-one}
-use native.Mathlib.Nat.{lt-of-lt-of-le, pow-le-pow-right}
+use native.Mathlib.Nat.{add-assoc, mul-comm, mul-assoc, add-mul, suc-mul, mul-le-mul-right, lt-of-lt-of-le, pow-zero, pow-suc, pow-le-pow-right}
 use borrow.Author.Tests.{ne-eqb}
 use lib.Dec.{lit<, eqb}
 use lib.Pow.{pow-add}
@@ -14,7 +14,7 @@ use lib.ListN.{length, take, drop, getD, drop-of-length-le, length-take}
 use lib.Seq.{drop-cons, take-all}
 use Rattle.field.specs.Digits.{digit, digitValue, zeroDigit, valueFrom, value}
 use Rattle.field.specs.Test.{every}
-use Rattle.field.proofs.Tests.{range-high}
+use Rattle.field.proofs.Tests.{range-low, range-high}
 
 pub digit-to-9 : (b : ℕ) → digitValue b ≤ 9
 unfolding digitValue
@@ -23,6 +23,11 @@ digit-to-9 b = by-test (digit b) refl
     by-test : (t : Bool) → digit b ≡ t → cond t (b - 48) 0 ≤ 9
     by-test true e = omega (arith, range-high 48 57 b e)
     by-test false e = omega arith
+
+-- the digit that a byte is
+pub digit-again : (x : ℕ) → digit x ≡ true → 48 + digitValue x ≡ x
+unfolding digitValue
+digit-again x e = simp e (omega (arith, range-low 48 57 x e))
 
 pub value-step : (s : List ℕ) (v i : ℕ) → i < length s
     → valueFrom v (drop i s) ≡ valueFrom (v * 10 + digitValue (getD s i 0)) (drop (i + 1) s)
@@ -75,3 +80,37 @@ value-below (x ∷ xs) v i h =
 -- a field of n digits says less than 10 to the n, whatever its bytes are
 pub value-bound : (s : List ℕ) → valueFrom 0 s < 10 ^ length s
 value-bound s = rw (let z : 0 + length s ≡ length s = omega arith in z) at (value-below s 0 0 (lit< tt))
+
+-- a digit more in front of n others
+shifted : (v d p rest : ℕ) → (v * 10 + d) * p + rest ≡ v * (p * 10) + (d * p + rest)
+shifted v d p rest =
+    rw (add-mul (v * 10) d p, mul-assoc v 10 p, mul-comm 10 p, add-assoc (v * (p * 10)) (d * p) rest)
+
+-- what stands before counts in whole powers
+value-split : (s : List ℕ) (v : ℕ) → valueFrom v s ≡ v * 10 ^ length s + valueFrom 0 s
+value-split [] v = rw (pow-zero 10) (omega arith)
+value-split (x ∷ xs) v =
+    let d = digitValue x in
+    let rest = valueFrom 0 xs in
+    value-split xs (v * 10 + d)
+    ∙ (shifted v d (10 ^ length xs) rest
+    ∙ rw (pow-suc 10 (length xs), value-split xs (0 * 10 + d), (let z : 0 * 10 + d ≡ d = omega arith in z)))
+
+-- a first digit counts in whole powers
+pub first-digit : (x : ℕ) (s : List ℕ) → valueFrom 0 (x ∷ s) ≡ digitValue x * 10 ^ length s + valueFrom 0 s
+first-digit x s =
+    let z : 0 * 10 + digitValue x ≡ digitValue x = omega arith in
+    ap (λ n. valueFrom n s) z ∙ value-split s (digitValue x)
+
+-- what comes first outweighs all that is behind it
+pub outweighs : (d e p u v : ℕ) → e < d → v < p → e * p + v < d * p + u
+outweighs d e p u v h k =
+    let more : suc e * p ≤ d * p = mul-le-mul-right p h in
+    omega (arith, suc-mul e p)
+
+-- a first digit that is less makes the value less
+pub first-less : (x y : ℕ) (s t : List ℕ) → length s ≡ length t → digitValue x < digitValue y
+    → valueFrom 0 (x ∷ s) < valueFrom 0 (y ∷ t)
+first-less x y s t n h =
+    rw (first-digit x s, first-digit y t, ← n)
+    (outweighs (digitValue y) (digitValue x) (10 ^ length s) (valueFrom 0 t) (valueFrom 0 s) h (value-bound s))

@@ -3,7 +3,7 @@
 use Prim.Native.Nat.{ℕ, zero, suc, _+_, _-_, _≤_, _<_, min}
 use mathlib.Core.Path.{_≡_, refl, _∙_}
 use mathlib.Core.Bool.{Bool, true, false, not, _&&_, _||_}
-use mathlib.Core.List.{List, [], _∷_, _++_}
+use mathlib.Core.List.{List, [], _∷_}
 use native.Mathlib.Omega.{arith}
 use native.Mathlib.Nat.{min-eq-left, min-eq-right}
 use native.Mathlib.Numerals.{add-one}
@@ -102,18 +102,3 @@ blank-begins (x ∷ xs) e = and-left (eqb x 32) (blank xs) e
 
 pub blank-text : (s : List ℕ) → blank s ≡ true → textFault s ≡ 0
 blank-text s e = text-blank s (blank-begins s e) ∙ simp e
-
--- two lists, one behind the other
-pub every-append : (ok : ℕ → Bool) (xs ys : List ℕ) → every ok xs ≡ true → every ok ys ≡ true → every ok (xs ++ ys) ≡ true
-every-append ok [] ys e f = f
-every-append ok (x ∷ xs) ys e f =
-    rw (and-left (ok x) (every ok xs) e) (every-append ok xs ys (and-right (ok x) (every ok xs) e) f)
-
-pub every-front : (ok : ℕ → Bool) (xs ys : List ℕ) → every ok (xs ++ ys) ≡ true → every ok xs ≡ true
-every-front ok [] ys e = refl
-every-front ok (x ∷ xs) ys e =
-    rw (and-left (ok x) (every ok (xs ++ ys)) e) (every-front ok xs ys (and-right (ok x) (every ok (xs ++ ys)) e))
-
-pub every-back : (ok : ℕ → Bool) (xs ys : List ℕ) → every ok (xs ++ ys) ≡ true → every ok ys ≡ true
-every-back ok [] ys e = e
-every-back ok (x ∷ xs) ys e = every-back ok xs ys (and-right (ok x) (every ok (xs ++ ys)) e)

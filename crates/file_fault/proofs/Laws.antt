@@ -10,11 +10,12 @@ use native.Mathlib.Nat.{add-zero, add-suc}
 use borrow.Author.Tests.{leb-true, leb-false}
 use lib.Dec.{leb, lit≤}
 use lib.ListN.{length, take, drop, getD, length-drop, drop-of-length-le}
-use lib.Seq.{length-take-le, take-add, drop-drop, take-nil}
+use lib.Seq.{length-take-le, take-nil}
 use Rattle.field.specs.Test.{elem, faultFrom, firstFault}
 use Rattle.field.specs.Digits.{digit, digitsFault}
 use Rattle.field.specs.Text.{part}
 use Rattle.field.proofs.Texts.{part-bound, part-byte}
+use Rattle.field.proofs.Parts.{part-join}
 use Rattle.field.proofs.Faults.{fault-bound}
 use Rattle.file_fault.specs.Fields.{place, first, oneOf}
 
@@ -76,12 +77,6 @@ from-append ok (x ∷ xs) b at =
 
 -- two neighbouring parts are one
 module _ (rec : List ℕ) (start middle end : ℕ) (low : start ≤ middle) (high : middle ≤ end) where
-  pub part-join : part rec start end ≡ part rec start middle ++ part rec middle end
-  part-join =
-      let size : end - start ≡ (middle - start) + (end - middle) = omega arith in
-      let place-of : start + (middle - start) ≡ middle = omega arith in
-      rw (size, take-add (middle - start) (end - middle) (drop start rec), drop-drop (middle - start) start rec, place-of)
-
   -- the second part begins where the first ends, or has no bytes
   second-place : (ok : ℕ → Bool)
       → faultFrom ok (start + 1 + length (part rec start middle)) (part rec middle end)
@@ -111,7 +106,7 @@ module _ (rec : List ℕ) (start middle end : ℕ) (low : start ≤ middle) (hig
       rw (from-place ok (part rec start middle) start 0, from-place ok (part rec middle end) middle 0)
       (sym
       (from-place ok (part rec start end) start 0
-      ∙ (ap (faultFrom ok (start + 1)) part-join
+      ∙ (ap (faultFrom ok (start + 1)) (part-join rec start middle end low high)
       ∙ (appended
       ∙ ap (first (faultFrom ok (start + 1) (part rec start middle))) (second-place ok)))))
     where

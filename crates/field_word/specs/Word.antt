@@ -1,0 +1,19 @@
+-- Bytes as one number.
+-- Assumes nothing.
+use Prim.Native.Nat.{ℕ, _+_, _*_, _<_}
+use mathlib.Core.Path.{_≡_}
+use mathlib.Core.List.{List, [], _∷_}
+
+-- the first byte is the least
+abbrev pub word : List ℕ → ℕ
+word [] = 0
+word (x ∷ xs) = x + 256 * word xs
+
+abbrev pub Bytes : List ℕ → Type 0
+Bytes [] = Unit {0}
+Bytes (x ∷ xs) = (x < 256) × Bytes xs
+
+-- the number that some bytes are
+pub record Word (bytes : List ℕ) (r : ℕ) : Type 0 where
+  pub is : r ≡ word bytes
+  pub small : Bytes bytes

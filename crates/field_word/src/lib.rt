@@ -1,0 +1,2 @@
+// Four or eight bytes at once, read as one number.
+pub mod inner;
