@@ -7,23 +7,24 @@ use mathlib.Core.List.{List, [], _∷_}
 use native.Mathlib.Omega.{arith}
 use borrow.Author.Tests.{eqb-true, eqb-false, eq-eqb, ne-eqb}
 use lib.Dec.{eqb}
-use lib.ListN.{length, getD}
+use lib.ListN.{length}
 use Rattle.field.specs.Test.{elem}
 use Rattle.field.specs.Digits.{digit}
 use Rattle.field.specs.Text.{letter}
 use Rattle.field.proofs.Tests.{and-left, and-right, range-high}
 use Rattle.field_outward.specs.Outward.{class, sequenceFrom, patterns, lettersFault, outwardFault}
 use Rattle.field_outward.proofs.Codes.{to-3}
-use Rattle.file_compare.specs.Order.{order, same, Four}
+use Rattle.field_word.specs.Word.{weight, Bytes}
+use Rattle.file_compare.specs.Order.{order, same}
 use Rattle.file_compare.proofs.Order.{order-same, order-equal}
-use Rattle.file_compare.proofs.Laws.{four-decides}
+use Rattle.file_compare.proofs.Words.{weight-below}
 use Rattle.pack.specs.Numbers.{bytesOf, numberFrom}
 use Rattle.tally.specs.Order.{Each}
 
 -- four bytes
-record Bytes (s : List ℕ) : Type 0 where
+record Four (s : List ℕ) : Type 0 where
   long : length s ≡ 4
-  small : (k : ℕ) → getD s k 0 < 256
+  small : Bytes s
 
 -- a byte of a code is a letter, a digit or a space
 class-small : (b : ℕ) → class b ≤ 2 → b < 256
@@ -56,18 +57,11 @@ module _ (a b c d : ℕ) (ha : a ≤ 3) (hb : b ≤ 3) (hc : c ≤ 3) (hd : d �
         (λ h. omega arith, (λ h. omega arith, (λ h. omega arith, (λ h. omega arith, (λ h. omega arith, tt))))),
       )
 
-four-small : (a b c d : ℕ) → a < 256 → b < 256 → c < 256 → d < 256 → (k : ℕ) → getD (a ∷ b ∷ c ∷ d ∷ []) k 0 < 256
-four-small a b c d p q r s zero = p
-four-small a b c d p q r s (suc zero) = q
-four-small a b c d p q r s (suc (suc zero)) = r
-four-small a b c d p q r s (suc (suc (suc zero))) = s
-four-small a b c d p q r s (suc (suc (suc (suc k)))) = omega arith
-
-code-bytes : (s : List ℕ) → outwardFault s ≡ 0 → Bytes s
+code-bytes : (s : List ℕ) → outwardFault s ≡ 0 → Four s
 unfolding outwardFault
 code-bytes s e = by-test (eqb (length s) 4 && elem (sequenceFrom 0 s) patterns) refl e
   where
-    of-four : (s : List ℕ) → length s ≡ 4 → elem (sequenceFrom 0 s) patterns ≡ true → Bytes s
+    of-four : (s : List ℕ) → length s ≡ 4 → elem (sequenceFrom 0 s) patterns ≡ true → Four s
     of-four [] h q = absurd (omega arith)
     of-four (a ∷ []) h q = absurd (omega arith)
     of-four (a ∷ b ∷ []) h q = absurd (omega arith)
@@ -76,29 +70,28 @@ code-bytes s e = by-test (eqb (length s) 4 && elem (sequenceFrom 0 s) patterns) 
         let l = low (class a) (class b) (class c) (class d) (to-3 a refl) (to-3 b refl) (to-3 c refl) (to-3 d refl) q in
         record {
           long = refl;
-          small =
-              four-small a b c d (class-small a (l .0)) (class-small b (l .1)) (class-small c (l .2)) (class-small d (l .3));
+          small = (class-small a (l .0), (class-small b (l .1), (class-small c (l .2), (class-small d (l .3), tt))));
         }
     of-four (a ∷ b ∷ c ∷ d ∷ x ∷ s) h q = absurd (omega arith)
 
     by-test : (t : Bool) → eqb (length s) 4 && elem (sequenceFrom 0 s) patterns ≡ t
-        → cond t (lettersFault 0 1 s) 1 ≡ 0 → Bytes s
+        → cond t (lettersFault 0 1 s) 1 ≡ 0 → Four s
     by-test true h e =
         of-four s (eqb-true (length s) 4 (and-left (eqb (length s) 4) _ h)) (and-right (eqb (length s) 4) _ h)
     by-test false h e = absurd (omega arith)
 
 -- the bytes of the number of four bytes
-bytes-back : (s : List ℕ) → Bytes s → bytesOf 4 (numberFrom 0 s) ≡ s
+bytes-back : (s : List ℕ) → Four s → bytesOf 4 (numberFrom 0 s) ≡ s
 bytes-back [] b = absurd (omega (arith, b .long))
 bytes-back (a ∷ []) b = absurd (omega (arith, b .long))
 bytes-back (a ∷ x ∷ []) b = absurd (omega (arith, b .long))
 bytes-back (a ∷ x ∷ y ∷ []) b = absurd (omega (arith, b .long))
 bytes-back (a ∷ x ∷ y ∷ z ∷ []) b =
     let n = (((0 * 256 + a) * 256 + x) * 256 + y) * 256 + z in
-    let p = b .small 0 in
-    let q = b .small 1 in
-    let r = b .small 2 in
-    let t = b .small 3 in
+    let p = b .small .0 in
+    let q = b .small .1 .0 in
+    let r = b .small .1 .1 .0 in
+    let t = b .small .1 .1 .1 .0 in
     let first : n / 16_777_216 % 256 ≡ a = omega arith in
     let second : n / 65_536 % 256 ≡ x = omega arith in
     let third : n / 256 % 256 ≡ y = omega arith in
@@ -132,10 +125,13 @@ same-code s t e f = by-test (eqb (order s t) 0) refl
         eqb-false (order s t) 0 h (ap (order s) (sym is) ∙ order-same s))
 
 -- and the one is below the other where its number is
-as-four : (c : ℕ) → Coded c → Four (bytesOf 4 c) 0 c
-as-four c k = record { is = omega (arith, k .back); small = code-bytes (bytesOf 4 c) (k .well-formed) .small }
+code-weight : (c : ℕ) → Coded c → weight (bytesOf 4 c) ≡ c
+code-weight c k = omega (arith, k .back)
+
+code-small : (c : ℕ) → Coded c → Bytes (bytesOf 4 c)
+code-small c k = code-bytes (bytesOf 4 c) (k .well-formed) .small
 
 pub code-below : (c d : ℕ) → Coded c → Coded d → c < d → order (bytesOf 4 c) (bytesOf 4 d) ≡ 1
 code-below c d k l h =
-    four-decides (bytesOf 4 c) (bytesOf 4 d) 0 c d (omega arith) (omega arith) (as-four c k) (as-four d l) 1
-    (λ p. refl) (λ p. absurd (omega arith)) (λ p. absurd (omega arith))
+    weight-below (bytesOf 4 c) (bytesOf 4 d) [] [] refl (code-small c k) (code-small d l)
+    (omega (arith, code-weight c k, code-weight d l))

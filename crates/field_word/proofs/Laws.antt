@@ -1,19 +1,21 @@
 -- Laws of bytes as one number.
 -- Assumes nothing.
-use Prim.Native.Nat.{ℕ, zero, suc, _+_, _-_, _*_, _≤_, _<_}
+use Prim.Native.Nat.{ℕ, zero, suc, _+_, _-_, _*_, _/_, _%_, _^_, _≤_, _<_}
 use mathlib.Core.Path.{_≡_, refl, sym, ap, ap₂, _∙_}
 use mathlib.Core.Bool.{Bool, true, false, _&&_}
 use mathlib.Core.List.{List, [], _∷_, _++_}
 use native.Mathlib.Omega.{arith}
 use native.Mathlib.Numerals.{add-one}
+use native.Mathlib.Nat.{mul-comm, suc-mul, mul-le-mul-right, pow-zero, pow-suc}
 use borrow.Author.Tests.{eq-eqb, ne-eqb, eqb-true, eqb-false}
 use lib.Dec.{eqb}
 use lib.ListN.{length, take, drop, getD, length-append}
 use lib.Seq.{drop-cons}
 use Rattle.field.specs.Test.{only}
 use Rattle.field.specs.Text.{part}
+use Rattle.field.proofs.Values.{outweighs}
 use Rattle.field.proofs.Parts.{part-join}
-use Rattle.field_word.specs.Word.{word, Bytes, Word}
+use Rattle.field_word.specs.Word.{word, weight, Bytes, Word}
 
 -- a byte and those behind it
 taken : (s : List ℕ) (i j n : ℕ) → j ≡ i + 1 → i < length s → take (suc n) (drop i s) ≡ getD s i 0 ∷ take n (drop j s)
@@ -119,3 +121,40 @@ part-eight s i h =
     ap length (eight-part s i)
     ∙ (length-append (part s i (i + 4)) (part s (i + 4) (i + 4 + 4))
     ∙ ap₂ _+_ (part-four s i (omega arith)) (part-four s (i + 4) (omega arith)))
+
+-- the first n bytes of a number, in the other order
+abbrev pub turn : ℕ → ℕ → ℕ
+turn zero w = 0
+turn (suc n) w = w % 256 * 256 ^ n + turn n (w / 256)
+
+turn-word : (s : List ℕ) → Bytes s → turn (length s) (word s) ≡ weight s
+turn-word [] p = refl
+turn-word (x ∷ xs) p =
+    let low : (x + 256 * word xs) % 256 ≡ x = omega (arith, p .0) in
+    let high : (x + 256 * word xs) / 256 ≡ word xs = omega (arith, p .0) in
+    rw (low, high, turn-word xs (p .1))
+
+pub turned-is : (s : List ℕ) (w r : ℕ) → length s ≡ 8 → Word s w → r ≡ turn 8 w → r ≡ weight s
+turned-is s w r e p h = h ∙ (ap₂ turn (sym e) (p .is) ∙ turn-word s (p .small))
+
+-- bytes are told by their number
+pub same-words : (x y : List ℕ) → length x ≡ length y → Bytes x → Bytes y → word x ≡ word y → x ≡ y
+same-words [] [] e p q h = refl
+same-words [] (b ∷ y) e p q h = absurd (omega arith)
+same-words (a ∷ x) [] e p q h = absurd (omega arith)
+same-words (a ∷ x) (b ∷ y) e p q h =
+    ap₂ _∷_ (omega (arith, p .0, q .0))
+    (same-words x y (omega arith) (p .1) (q .1) (omega (arith, p .0, q .0)))
+
+-- a byte outweighs all that is behind it
+pub weight-bound : (s : List ℕ) → Bytes s → weight s < 256 ^ length s
+weight-bound [] p = rw (pow-zero 256) (omega arith)
+weight-bound (x ∷ xs) p =
+    let power = 256 ^ length xs in
+    let most : suc x * power ≤ 256 * power = mul-le-mul-right power (p .0) in
+    rw (pow-suc 256 (length xs), mul-comm power 256) (omega (arith, suc-mul x power, weight-bound xs (p .1)))
+
+-- a first byte that is less weighs less
+pub lighter : (a b : ℕ) (x y : List ℕ) → length x ≡ length y → Bytes x → a < b → weight (a ∷ x) < weight (b ∷ y)
+lighter a b x y e p h =
+    rw (← e) (outweighs b a (256 ^ length x) (weight y) (weight x) h (weight-bound x p))

@@ -7,7 +7,7 @@ ghost use lib.ListN.{length, getD};
 ghost use Rattle.field.specs.Test.{every, only};
 ghost use Rattle.field.specs.Digits.{digit, valueFrom};
 ghost use Rattle.field.specs.Text.{part};
-ghost use Rattle.field_word.specs.Word.{Word};
+ghost use Rattle.field_word.specs.Word.{weight, Word, Weight};
 
 // Spaces.
 const FOUR_BLANK: usize = 538_976_288;
@@ -39,7 +39,7 @@ fn four_at(s: &[u8], i: usize) -> usize
 }
 
 // Eight bytes, the first the least.
-fn eight_at(s: &[u8], i: usize) -> usize
+pub fn eight_at(s: &[u8], i: usize) -> usize
     requires { ⌜ i + 8 ≤ length (now s) ⌝ }
     ensures { λ r. ⌜ Word (part (now (s .entry)) i (i + 8)) r ⌝ }
 {
@@ -60,6 +60,30 @@ pub fn eight_blank(s: &[u8], i: usize) -> bool
     ensures { λ r. ⌜ r ≡ only 32 (part (now (s .entry)) i (i + 8)) ⌝ }
 {
     eight_at(s, i) == EIGHT_BLANK
+}
+
+// The bytes of a number in the other order.
+fn turned(w: usize) -> usize
+    ensures { λ r. ⌜ ((s : List ℕ) → length s ≡ 8 → Word s w → r ≡ weight s) ⌝ }
+{
+    let b = w / 256;
+    let c = b / 256;
+    let d = c / 256;
+    let e = d / 256;
+    let f = e / 256;
+    let g = f / 256;
+    let h = g / 256;
+    let high = (w % 256) * 16_777_216 + (b % 256) * 65_536 + (c % 256) * 256 + d % 256;
+    let low = (e % 256) * 16_777_216 + (f % 256) * 65_536 + (g % 256) * 256 + h % 256;
+    high * 4_294_967_296 + low
+}
+
+// Eight bytes, the first the weightiest.
+pub fn weight_at(s: &[u8], i: usize) -> usize
+    requires { ⌜ i + 8 ≤ length (now s) ⌝ }
+    ensures { λ r. ⌜ Weight (part (now (s .entry)) i (i + 8)) r ⌝ }
+{
+    turned(eight_at(s, i))
 }
 
 // Bits that are 0 where the eight bytes of a number are digits: each of these differs from a 0 by 9 at most.

@@ -11,7 +11,7 @@ use lib.Dec.{eqb}
 use lib.ListN.{length, drop, getD, drop-of-length-le}
 use lib.Seq.{drop-cons}
 use Rattle.field.proofs.Tests.{and-left, and-right, and-true, and-false}
-use Rattle.file_compare.specs.Order.{order, same, Four}
+use Rattle.file_compare.specs.Order.{order, same}
 use Rattle.file_compare.proofs.Order.{by-bytes, first-same}
 
 -- the bytes of two lists compared one by one
@@ -48,83 +48,6 @@ order-end-below a b i h k = simp (drop-of-length-le a h, drop-cons b i 0 k)
 
 pub order-end-same : (a b : List ℕ) (i : ℕ) → length a ≤ i → length b ≤ i → order (drop i a) (drop i b) ≡ 0
 order-end-same a b i h k = simp (drop-of-length-le a h, drop-of-length-le b k)
-
-four : (t u v w : Bool) → ((t && u) && v) && w ≡ true → (t ≡ true) × (u ≡ true) × (v ≡ true) × (w ≡ true)
-four true true true true e = (refl, refl, refl, refl)
-four true true true false e = absurd (false≢true e)
-four true true false w e = absurd (false≢true e)
-four true false v w e = absurd (false≢true e)
-four false u v w e = absurd (false≢true e)
-
--- eight bytes that are the same decide nothing
-module _ (a b : List ℕ) (i : ℕ) where
-  same-step : (k : ℕ) → i + k < length a → i + k < length b → eqb (getD a (i + k) 0) (getD b (i + k) 0) ≡ true
-      → order (drop (i + k) a) (drop (i + k) b) ≡ order (drop (i + suc k) a) (drop (i + suc k) b)
-  same-step k p q e =
-      let same : getD a (i + k) 0 ≡ getD b (i + k) 0 = eqb-true (getD a (i + k) 0) (getD b (i + k) 0) e in
-      let next : i + suc k ≡ i + k + 1 = omega arith in
-      rw next (order-step a b (i + k) p q (omega arith) (omega arith))
-
-  abbrev same-byte : ℕ → Bool
-  same-byte k = eqb (getD a (i + k) 0) (getD b (i + k) 0)
-
-  four-steps : (k : ℕ) → i + k + 3 < length a → i + k + 3 < length b
-      → ((same-byte k && same-byte (suc k)) && same-byte (suc (suc k))) && same-byte (suc (suc (suc k))) ≡ true
-      → order (drop (i + k) a) (drop (i + k) b)
-      ≡ order (drop (i + suc (suc (suc (suc k)))) a) (drop (i + suc (suc (suc (suc k)))) b)
-  four-steps k p q e =
-      let each = four (same-byte k) (same-byte (suc k)) (same-byte (suc (suc k))) (same-byte (suc (suc (suc k)))) e in
-      same-step k (omega arith) (omega arith) (each .0)
-      ∙ (same-step (suc k) (omega arith) (omega arith) (each .1)
-      ∙ (same-step (suc (suc k)) (omega arith) (omega arith) (each .2)
-      ∙ same-step (suc (suc (suc k))) (omega arith) (omega arith) (each .3)))
-
-  pub eight-steps : i + 8 ≤ length a → i + 8 ≤ length b
-      → (((eqb (getD a i 0) (getD b i 0) && same-byte 1) && same-byte 2) && same-byte 3)
-      && (((same-byte 4 && same-byte 5) && same-byte 6) && same-byte 7)
-      ≡ true
-      → order (drop i a) (drop i b) ≡ order (drop (i + 8) a) (drop (i + 8) b)
-  eight-steps p q e =
-      let here : i + 0 ≡ i = omega arith in
-      let low = ((eqb (getD a i 0) (getD b i 0) && same-byte 1) && same-byte 2) && same-byte 3 in
-      let high = ((same-byte 4 && same-byte 5) && same-byte 6) && same-byte 7 in
-      rw here at (four-steps 0 (omega arith) (omega arith) (rw here (and-left low high e)))
-      ∙ four-steps 4 (omega arith) (omega arith) (and-right low high e)
-
--- a byte decides, or what is behind it
-by-byte : (a b : List ℕ) (j n rest : ℕ) → n ≡ j + 1 → j < length a → j < length b
-    → (getD a j 0 < getD b j 0 → rest ≡ 1)
-    → (getD b j 0 < getD a j 0 → rest ≡ 2)
-    → (getD a j 0 ≡ getD b j 0 → order (drop n a) (drop n b) ≡ rest)
-    → order (drop j a) (drop j b) ≡ rest
-by-byte a b j n rest next in-a in-b below more on =
-    by-bytes (getD a j 0) (getD b j 0)
-    (λ h. order-below a b j in-a in-b h ∙ sym (below h))
-    (λ e. order-step a b j in-a in-b (omega arith) (omega arith) ∙ rw next at (on e))
-    (λ h. order-above a b j in-a in-b (omega arith) h ∙ sym (more h))
-
--- four bytes compared as one number decide, or what is behind them
-module _ (a b : List ℕ) (i x y : ℕ) (in-a : i + 4 ≤ length a) (in-b : i + 4 ≤ length b) (f : Four a i x) (g : Four b i y) where
-  pub four-decides : (rest : ℕ) → (x < y → rest ≡ 1) → (y < x → rest ≡ 2)
-      → (x ≡ y → order (drop (i + 4) a) (drop (i + 4) b) ≡ rest)
-      → order (drop i a) (drop i b) ≡ rest
-  four-decides rest below more on =
-      let p = f .is in
-      let q = g .is in
-      let p₁ = f .small (i + 1) in
-      let p₂ = f .small (i + 2) in
-      let p₃ = f .small (i + 3) in
-      let q₁ = g .small (i + 1) in
-      let q₂ = g .small (i + 2) in
-      let q₃ = g .small (i + 3) in
-      by-byte a b i (i + 1) rest refl (omega arith) (omega arith) (λ h. below (omega arith)) (λ h. more (omega arith))
-      (λ e. by-byte a b (i + 1) (i + 2) rest (omega arith) (omega arith) (omega arith)
-      (λ h. below (omega arith)) (λ h. more (omega arith))
-      (λ e₁. by-byte a b (i + 2) (i + 3) rest (omega arith) (omega arith) (omega arith)
-      (λ h. below (omega arith)) (λ h. more (omega arith))
-      (λ e₂. by-byte a b (i + 3) (i + 4) rest (omega arith) (omega arith) (omega arith)
-      (λ h. below (omega arith)) (λ h. more (omega arith))
-      (λ e₃. on (omega arith)))))
 
 -- a byte more of two that are the same
 same-byte-step : (x y : ℕ) (xs ys : List ℕ) → same (x ∷ xs) (y ∷ ys) ≡ eqb x y && same xs ys
@@ -163,8 +86,10 @@ pub record FrontFrom (a b : List ℕ) (i n : ℕ) : Type 0 where
   pub at-most : n ≤ 40 - i
   pub decided : order (drop i a) (drop i b) ≡ order (drop (i + n) a) (drop (i + n) b)
 
-pub front-none : (a b : List ℕ) → FrontFrom a b 40 0
-front-none a b = record { at-most = omega arith; decided = refl }
+pub front-none : (a b : List ℕ) (i : ℕ) → FrontFrom a b i 0
+front-none a b i =
+    let here : i + 0 ≡ i = omega arith in
+    record { at-most = omega arith; decided = rw here refl }
 
 pub front-more : (a b : List ℕ) (i n : ℕ) (same : Bool) → i + 8 ≤ 40
     → (same ≡ true → order (drop i a) (drop i b) ≡ order (drop (i + 8) a) (drop (i + 8) b))

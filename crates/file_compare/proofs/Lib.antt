@@ -1,3 +1,4 @@
 pub mod Order
 pub mod Laws
 pub mod Digits
+pub mod Words

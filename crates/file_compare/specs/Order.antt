@@ -1,11 +1,11 @@
 -- Bytes compared.
 -- Assumes nothing.
-use Prim.Native.Nat.{ℕ, _+_, _*_, _≤_, _<_}
+use Prim.Native.Nat.{ℕ, _≤_}
 use mathlib.Core.Path.{_≡_}
 use mathlib.Core.Bool.{Bool, cond}
 use mathlib.Core.List.{List, [], _∷_}
 use lib.Dec.{ltb, eqb}
-use lib.ListN.{length, drop, getD}
+use lib.ListN.{length, drop}
 
 -- "compared as bytes": 0 the same, 1 the first below the second, 2 above it
 abbrev pub order : List ℕ → List ℕ → ℕ
@@ -19,11 +19,6 @@ pub record SameFront (a b : List ℕ) (n : ℕ) : Type 0 where
   pub in-a : n ≤ length a
   pub in-b : n ≤ length b
   pub decided : order a b ≡ order (drop n a) (drop n b)
-
--- four bytes as one number, the first the weightiest; a byte is below 256
-pub record Four (s : List ℕ) (i n : ℕ) : Type 0 where
-  pub is : n ≡ ((getD s i 0 * 256 + getD s (i + 1) 0) * 256 + getD s (i + 2) 0) * 256 + getD s (i + 3) 0
-  pub small : (k : ℕ) → getD s k 0 < 256
 
 abbrev pub same : List ℕ → List ℕ → Bool
 same a b = eqb (order a b) 0

@@ -1,27 +1,21 @@
 // Bytes compared, many at a time.
 use field::lesser;
+use field_word::inner::eight_at;
+use field_word::inner::weight_at;
 ghost use mathlib.Core.Path.{_≡_};
 ghost use mathlib.Core.Bool.{true, cond};
 ghost use Prim.Native.Nat.{_+_, _≤_};
 ghost use lib.Dec.{eqb};
 ghost use lib.ListN.{length, drop};
-ghost use Rattle.file_compare.specs.Order.{order, same, SameFront, Four};
+ghost use Rattle.file_compare.specs.Order.{order, same, SameFront};
 
-// Whether the eight bytes from `i` on are the same in both: all are looked at, so that they are compared at once.
+// Whether the eight bytes from `i` on are the same in both.
 fn eight_same(a: &[u8], b: &[u8], i: usize) -> bool
     requires { ⌜ (i + 8 ≤ length (now a)) × (i + 8 ≤ length (now b)) ⌝ }
     ensures { λ r. ⌜ (r ≡ true → order (drop i (now (a .entry))) (drop i (now (b .entry)))
         ≡ order (drop (i + 8) (now (a .entry))) (drop (i + 8) (now (b .entry)))) ⌝ }
 {
-    let low = (a[i] == b[i])
-        & (a[i + 1] == b[i + 1])
-        & (a[i + 2] == b[i + 2])
-        & (a[i + 3] == b[i + 3]);
-    let high = (a[i + 4] == b[i + 4])
-        & (a[i + 5] == b[i + 5])
-        & (a[i + 6] == b[i + 6])
-        & (a[i + 7] == b[i + 7]);
-    low & high
+    eight_at(a, i) == eight_at(b, i)
 }
 
 // A front that is the same in both, by eights.
@@ -70,35 +64,15 @@ fn front_of(a: &[u8], b: &[u8]) -> usize
     }
 }
 
-// The four bytes from `i` on as one number.
-fn four_of(s: &[u8], i: usize) -> usize
-    requires { ⌜ i + 4 ≤ length (now s) ⌝ }
-    ensures { λ r. ⌜ Four (now (s .entry)) i r ⌝ }
-{
-    let front = s[i] as usize * 256 + s[i + 1] as usize;
-    (front * 256 + s[i + 2] as usize) * 256 + s[i + 3] as usize
-}
-
-// How the four bytes from `i` on compare: 0 where they are the same, so that what is behind them decides.
-fn four_order(a: &[u8], b: &[u8], i: usize) -> usize
-    requires { ⌜ (i + 4 ≤ length (now a)) × (i + 4 ≤ length (now b)) ⌝ }
-    ensures { λ r. ⌜ order (drop i (now (a .entry))) (drop i (now (b .entry)))
-        ≡ cond (eqb r 0) (order (drop (i + 4) (now (a .entry))) (drop (i + 4) (now (b .entry)))) r ⌝ }
-{
-    let x = four_of(a, i);
-    let y = four_of(b, i);
-    if x < y { 1 } else { if y < x { 2 } else { 0 } }
-}
-
-// The same of the eight bytes from `i` on.
+// How the eight bytes from `i` on compare: 0 where they are the same, so that what is behind them decides.
 fn eight_order(a: &[u8], b: &[u8], i: usize) -> usize
     requires { ⌜ (i + 8 ≤ length (now a)) × (i + 8 ≤ length (now b)) ⌝ }
     ensures { λ r. ⌜ order (drop i (now (a .entry))) (drop i (now (b .entry)))
         ≡ cond (eqb r 0) (order (drop (i + 8) (now (a .entry))) (drop (i + 8) (now (b .entry)))) r ⌝ }
 {
-    let front = four_order(a, b, i);
-    let back = four_order(a, b, i + 4);
-    if front == 0 { back } else { front }
+    let x = weight_at(a, i);
+    let y = weight_at(b, i);
+    if x < y { 1 } else { if y < x { 2 } else { 0 } }
 }
 
 // How what stands from `i` on compares, byte by byte.

@@ -53,7 +53,7 @@ returns c =
     let a = s .args .a .now in
     let b = s .args .b .now in
     let f₅ : FrontFrom a b 32 (c₅ .eights .result) =
-    rw (c₅ .eights .ensures .0) (front-more a b 32 0 (e₅ .eight-same .result) (omega arith) (e₅ .eight-same .ensures) (front-none a b)) in
+    rw (c₅ .eights .ensures .0) (front-more a b 32 0 (e₅ .eight-same .result) (omega arith) (e₅ .eight-same .ensures) (front-none a b 40)) in
     let f₄ : FrontFrom a b 24 (c₄ .eights2 .result) =
     rw (c₄ .eights2 .ensures .0) (front-more a b 24 (c₅ .eights .result) (e₄ .eight-same2 .result) (omega arith) (e₄ .eight-same2 .ensures) f₅) in
     let f₃ : FrontFrom a b 16 (c₃ .eights3 .result) =
