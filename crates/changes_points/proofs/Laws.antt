@@ -2,18 +2,19 @@
 -- Assumes nothing.
 use Prim.Native.Nat.{ℕ, zero, suc}
 use mathlib.Core.Path.{_≡_, refl, sym, ap, _∙_}
-use mathlib.Core.Bool.{Bool, true, false, cond, not, _&&_, _||_}
+use mathlib.Core.Bool.{Bool, true, false, cond, not, true≢false, _&&_, _||_}
 use mathlib.Core.List.{List, [], _∷_}
 use native.Mathlib.Omega.{arith}
 use borrow.Author.Tests.{ne-eqb}
 use lib.Dec.{eqb, lit≤}
 use lib.ListN.{getD, drop}
 use Rattle.field.specs.Test.{every}
-use Rattle.field.specs.Digits.{digitsFault}
+use Rattle.field.specs.Digits.{digit, digitsFault}
 use Rattle.field.specs.Text.{textByte, blank, startsBlank, textFault, filledFault, part}
 use Rattle.field.proofs.Tests.{and-left, and-right}
+use Rattle.field.proofs.Faults.{no-fault}
 use Rattle.field.proofs.Parts.{every-append, every-front, every-back, part-join}
-use Rattle.field_test.proofs.Laws.{begun-text, blank-text}
+use Rattle.field_test.proofs.Laws.{begun-text, begun-filled, blank-text}
 use Rattle.field_outward.specs.Outward.{outwardFault}
 use Rattle.field_outward.specs.Inward.{inwardFault, suffixFault}
 use Rattle.file_fault.specs.Fields.{field, place, first, faultIn, oneOf}
@@ -37,11 +38,27 @@ place-none : (start fault : ℕ) → place start fault ≡ 0 → fault ≡ 0
 place-none start zero e = refl
 place-none start (suc fault) e = absurd (omega arith)
 
--- a text that begins, or is blank
-pub begun-or-blank : (t : Bool) (s : List ℕ) → startsBlank s ≡ t → not t || blank s ≡ true → every textByte s ≡ true
+-- a text that begins, or is known to be blank
+pub begun-or-known : (t r : Bool) (s : List ℕ) → startsBlank s ≡ t → (r ≡ true → blank s ≡ true) → not t || r ≡ true
+    → every textByte s ≡ true
     → textFault s ≡ 0
-begun-or-blank true s start e p = blank-text s e
-begun-or-blank false s start e p = begun-text s start p
+begun-or-known true r s start known e p = blank-text s (known e)
+begun-or-known false r s start known e p = begun-text s start p
+
+-- a name that begins, whether or not it may be blank
+pub begun-name : (small : Bool) (s : List ℕ) → startsBlank s ≡ false → every textByte s ≡ true
+    → cond small (filledFault s) (textFault s) ≡ 0
+begun-name true s start p = begun-filled s start p
+begun-name false s start p = begun-text s start p
+
+pub digits-none : (s : List ℕ) → every digit s ≡ true → digitsFault s ≡ 0
+unfolding digitsFault
+digits-none s e = no-fault digit s 1 e
+
+-- what was refused together was refused apart
+pub neither : (a b : Bool) → a || b ≡ false → (a ≡ false) × (b ≡ false)
+neither true b e = absurd (true≢false e)
+neither false b e = (refl, e)
 
 module _ (rec : List ℕ) where
   -- a record without a fault has a good outward code

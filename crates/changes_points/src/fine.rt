@@ -1,18 +1,19 @@
-// Whether a point record has no fault at all: asked of many bytes at once, without a place, since most records have none.
+// Whether a view has no fault at all: asked of many bytes at once, without a place, since most records have none.
 use crate::letter_at;
 use crate::postcode_type_at;
 use crate::type_at;
 use crate::yes_at;
-use file_record::Organisation;
+use field_word::inner::four_blank;
 use file_record::Point;
 use file_record::View;
 use file_record::byte_of;
 use file_record::part_of;
 ghost use mathlib.Core.Path.{_≡_};
-ghost use mathlib.Core.Bool.{true, cond};
+ghost use mathlib.Core.Bool.{true};
+ghost use Prim.Native.Nat.{_≤_};
+ghost use lib.ListN.{length};
 ghost use Rattle.field.specs.Digits.{digitsFault};
-ghost use Rattle.field.specs.Test.{every};
-ghost use Rattle.field.specs.Text.{textByte, textFault, filledFault, part};
+ghost use Rattle.field.specs.Text.{blank, textFault, part};
 ghost use Rattle.field_outward.specs.Outward.{outwardFault};
 ghost use Rattle.file_fault.specs.Fields.{faultIn};
 ghost use Rattle.file_fault.specs.Point.{pointHead, viewFields, pointFault};
@@ -31,10 +32,10 @@ fn view_digits(rec: &[u8]) -> bool
         × (digitsFault (part (now (rec .entry)) 24 40) ≡ 0) × (digitsFault (part (now (rec .entry)) 42 106) ≡ 0)
         × (digitsFault (part (now (rec .entry)) 114 116) ≡ 0)) ⌝ }
 {
-    field_test::digits_where(
-        rec,
-        b"99999999999999..........9999999999999999..9999999999999999999999999999999999999999999999999999999999999999........99............",
-    )
+    let head = head_digits(rec);
+    let keys = field_test::are_digits(part_of(rec, View::LOCALITY, View::CONCATENATION));
+    let reason = field_test::are_digits(part_of(rec, View::REASON, View::REASON_END));
+    head & (keys & reason)
 }
 
 // Whether the outward code is well formed: that of the record before is, where that is `known`, and most are the same.
@@ -66,86 +67,55 @@ fn is_fine_head(before: &[u8], rec: &[u8], known: bool) -> bool
     (outward & (inward & suffix)) & (user & (letter & kind))
 }
 
+// Whether the PO box is blank.
+fn is_blank_box(rec: &[u8]) -> bool
+    requires { ⌜ 168 ≤ length (now rec) ⌝ }
+    ensures { λ r. ⌜ (r ≡ true → blank (part (now (rec .entry)) 107 113) ≡ true) ⌝ }
+{
+    four_blank(rec, View::PO_BOX) & four_blank(rec, View::PO_BOX + 2)
+}
+
 // Whether the PO box is well formed. Sixteen bytes are taken at once: what else is among them may stand in a text too.
 fn is_fine_box(rec: &[u8]) -> bool
+    requires { ⌜ 168 ≤ length (now rec) ⌝ }
     ensures { λ r. ⌜ (r ≡ true → textFault (part (now (rec .entry)) 107 113) ≡ 0) ⌝ }
 {
-    let texts = field_test::are_text(part_of(rec, 98, View::REASON));
-    let number = part_of(rec, View::PO_BOX, View::INDICATOR);
-    let begins = !field_test::starts_blank(number);
-    let blank = field_test::all_are(number, b' ');
-    texts & (begins | blank)
+    if !field_test::are_text(part_of(rec, 98, View::REASON)) {
+        return false;
+    }
+    let begins = !field_test::starts_blank(part_of(rec, View::PO_BOX, View::INDICATOR));
+    begins | is_blank_box(rec)
 }
 
 // Whether the other fields of a view are well formed.
 fn is_fine_view(rec: &[u8]) -> bool
+    requires { ⌜ 168 ≤ length (now rec) ⌝ }
     ensures { λ r. ⌜ (r ≡ true → digitsFault (part (now (rec .entry)) 42 106) ≡ 0
         → digitsFault (part (now (rec .entry)) 114 116) ≡ 0 → faultIn 42 viewFields (now (rec .entry)) ≡ 0) ⌝ }
 {
+    if !is_fine_box(rec) {
+        return false;
+    }
     let concatenation = yes_at(rec, View::CONCATENATION) == 0;
-    let po_box = is_fine_box(rec);
     let indicator = yes_at(rec, View::INDICATOR) == 0;
-    concatenation & (po_box & indicator)
+    concatenation & indicator
 }
 
-// Whether every byte of name and department may stand in a text. The second part overlaps the first: sixteen bytes are taken at once.
-fn are_texts(rec: &[u8]) -> bool
-    ensures { λ r. ⌜ (r ≡ true → (every textByte (part (now (rec .entry)) 42 102) ≡ true)
-        × (every textByte (part (now (rec .entry)) 102 162) ≡ true)) ⌝ }
-{
-    let most = field_test::are_text(part_of(rec, Organisation::NAME, 154));
-    let rest = field_test::are_text(part_of(rec, 146, Organisation::DEPARTMENT_END));
-    most & rest
-}
-
-// Whether a name of such bytes is well formed; a small user's may not be blank.
-fn is_fine_name(s: &[u8], small: bool) -> bool
-    ensures { λ r. ⌜ (r ≡ true → every textByte (now (s .entry)) ≡ true
-        → cond small (filledFault (now (s .entry))) (textFault (now (s .entry))) ≡ 0) ⌝ }
-{
-    let begins = !field_test::starts_blank(s);
-    let blank = field_test::all_are(s, b' ');
-    begins | (blank & !small)
-}
-
-// Whether a department of such bytes is well formed.
-fn is_fine_department(s: &[u8]) -> bool
-    ensures { λ r. ⌜ (r ≡ true → every textByte (now (s .entry)) ≡ true → textFault (now (s .entry)) ≡ 0) ⌝ }
-{
-    let begins = !field_test::starts_blank(s);
-    let blank = field_test::all_are(s, b' ');
-    begins | blank
-}
-
-// Whether name and department of an organisation are well formed.
-fn is_fine_organisation(rec: &[u8], small: bool) -> bool
-    ensures { λ r. ⌜ (r ≡ true → (cond small (filledFault (part (now (rec .entry)) 42 102))
-        (textFault (part (now (rec .entry)) 42 102)) ≡ 0) × (textFault (part (now (rec .entry)) 102 162) ≡ 0)) ⌝ }
-{
-    let texts = are_texts(rec);
-    let name = is_fine_name(
-        part_of(rec, Organisation::NAME, Organisation::DEPARTMENT),
-        small,
-    );
-    let department = is_fine_department(part_of(
-        rec,
-        Organisation::DEPARTMENT,
-        Organisation::DEPARTMENT_END,
-    ));
-    texts & (name & department)
-}
-
-// Whether a record is known to have no fault; the one before it has none where that is `known`. Each part is asked in one
-// place, so that all of it is compiled as one.
+// Whether a record is known to be a view without a fault; the record before it has none where that is `known`. Each part ends
+// it where it says no, so that each is compiled by itself.
 pub fn is_fine(before: &[u8], rec: &[u8], known: bool) -> bool
     requires { ⌜ (known ≡ true → pointFault (now before) ≡ 0) ⌝ }
     ensures { λ r. ⌜ (r ≡ true → pointFault (now (rec .entry)) ≡ 0) ⌝ }
 {
     let kind = byte_of(rec, Point::TYPE);
-    let head = is_fine_head(before, rec, known);
-    if kind == b'1' {
-        head & (view_digits(rec) & is_fine_view(rec))
-    } else {
-        head & (head_digits(rec) & is_fine_organisation(rec, kind == b'2'))
+    if (kind != b'1') | (rec.len() < Point::WIDTH) {
+        return false;
     }
+    if !view_digits(rec) {
+        return false;
+    }
+    if !is_fine_head(before, rec, known) {
+        return false;
+    }
+    is_fine_view(rec)
 }

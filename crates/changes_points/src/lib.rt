@@ -1,5 +1,6 @@
 // The records of a point file between header and trailer.
 mod fine;
+mod follower;
 pub mod inner;
 
 use file_fault::inner::byte_fault;

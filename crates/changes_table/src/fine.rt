@@ -99,7 +99,8 @@ fn is_fine_rest(rec: &[u8]) -> bool
 pub fn is_fine(rec: &[u8]) -> bool
     ensures { λ r. ⌜ (r ≡ true → tableFault (now (rec .entry)) ≡ 0) ⌝ }
 {
-    let head = is_fine_head(rec);
-    let rest = is_fine_rest(rec);
-    head & rest
+    if !is_fine_head(rec) {
+        return false;
+    }
+    is_fine_rest(rec)
 }

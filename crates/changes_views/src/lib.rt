@@ -19,8 +19,8 @@ pub fn is_wanted(rec: &[u8], code: &[u8]) -> bool
         file_record::Point::OUTWARD,
         file_record::Point::INWARD,
     );
-    let order = file_compare::order_of(outward, code);
-    ((letter == b'I') | (letter == b'C')) & (order == 0)
+    let same = file_compare::same_bytes(outward, code);
+    ((letter == b'I') | (letter == b'C')) & same
 }
 
 // The trailer's place; 0 where the file has no records.

@@ -4,7 +4,7 @@ use field::lesser;
 ghost use mathlib.Core.Path.{_≡_};
 ghost use mathlib.Core.Bool.{not};
 ghost use Rattle.field.specs.Test.{member, every, only, firstFault};
-ghost use Rattle.field.specs.Digits.{digitsFault};
+ghost use Rattle.field.specs.Digits.{digit, digitsFault};
 ghost use Rattle.field.specs.Text.{textByte, startsBlank, textFault, filledFault};
 ghost use Rattle.field_test.specs.Pattern.{digitsWhere};
 
@@ -115,6 +115,13 @@ pub fn digits_where(s: &[u8], pattern: &[u8]) -> bool
         i += 1;
     }
     !bad
+}
+
+// Whether every byte is a digit: this looks for no place.
+pub fn are_digits(s: &[u8]) -> bool
+    ensures { λ r. ⌜ r ≡ every digit (now (s .entry)) ⌝ }
+{
+    all_in(s, 48, 57, 1, 0)
 }
 
 // Whether every byte may stand in a text: this looks for no place.

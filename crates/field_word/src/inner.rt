@@ -86,6 +86,14 @@ pub fn weight_at(s: &[u8], i: usize) -> usize
     turned(eight_at(s, i))
 }
 
+// Whether the eight bytes from `i` on are zeros.
+pub fn eight_zero(s: &[u8], i: usize) -> bool
+    requires { ⌜ i + 8 ≤ length (now s) ⌝ }
+    ensures { λ r. ⌜ r ≡ only 48 (part (now (s .entry)) i (i + 8)) ⌝ }
+{
+    eight_at(s, i) == EIGHT_ZERO
+}
+
 // Bits that are 0 where the eight bytes of a number are digits: each of these differs from a 0 by 9 at most.
 fn others_in(w: usize) -> usize
     ensures { λ r. ⌜ ((s : List ℕ) → length s ≡ 8 → Word s w → r ≡ 0 → every digit s ≡ true) ⌝ }

@@ -1,3 +1,4 @@
 pub mod Check
 pub mod Formats
 pub mod Accepted
+pub mod Viewed

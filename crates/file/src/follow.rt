@@ -1,11 +1,15 @@
 // Owners and followers in a point file.
+use field_word::inner::eight_zero;
+use file_compare::inner::is_same_41;
 use file_record::Point;
 ghost use mathlib.Core.Path.{_≡_};
-ghost use mathlib.Core.Bool.{cond};
+ghost use mathlib.Core.Bool.{true, cond, _||_};
 ghost use Prim.Native.Nat.{_+_, _-_, _/_, _≤_, _<_};
+ghost use lib.Dec.{eqb};
 ghost use lib.ListN.{length};
 ghost use Rattle.file_record.specs.Names.Point.{width};
 ghost use Rattle.file.specs.Formats.{needed, follows, placedAt};
+ghost use Rattle.file.specs.Viewed.{Viewed};
 
 // The type of record that is needed next: by what all of this is said at once, so that nothing is decided on the way.
 fn needed_by(view: bool, large: bool, alone: bool) -> u8
@@ -67,4 +71,21 @@ pub fn is_placed(file: &[u8], i: usize) -> bool
     let next = file_record::inner::whole_record(file, Point::WIDTH, place + 1);
     let followed = is_follower(need, owner, next);
     (own & (need == 0)) | followed
+}
+
+// Whether a view is known to need no follower, or to have it behind it. Its organisation key has digits alone, so that eight
+// bytes say whether it is zero.
+pub fn is_followed(view: &[u8], next: &[u8]) -> bool
+    requires { ⌜ Viewed (now view) × (168 ≤ length (now next)) ⌝ }
+    ensures { λ r. ⌜ (r ≡ true
+        → (eqb (needed (now (view .entry))) 0 || follows (now (view .entry)) (now (next .entry))) ≡ true) ⌝ }
+{
+    let large = file_record::byte_of(view, Point::POSTCODE_TYPE) == b'L';
+    let need = needed_by(true, large, eight_zero(view, Point::ORGANISATION_KEY));
+    let kind = file_record::byte_of(next, Point::TYPE);
+    let same = is_same_41(
+        file_record::part_of(next, 0, Point::TYPE),
+        file_record::part_of(view, 0, Point::TYPE),
+    );
+    (need == 0) | ((kind == need) & same)
 }

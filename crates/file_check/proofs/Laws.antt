@@ -7,7 +7,7 @@ use native.Mathlib.Omega.{arith}
 use Rattle.refusal.specs.declared.Verdict.the-variants.{Fine}
 use Rattle.file.specs.Check.{Format, records, judged}
 use Rattle.file.proofs.Laws.{scan-step}
-use Rattle.file.proofs.Accepted.{judged-record}
+use Rattle.file_formats.specs.Walk.{Walk}
 use Rattle.file_check.specs.Scanning.{Scanning, Onward}
 
 module _ (f : Format) (file : List ℕ) (n : ℕ) where
@@ -32,10 +32,14 @@ module _ (f : Format) (file : List ℕ) (n : ℕ) where
               few = s .few;
               low = omega arith;
               high = omega arith;
-              last-fine = λ other. rw here (judged-record f file i e .well-formed);
+              last-fine = λ other. rw here e;
             };
         found = o .found ∙ scan-step (judged f file) (n - 1) i h e;
       }
+
+  -- the walk, as the test of a record asks for it
+  pub walking : (i : ℕ) → Scanning f file n i → i < n - 1 → Walk f file i
+  walking i s h = record { low = s .low; high = omega (arith, s .all, s .two); last-fine = s .last-fine }
 
   pub onward-on : (from i j : ℕ) → Onward f file n from i → Onward f file n i j → Onward f file n from j
   onward-on from i j o p = record { on = omega (arith, o .on, p .on); reached = p .reached; found = o .found ∙ p .found }

@@ -14,8 +14,8 @@ use file::Kind;
 use file_formats::inner::fault_in;
 use file_formats::inner::is_above;
 use file_formats::inner::is_between;
-use file_formats::inner::is_fine;
 use file_formats::inner::is_header;
+use file_formats::inner::is_standing;
 use file_formats::inner::is_trailer;
 use file_formats::inner::is_whole;
 use file_formats::inner::numbers_of;
@@ -26,9 +26,7 @@ use refusal::Answer;
 use refusal::Reason;
 use refusal::Verdict;
 ghost use mathlib.Core.Path.{_≡_};
-ghost use mathlib.Core.Bool.{true};
 ghost use Prim.Native.Nat.{_+_, _-_, _≤_, _<_};
-ghost use Rattle.refusal.specs.declared.Verdict.the-variants.{Fine};
 ghost use Rattle.file.specs.Check.{records, judged, scan, verdict, answered, checked};
 ghost use Rattle.file_check.specs.Scanning.{Scanning, Onward};
 ghost use Rattle.file.specs.Formats.{formatOf, tableFormat, pointFormat};
@@ -54,19 +52,6 @@ fn judge(kind: Kind, file: &[u8], i: usize) -> Verdict
     }
 }
 
-// Whether record `i` is known to stand as it must: this looks for no place.
-fn stands(kind: Kind, file: &[u8], n: usize, i: usize) -> bool
-    requires { ⌜ Scanning (formatOf kind) (now file) n i × (i < n - 1) ⌝ }
-    ensures { λ r. ⌜ (r ≡ true → judged (formatOf kind) (now (file .entry)) i ≡ Fine) ⌝ }
-{
-    let rec = record_in(kind, file, i);
-    let before = record_in(kind, file, i - 1);
-    let fine = is_fine(kind, before, rec, i != 1);
-    let above = is_above(kind, i, before, rec);
-    let between = is_between(kind, file, i);
-    fine & (above & between)
-}
-
 // The first record from `from` on that is not known to stand. Most records are, so that this loop is nearly all there is.
 fn standing(kind: Kind, file: &[u8], n: usize, from: usize) -> usize
     requires { ⌜ Scanning (formatOf kind) (now file) n from ⌝ }
@@ -74,7 +59,7 @@ fn standing(kind: Kind, file: &[u8], n: usize, from: usize) -> usize
 {
     let mut i = from;
     while i < n - 1 {
-        if !stands(kind, file, n, i) {
+        if !is_standing(kind, file, i) {
             return i;
         }
         i += 1;

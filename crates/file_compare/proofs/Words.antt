@@ -2,14 +2,18 @@
 -- Assumes nothing.
 use Prim.Native.Nat.{ℕ, _+_, _-_, _≤_, _<_}
 use mathlib.Core.Path.{_≡_, refl, sym, ap, ap₂, _∙_}
+use mathlib.Core.Bool.{true}
 use mathlib.Core.List.{List, [], _∷_, _++_}
 use native.Mathlib.Omega.{arith}
-use lib.ListN.{length, take, drop, take-append-drop}
+use borrow.Author.Tests.{lt-ltb, le-ltb, eq-eqb}
+use lib.Dec.{ltb, eqb}
+use lib.ListN.{length, take, drop, getD, take-append-drop}
 use lib.Seq.{drop-drop}
 use Rattle.field.specs.Text.{part}
 use Rattle.field_word.specs.Word.{weight, Bytes, Word, Weight}
 use Rattle.field_word.proofs.Laws.{part-eight, same-words, lighter}
-use Rattle.file_compare.specs.Order.{order}
+use Rattle.file_compare.specs.Order.{order, same, above}
+use Rattle.file_compare.proofs.Laws.{order-step, order-end-same}
 use Rattle.file_compare.proofs.Order.{by-bytes, first-below, first-same, below-above}
 
 -- what both begin with decides nothing
@@ -85,3 +89,20 @@ module _ (a b : List ℕ) (i : ℕ) (in-a : i + 8 ≤ length a) (in-b : i + 8 �
 
     pub eight-even : x ≡ y → order (drop i a) (drop i b) ≡ order (drop (i + 8) a) (drop (i + 8) b)
     eight-even e = same-part (weight-same _ _ alike (p .small) (q .small) (sym (p .is) ∙ (e ∙ q .is)))
+
+    -- eight bytes that differ decide whether the one is above the other
+    pub eight-decides : order a b ≡ order (drop i a) (drop i b) → (x ≡ y → ⊥) → ltb y x ≡ above a b
+    eight-decides on other =
+        by-bytes x y
+        (λ h. le-ltb y x (omega arith) ∙ sym (ap (λ n. eqb n 2) (on ∙ eight-below h)))
+        (λ e. absurd (other e))
+        (λ h. lt-ltb y x h ∙ sym (ap (λ n. eqb n 2) (on ∙ eight-above h)))
+
+-- forty bytes by eights, and one more
+module _ (a b : List ℕ) (in-a : length a ≡ 41) (in-b : length b ≡ 41) where
+  pub same-to-the-end : order a b ≡ order (drop 40 a) (drop 40 b) → getD a 40 0 ≡ getD b 40 0 → same a b ≡ true
+  same-to-the-end on e =
+      eq-eqb (order a b) 0
+      (on
+      ∙ (order-step a b 40 (omega arith) (omega arith) (omega arith) (omega arith)
+      ∙ order-end-same a b 41 (omega arith) (omega arith)))

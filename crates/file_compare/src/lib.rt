@@ -1,4 +1,7 @@
 // Bytes compared, many at a time.
+mod above;
+pub mod inner;
+
 use field::lesser;
 use field_word::inner::eight_at;
 use field_word::inner::weight_at;

@@ -1,10 +1,10 @@
 // What differs from kind to kind of file. A new kind is one more case here, as in `file::Kind` and `Formats.formatOf`.
+pub use crate::standing::is_standing;
 use file::Kind;
 use file::inner::is_placed;
 use file_record::Point;
 use file_record::Table;
 ghost use mathlib.Core.Path.{_≡_};
-ghost use mathlib.Core.Bool.{true};
 ghost use Prim.Native.Nat.{_+_, _≤_, _<_};
 ghost use Rattle.field.specs.Text.{part};
 ghost use Rattle.file_compare.specs.Order.{above};
@@ -95,17 +95,6 @@ pub fn fault_in(kind: Kind, rec: &[u8]) -> usize
     match kind {
         Kind::Table => changes_table::table_fault(rec),
         Kind::Points => changes_points::point_fault(rec),
-    }
-}
-
-// Whether a record is known to have no fault: this looks for no place. The one before it has none where that is `known`.
-pub fn is_fine(kind: Kind, before: &[u8], rec: &[u8], known: bool) -> bool
-    requires { ⌜ (known ≡ true → formatOf kind .fault (now before) ≡ 0) ⌝ }
-    ensures { λ r. ⌜ (r ≡ true → formatOf kind .fault (now (rec .entry)) ≡ 0) ⌝ }
-{
-    match kind {
-        Kind::Table => changes_table::inner::is_fine(rec),
-        Kind::Points => changes_points::inner::is_fine(before, rec, known),
     }
 }
 

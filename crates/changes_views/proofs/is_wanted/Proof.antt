@@ -27,7 +27,7 @@ returns-3 c =
     let u = b .before in
     let t = u .before in
     let s = t .before .before .before .before in
-    rw (c .order-of .ensures, c .before .part-of .ensures, b .byte-of2 .ensures)
+    rw (c .same-bytes .ensures, c .before .part-of .ensures, b .byte-of2 .ensures)
     (sym
     (wanted-live (s .args .code .now) (s .args .rec .now)
     (eq-eqb _ 49 (rw (t .before .byte-of .ensures) at (t .if1 .left))) (u .if2 .left)))

@@ -6,7 +6,7 @@ use native.Mathlib.Omega.{arith}
 use borrow.Author.Tests.{not-false}
 use Rattle.file.specs.Formats.{formatOf}
 use Rattle.file_check.specs.Scanning.{Onward}
-use Rattle.file_check.proofs.Laws.{onward-none, onward-next}
+use Rattle.file_check.proofs.Laws.{onward-none, onward-next, walking}
 use Rattle.file_check.proofs.standing.Statement.{statement}
 use Rattle.file_check.proofs.standing.Tie as tie
 
@@ -24,8 +24,11 @@ loop-holds c =
 sub-loop : tie.Need-sub-loop Inv-loop μ-loop
 sub-loop c = omega (arith, c .loop .inv .reached .two)
 
-stands-requires : tie.Need-stands-requires Inv-loop μ-loop
-stands-requires c κs = (c .before .loop .inv .reached, omega arith)
+is-standing-requires : tie.Need-is-standing-requires Inv-loop μ-loop
+is-standing-requires c κs =
+    let l = c .before in
+    let a = l .before .before .args in
+    walking (formatOf (a .kind)) (a .file .now) (a .n) (l .loop .i) (l .loop .inv .reached) (omega arith)
 
 returns : tie.Need-returns Inv-loop μ-loop
 returns c = c .before .before .before .loop .inv
@@ -42,7 +45,7 @@ loop-again c =
     let l = s .before .before in
     let a = l .before .before .args in
     onward-next (formatOf (a .kind)) (a .file .now) (a .n) (a .from) (l .loop .i) (l .loop .inv) (omega arith)
-    (s .stands .ensures (not-false _ (c .if1 .left)))
+    (s .is-standing .ensures (not-false _ (c .if1 .left)))
 
 returns-2 : tie.Need-returns-2 Inv-loop μ-loop
 returns-2 c = c .before .loop .inv
@@ -55,7 +58,7 @@ standing-spec =
     μ-loop
     loop-holds
     sub-loop
-    stands-requires
+    is-standing-requires
     returns
     add-i
     loop-less

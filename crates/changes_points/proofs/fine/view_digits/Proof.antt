@@ -1,27 +1,32 @@
 -- `changes_points::fine::view_digits` meets its contract. Assumes nothing.
 use borrow.Author.Needs.{needs}
-use mathlib.Core.Path.{_≡_, refl, sym, ap, _∙_}
-use Rattle.field_test.proofs.Laws.{digits-where}
+use Rattle.changes_points.proofs.Laws.{three, digits-none}
+use mathlib.Core.Path.{sym, _∙_}
 use Rattle.changes_points.proofs.fine.view_digits.Statement.{statement}
 use Rattle.changes_points.proofs.fine.view_digits.Tie as tie
 
-slice-aggregate-digits-where : tie.Need-slice-aggregate-digits-where
-slice-aggregate-digits-where c = search needs
-
-digits-where-requires : tie.Need-digits-where-requires
-digits-where-requires c κs = search needs
-
 returns : tie.Need-returns
 returns c =
+    let reason = c .before in
+    let keys = reason .before in
+    let part = keys .before in
+    let head = part .before in
     λ e.
-    let fits = sym (c .digits-where .ensures) ∙ e in
-    let rec = c .before .before .before .args .rec .now in
-    (digits-where rec _ 0 14 fits refl, digits-where rec _ 24 40 fits refl, digits-where rec _ 42 106 fits refl, digits-where rec _ 114 116 fits refl)
+    let each = three (head .head-digits .result) (keys .are-digits .result) (c .are-digits2 .result) e in
+    let front = head .head-digits .ensures (each .0) in (
+      front .0,
+      front .1,
+      digits-none _ (rw (part .part-of .ensures) at (sym (keys .are-digits .ensures) ∙ each .1)),
+      digits-none _ (rw (reason .part-of2 .ensures) at (sym (c .are-digits2 .ensures) ∙ each .2)),
+    )
 
 pub view-digits-spec : {M : Type 1} → statement M
 view-digits-spec =
     tie.close
     (tie.spec
-    slice-aggregate-digits-where
-    digits-where-requires
+    (search needs)
+    (search needs)
+    (search needs)
+    (search needs)
+    (search needs)
     returns)
