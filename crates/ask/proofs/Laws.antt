@@ -4,6 +4,7 @@ use Prim.Native.Nat.{ℕ, zero, suc}
 use mathlib.Core.Path.{_≡_, refl, ap, _∙_}
 use mathlib.Core.Bool.{Bool, true, false, cond}
 use mathlib.Core.List.{List, [], _∷_}
+use mathlib.Core.Option.{some}
 use borrow.Author.Tests.{eq-eqb, ne-eqb}
 use Rattle.field_outward.specs.Outward.{outwardFault}
 use Rattle.refusal.specs.declared.Reason.{Reason}
@@ -17,8 +18,10 @@ use Rattle.source.specs.Resolve.{Resolved}
 use Rattle.source.specs.Same.{AllOf, AllAgree}
 use Rattle.source.proofs.Same.{resolve-same}
 use Rattle.label.specs.Label.{resolvedOutcome}
+use Rattle.item.specs.Item.{Heading, itemOutcome}
 use Rattle.ask.specs.Source.{Source, inCode}
-use Rattle.ask.specs.Labels.{kthLabel, codeFirst, byCode}
+use Rattle.ask.specs.Labels.{kth, kthLabel, codeFirst, byCode}
+use Rattle.ask.specs.Lists.{resolvedOf, kthItem}
 
 -- what holds of each address holds of those in a code
 pub in-code-all : (P : Address → Type 0) (code : List ℕ) (views : List Address) → AllOf P views
@@ -39,6 +42,22 @@ module _ (look other : Lookup) (out : List ℕ) where
   kth-same (a ∷ more) zero h = refl
   kth-same (a ∷ more) (suc zero) h = ap (λ (r : Resolved). resolvedOutcome r out) (resolve-same look other a (h .0))
   kth-same (a ∷ more) (suc (suc k)) h = kth-same more (suc k) (h .1)
+
+-- and list them alike
+module _ (look other : Lookup) (line out : List ℕ) where
+  item-same : (views : List Address) (k : ℕ) → AllAgree look other views
+      → itemOutcome line (resolvedOf look (kth views k)) out ≡ itemOutcome line (resolvedOf other (kth views k)) out
+  item-same [] k h = refl
+  item-same (a ∷ more) zero h = refl
+  item-same (a ∷ more) (suc zero) h =
+      ap (λ (r : Resolved). itemOutcome line (some r) out) (resolve-same look other a (h .0))
+  item-same (a ∷ more) (suc (suc k)) h = item-same more (suc k) (h .1)
+
+pub kth-item-same : (look other : Lookup) (heading : Heading) (views : List Address) (k : ℕ) (out : List ℕ)
+    → AllAgree look other views
+    → kthItem heading look views k out ≡ kthItem heading other views k out
+unfolding kthItem
+kth-item-same look other heading views k out h = item-same look other (heading k) out views k h
 
 module _ {A : Type 0} (whole : ℕ → Reason → A) (code out : List ℕ) (next : Outcome A) where
   pub code-good : outwardFault code ≡ 0 → codeFirst whole code out next ≡ next

@@ -1,3 +1,4 @@
 pub mod Source
 pub mod Labels
 pub mod Runs
+pub mod Lists

@@ -15,6 +15,8 @@ pub record Source : Type 0 where
   -- its delivery points, "numbered from 1 in file order", and those of them that count as live
   pub views : List Address
   pub live : List Address
+  -- the line that stands before one of them in a listing
+  pub heading : Address → List ℕ
 
 -- "the live views of that outward code in file order"
 abbrev pub inCode : List ℕ → List Address → List Address

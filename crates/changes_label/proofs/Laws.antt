@@ -22,15 +22,18 @@ use Rattle.file.proofs.Accepted.{accepted}
 use Rattle.changes_views.specs.Views.{wantedIn, wantedCount, wantedAt}
 use Rattle.changes_views.proofs.Laws.{wanted-at-wanted, wanted-at-zero, wanted-at-none}
 use Rattle.source.specs.Address.{Elements}
-use Rattle.source.specs.Resolve.{Resolved, elements, refused}
+use Rattle.source.specs.Resolve.{Resolved, elements, refused, elementsOf}
 use Rattle.label.specs.Label.{labelOf, roomOutcome, resolvedOutcome}
 use Rattle.label.proofs.Room.{room-within}
+use Rattle.label.proofs.Bounds.{at-most-499}
 use Rattle.ask.specs.Labels.{kth, kthLabel, labelOutcome, viewLabel, codeLabel}
 use Rattle.ask.proofs.Laws.{by-good-code}
 use Rattle.changes_source.specs.Rows.{tableLookup}
+use Rattle.changes_source.specs.Addresses.{addressAt}
 use Rattle.changes_pair.specs.Live.{viewAt, viewsAt}
 use Rattle.changes_pair.specs.Pair.{pairOf}
 use Rattle.changes_pair.proofs.Live.{all-views, live-views, kth-there, kth-missing, resolve-number}
+use Rattle.changes_meaning.proofs.Meant.{address-fits}
 use Rattle.changes_label.specs.Places.{resolvedAt, placeLabel, ViewPlace}
 
 -- ---- one place
@@ -61,10 +64,17 @@ module _ (table points : List ℕ) (place : ℕ) (out : List ℕ) where
         by-case (refused why) q =
             absurd (refused-value 0 b why (sym (answer-of (some-place place-some (refused why) q)) ∙ e))
 
+-- the label of a view has at most 499 bytes
+pub label-fits : (table points : List ℕ) (place : ℕ) → ViewPlace table points place → (place ≡ 0 → ⊥)
+    → length (labelOf (elementsOf (tableLookup table) (addressAt points 0 place))) ≤ 499
+label-fits table points place v some =
+    at-most-499 (elementsOf (tableLookup table) (addressAt points 0 place))
+    (address-fits table points (v .of-table) place (v .high some) 0)
+
 -- ---- the place of the k-th that is wanted
 
 -- a place that is found is one of those that are wanted
-counted : (points code : List ℕ) (k : ℕ) → (wantedAt code points k ≡ 0 → ⊥) → (1 ≤ k) × (k ≤ wantedCount code points)
+pub counted : (points code : List ℕ) (k : ℕ) → (wantedAt code points k ≡ 0 → ⊥) → (1 ≤ k) × (k ≤ wantedCount code points)
 counted points code zero n = absurd (n (wanted-at-zero code points))
 counted points code (suc k) n = (omega arith, by-test (leb (suc k) (wantedCount code points)) refl)
   where

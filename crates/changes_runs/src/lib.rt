@@ -1,4 +1,5 @@
 // Runs of labels of a pair of files, by view and by code.
+pub mod inner;
 mod places;
 
 use places::run_places;

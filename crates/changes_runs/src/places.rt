@@ -28,7 +28,7 @@ fn label_behind<'a>(
 }
 
 // The place of the next that is wanted, 0 where there is none.
-fn place_behind(points: &[u8], code: &[u8], place: usize) -> usize
+pub fn place_behind(points: &[u8], code: &[u8], place: usize) -> usize
     requires { ⌜ place ≤ lastOf (now points) ⌝ }
     ensures { λ r. ⌜ r ≡ placeBehind (now (code .entry)) (now (points .entry)) place ⌝ }
 {

@@ -2,21 +2,22 @@
 -- Assumes nothing.
 use Prim.Native.Nat.{ℕ, _+_, _≤_, _<_}
 use mathlib.Core.Path.{_≡_, refl, sym, ap, _∙_}
-use mathlib.Core.Bool.{Bool, true, false}
+use mathlib.Core.Bool.{Bool, true, false, cond}
 use mathlib.Core.List.{List, [], _∷_, _++_, append-assoc}
 use native.Mathlib.Omega.{arith}
 use borrow.Author.Tests.{eq-eqb, ne-eqb, le-leb, lt-leb, leb-true, leb-false}
-use lib.Dec.{leb}
+use lib.Dec.{eqb, leb}
 use lib.ListN.{length, take, drop, length-append, length-drop, take-append-drop}
 use lib.Seq.{length-take-le, drop-at, drop-drop}
 use Rattle.refusal.specs.declared.Reason.{Reason}
-use Rattle.refusal.specs.declared.Reason.the-variants.{NoSuchNumber, Room}
+use Rattle.refusal.specs.declared.Reason.the-variants.{NoSuchNumber, Combination, MissingKey, Room}
 use Rattle.refusal.specs.declared.Answer.{Answer}
 use Rattle.refusal.specs.declared.Answer.the-variants.{Value, Refused}
 use Rattle.refusal.specs.Outcome.{Outcome, said}
 use Rattle.refusal.specs.Refusal.{number, detail}
 use Rattle.refusal.proofs.Outcomes.{said-as, answer-of}
-use Rattle.source.specs.Resolve.{Resolved, elements, refused}
+use Rattle.source.specs.Address.{Lookup, Address}
+use Rattle.source.specs.Resolve.{Resolved, elements, refused, forbidden, missing, elementsOf, resolve}
 use Rattle.label.specs.Put.{Put}
 use Rattle.label.specs.Label.{labelOf, roomOutcome, resolvedOutcome}
 use Rattle.label.proofs.Room.{Fitting, fits, short, fitting, room-fits, room-short}
@@ -204,3 +205,29 @@ item-small r out t h e = rw (answer-of e) (resolved-small r out t h)
 
 pub none-small : {a : Answer} {y out : List ℕ} → said a y ≡ said (Refused 0 NoSuchNumber) out → Small a
 none-small e = rw (answer-of e) (λ ten. absurd (omega (arith, ten)))
+
+-- what an address resolves to is told by a line, and no longer than its label
+module _ (look : Lookup) (a : Address) where
+  pub telling : Telling (resolve look a)
+  unfolding resolve
+  telling = by-tests (eqb (forbidden a) 0) (eqb (missing look a) 0)
+    where
+      by-tests : (t u : Bool)
+          → Telling
+          (cond t (cond u (elements (elementsOf look a)) (refused (MissingKey (missing look a) 0)))
+          (refused (Combination (forbidden a) 0)))
+      by-tests true true = tt
+      by-tests true false = (λ e. omega (arith, e), λ e. omega (arith, e))
+      by-tests false u = (λ e. omega (arith, e), λ e. omega (arith, e))
+
+  pub bounded : length (labelOf (elementsOf look a)) ≤ 4_294_967_295 → Bounded (resolve look a)
+  unfolding resolve
+  bounded h = by-tests (eqb (forbidden a) 0) (eqb (missing look a) 0)
+    where
+      by-tests : (t u : Bool)
+          → Bounded
+          (cond t (cond u (elements (elementsOf look a)) (refused (MissingKey (missing look a) 0)))
+          (refused (Combination (forbidden a) 0)))
+      by-tests true true = h
+      by-tests true false = tt
+      by-tests false u = tt

@@ -1,8 +1,9 @@
--- The labels of a pack: "Labels from a pack: 11, 7, 10."
+-- The labels of a pack, "Labels from a pack: 11, 7, 10", and the items of its listing.
 -- Assumes nothing.
 use Prim.Native.Nat.{ℕ, _+_, _*_, _-_}
 use mathlib.Core.Bool.{Bool, cond, _&&_}
 use mathlib.Core.List.{List, []}
+use mathlib.Core.Option.{Option, none, some}
 use lib.Dec.{eqb, leb}
 use lib.ListN.{getD}
 use Rattle.field.specs.Text.{textIn, part}
@@ -11,7 +12,9 @@ use Rattle.refusal.specs.declared.Answer.{Answer}
 use Rattle.refusal.specs.declared.Answer.the-variants.{Refused}
 use Rattle.refusal.specs.Outcome.{Outcome, said, afterwards}
 use Rattle.source.specs.Address.{Elements}
+use Rattle.source.specs.Resolve.{Resolved, elements}
 use Rattle.label.specs.Label.{labelOf, roomOutcome}
+use Rattle.item.specs.Item.{Heading, itemOutcome}
 use Rattle.pack.specs.Names.{inwardAt, postcodeWidth, concatenationAt, boxAt, offsetsAt, pointWidth, absent}
 use Rattle.pack.specs.Opening.{edition, pointsStart, pointCount, rowArea, rowText, restOf, offsetOfPoint, buildingNumber, opened}
 
@@ -62,3 +65,13 @@ pointLabel pack k out =
 -- of any bytes: "Labels from a pack: 11, 7, 10"
 unfoldable pub packLabel : List ℕ → ℕ → List ℕ → Outcome Answer
 packLabel pack k out = afterwards Refused (opened pack) out (pointLabel pack k out)
+
+-- the same as an item of a listing, under any heading
+abbrev pub pointResolved : List ℕ → ℕ → Option Resolved
+pointResolved pack k = cond (isPoint pack k) (some (elements (elementsAt pack (pointPlace pack k)))) none
+
+unfoldable pub pointItem : Heading → List ℕ → ℕ → List ℕ → Outcome Answer
+pointItem heading pack k out = itemOutcome (heading k) (pointResolved pack k) out
+
+unfoldable pub packItem : Heading → List ℕ → ℕ → List ℕ → Outcome Answer
+packItem heading pack k out = afterwards Refused (opened pack) out (pointItem heading pack k out)

@@ -1,4 +1,4 @@
--- The labels of a pack are those of its source, number by number.
+-- The labels of a pack are those of its source, number by number, and so are the items of its listing.
 -- Assumes nothing.
 use Prim.Native.Nat.{ℕ, zero, suc, _≤_, _<_}
 use mathlib.Core.Path.{_≡_, refl, sym, ap, _∙_}
@@ -13,9 +13,11 @@ use Rattle.source.specs.Address.{Lookup, Address}
 use Rattle.source.specs.Resolve.{elementsOf, elements, resolve}
 use Rattle.pack.specs.Layout.{packOf}
 use Rattle.pack.specs.Opening.{pointCount}
-use Rattle.pack.specs.Points.{elementsAt, pointPlace, isPoint, pointLabel, packLabel}
+use Rattle.pack.specs.Points.{elementsAt, pointPlace, isPoint, pointLabel, packLabel, pointItem, packItem}
 use Rattle.pack.specs.Sound.{AddressSound, AddressesSound, Sound}
 use Rattle.ask.specs.Labels.{kth, kthLabel}
+use Rattle.ask.specs.Lists.{kthItem}
+use Rattle.item.specs.Item.{Heading}
 use Rattle.ask.proofs.Kth.{kth-zero, kth-none}
 use Rattle.pack_carries.proofs.Carried.{pack-says, pack-opens, pack-elements}
 
@@ -81,5 +83,14 @@ module _ (look : Lookup) (addresses : List Address) (code : List ℕ) (g : Sound
   pack-labels k out = rw (pack-opens look addresses code g) (by-case (point-at k))
     where
       by-case : PointOf look addresses pack k → pointLabel pack k out ≡ kthLabel look addresses k out
+      by-case (neither p q) = rw (p, q)
+      by-case (each a p q e) = rw (p, q, e)
+
+  -- and lists them alike, under any heading
+  pub pack-items : (heading : Heading) (k : ℕ) (out : List ℕ) → packItem heading pack k out ≡ kthItem heading look addresses k out
+  unfolding packItem pointItem kthItem
+  pack-items heading k out = rw (pack-opens look addresses code g) (by-case (point-at k))
+    where
+      by-case : PointOf look addresses pack k → pointItem heading pack k out ≡ kthItem heading look addresses k out
       by-case (neither p q) = rw (p, q)
       by-case (each a p q e) = rw (p, q, e)
