@@ -12,10 +12,12 @@ use Rattle.file.specs.Check.{checked}
 use Rattle.file.specs.Formats.{tableFormat, pointFormat}
 use Rattle.ask.specs.Labels.{viewLabel, codeLabel}
 use Rattle.ask.specs.Runs.{viewsRun, codeRun}
+use Rattle.ask.specs.Lists.{viewsList, codeList}
 use Rattle.pack.specs.Opening.{opened}
 use Rattle.pack.specs.Points.{packLabel}
 use Rattle.pack.specs.Cutting.{packBuilt}
 use Rattle.pack_runs.specs.Runs.{packRun}
+use Rattle.pack_items.specs.Lists.{packList}
 use Rattle.changes_list.specs.Listing.{viewsAnswer, letterAnswer, liveAnswer}
 use Rattle.changes_pair.specs.Pair.{pairOf}
 use Rattle.changes_codes.specs.Codes.{codesOutcome}
@@ -32,17 +34,20 @@ pub data Call : Type 0 where
   of-code-label : (table points code : List ℕ) (k : ℕ) → Call
   of-labels : (table points : List ℕ) (first count : ℕ) → Call
   of-code-labels : (table points code : List ℕ) (first count : ℕ) → Call
+  of-list : (table points : List ℕ) (first count : ℕ) → Call
+  of-code-list : (table points code : List ℕ) (first count : ℕ) → Call
   of-build : (table points code : List ℕ) → Call
   of-pack : (pack : List ℕ) → Call
   of-pack-label : (pack : List ℕ) (k : ℕ) → Call
   of-pack-labels : (pack : List ℕ) (first count : ℕ) → Call
+  of-pack-list : (pack : List ℕ) (first count : ℕ) → Call
 
--- what a call says: one answer, or that of a run
+-- what a call says: one answer, or that of a run or a listing
 pub data Saying : Type 0 where
   one : Answer → Saying
   run : Series → Saying
 
--- a call that reads only, one that writes, and a run
+-- a call that reads only, one that writes, and a run or a listing
 abbrev pub reading : Answer → List ℕ → Outcome Saying
 reading answer out = said (one answer) out
 
@@ -64,12 +69,15 @@ outcomeOf (of-label table points view) out = writing (viewLabel (pairOf table po
 outcomeOf (of-code-label table points code k) out = writing (codeLabel (pairOf table points) code k out)
 outcomeOf (of-labels table points first count) out = running (viewsRun (pairOf table points) first count out)
 outcomeOf (of-code-labels table points code first count) out = running (codeRun (pairOf table points) code first count out)
+outcomeOf (of-list table points first count) out = running (viewsList (pairOf table points) first count out)
+outcomeOf (of-code-list table points code first count) out = running (codeList (pairOf table points) code first count out)
 outcomeOf (of-build table points code) out = writing (packBuilt (pairOf table points) code out)
 outcomeOf (of-pack pack) out = reading (opened pack) out
 outcomeOf (of-pack-label pack k) out = writing (packLabel pack k out)
 outcomeOf (of-pack-labels pack first count) out = running (packRun pack first count out)
+outcomeOf (of-pack-list pack first count) out = running (packList pack first count out)
 
--- as C gets it: one number; and the bytes of a run, where they are asked for
+-- as C gets it: one number; and the bytes of a run or a listing, where they are asked for
 abbrev pub numberOf : Saying → ℕ
 numberOf (one answer) = packed answer
 numberOf (run series) = packedSeries series

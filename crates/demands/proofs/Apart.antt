@@ -1,21 +1,57 @@
--- Of a run the refusal's number tells whether a label stopped it (7 to 10) or the whole is refused (none of these).
+-- Of a run the refusal's number tells whether a label stopped it (7 to 10) or the whole is refused (none of these); a listing
+-- stops by 7 or 10 alone.
 -- Assumes nothing.
-use Prim.Native.Nat.{ℕ}
+use Prim.Native.Nat.{ℕ, _≤_}
+use mathlib.Core.Path.{_≡_, refl}
 use mathlib.Core.List.{List}
+use mathlib.Core.Logic.{inl, inr, ⊎-elim}
+use native.Mathlib.Omega.{arith}
+use Rattle.refusal.specs.Refusal.{number}
+use Rattle.refusal.specs.declared.Reason.{Reason}
 use Rattle.run.specs.declared.Series.{Series}
 use Rattle.run.specs.declared.Series.the-variants.{Unasked, Stopped, Done}
 use Rattle.ask.specs.Runs.{viewsRun, codeRun}
+use Rattle.ask.specs.Lists.{viewsList, codeList}
 use Rattle.pack.specs.Opening.{pointCount}
 use Rattle.pack_runs.specs.Runs.{packRun}
+use Rattle.pack_items.specs.Lists.{packList}
 use Rattle.changes_pair.specs.Pair.{pairOf}
-use Rattle.call.specs.Call.{Call, of-table, of-points, of-views, of-letter, of-live, of-codes, of-label, of-code-label, of-labels, of-code-labels, of-build, of-pack, of-pack-label, of-pack-labels, outcomeOf}
-use Rattle.demands.specs.Apart.{ToldApart, Apart}
-use Rattle.demands.proofs.Says.{SeriesSays, views-say, codes-say, packs-say, pair-asked}
+use Rattle.call.specs.Call.{Call, of-table, of-points, of-views, of-letter, of-live, of-codes, of-label, of-code-label, of-labels, of-code-labels, of-list, of-code-list, of-build, of-pack, of-pack-label, of-pack-labels, of-pack-list, outcomeOf}
+use Rattle.demands.specs.Apart.{OfLabel, OfItem, StopsBy, Apart, IsList, views-listed, code-listed, pack-listed, ListStops}
+use Rattle.demands.proofs.Says.{StopSays, SeriesSays, views-say, codes-say, packs-say, list-says, code-list-says, pack-list-says, pair-asked}
 
-series-apart : (limit : ℕ) (s : Series) → SeriesSays limit s → ToldApart s
-series-apart limit (Unasked file why) h = h .apart
-series-apart limit (Stopped labels bytes why) h = h .1 .apart
-series-apart limit (Done labels bytes) h = tt
+-- what is said of a stop holds where it stops
+stops : (Kind Stop : Reason → Type 0) → ((why : Reason) → Kind why → Stop why) → (limit : ℕ) (s : Series)
+    → SeriesSays Kind limit s
+    → StopsBy Stop s
+stops Kind Stop weaker limit (Unasked file why) h = h .apart
+stops Kind Stop weaker limit (Stopped labels bytes why) h = weaker why (h .1)
+stops Kind Stop weaker limit (Done labels bytes) h = tt
+
+run-stops : (limit : ℕ) (s : Series) → SeriesSays StopSays limit s → StopsBy OfLabel s
+run-stops = stops StopSays OfLabel (λ why h. h .apart)
+
+item-stops : (limit : ℕ) (s : Series) → SeriesSays OfItem limit s → StopsBy OfItem s
+item-stops = stops OfItem OfItem (λ why h. h)
+
+-- 7 and 10 are of a label
+item-of-label : (s : Series) → StopsBy OfItem s → StopsBy OfLabel s
+item-of-label (Unasked file why) h = h
+item-of-label (Stopped labels bytes why) h =
+    ⊎-elim (λ (e : number why ≡ 7). (omega arith, omega arith)) (λ (e : number why ≡ 10). (omega arith, omega arith)) h
+item-of-label (Done labels bytes) h = tt
+
+pub list-stops : (call : Call) → IsList call → (out : List ℕ) → ListStops (outcomeOf call out .answer)
+list-stops call (views-listed {table} {points} {first} {count}) out =
+    item-stops 1_048_575 (viewsList (pairOf table points) first count out .answer)
+    (list-says OfItem (inl refl) (pairOf table points) (pair-asked table points) (λ taken k a e. inr refl) first count out)
+list-stops call (code-listed {table} {points} {code} {first} {count}) out =
+    item-stops 1_048_575 (codeList (pairOf table points) code first count out .answer)
+    (code-list-says OfItem (inl refl) (pairOf table points) (pair-asked table points) code (λ taken k a e. inr refl) first
+    count out)
+list-stops call (pack-listed {pack} {first} {count}) out =
+    item-stops (pointCount pack) (packList pack first count out .answer)
+    (pack-list-says OfItem (inl refl) pack (λ n taken k low high. inr refl) first count out)
 
 pub told-apart : (call : Call) (out : List ℕ) → Apart (outcomeOf call out .answer)
 told-apart (of-table table) out = tt
@@ -27,13 +63,22 @@ told-apart (of-codes points) out = tt
 told-apart (of-label table points view) out = tt
 told-apart (of-code-label table points code k) out = tt
 told-apart (of-labels table points first count) out =
-    series-apart 1_048_575 (viewsRun (pairOf table points) first count out .answer)
+    run-stops 1_048_575 (viewsRun (pairOf table points) first count out .answer)
     (views-say (pairOf table points) (pair-asked table points) first count out)
 told-apart (of-code-labels table points code first count) out =
-    series-apart 1_048_575 (codeRun (pairOf table points) code first count out .answer)
+    run-stops 1_048_575 (codeRun (pairOf table points) code first count out .answer)
     (codes-say (pairOf table points) (pair-asked table points) first count out code)
+told-apart (of-list table points first count) out =
+    item-of-label (viewsList (pairOf table points) first count out .answer)
+    (list-stops (of-list table points first count) views-listed out)
+told-apart (of-code-list table points code first count) out =
+    item-of-label (codeList (pairOf table points) code first count out .answer)
+    (list-stops (of-code-list table points code first count) code-listed out)
 told-apart (of-build table points code) out = tt
 told-apart (of-pack pack) out = tt
 told-apart (of-pack-label pack k) out = tt
 told-apart (of-pack-labels pack first count) out =
-    series-apart (pointCount pack) (packRun pack first count out .answer) (packs-say pack first count out)
+    run-stops (pointCount pack) (packRun pack first count out .answer) (packs-say pack first count out)
+told-apart (of-pack-list pack first count) out =
+    item-of-label (packList pack first count out .answer)
+    (list-stops (of-pack-list pack first count) pack-listed out)

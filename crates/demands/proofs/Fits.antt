@@ -4,14 +4,15 @@ use Prim.Native.Nat.{ℕ, zero, suc, _*_, _≤_, _<_}
 use mathlib.Core.Path.{_≡_, refl, sym, ap, _∙_}
 use mathlib.Core.Bool.{Bool, true, false, cond, _||_, true≢false}
 use mathlib.Core.List.{List, [], _∷_, _++_}
+use mathlib.Core.Option.{some}
 use native.Mathlib.Omega.{arith}
 use native.Mathlib.Nat.{mod-eq-of-lt, mod-mod}
 use borrow.Author.Tests.{eqb-true, eqb-false, ltb-true, ltb-false}
 use lib.Dec.{eqb, leb, ltb, lit≤, lit<}
-use lib.ListN.{length, drop, getD}
+use lib.ListN.{length, drop, getD, length-append}
 use Rattle.field.specs.Test.{elem}
 use Rattle.field_outward.specs.Outward.{outwardFault}
-use Rattle.refusal.specs.Refusal.{number, withView}
+use Rattle.refusal.specs.Refusal.{number, detail, second, withView}
 use Rattle.refusal.specs.Packed.{word, FitsRefusal, Fits}
 use Rattle.refusal.specs.declared.Reason.{Reason}
 use Rattle.refusal.specs.declared.Reason.the-variants.{NoSuchNumber, Combination, MissingKey, Room, BadCode}
@@ -21,7 +22,7 @@ use Rattle.refusal.specs.Outcome.{said, after, afterwards}
 use Rattle.refusal.proofs.Answers.{same-value}
 use Rattle.refusal.proofs.Outcomes.{afterwards-refused}
 use Rattle.source.specs.Address.{Lookup, Address}
-use Rattle.source.specs.Resolve.{forbidden, missing}
+use Rattle.source.specs.Resolve.{forbidden, missing, elementsOf, resolve}
 use Rattle.source.specs.Same.{AllOf}
 use Rattle.source.proofs.Cases.{Resolving, mixed, lacking, fine, resolving, three-rules, eight-fields}
 use Rattle.file_record.specs.Parts.{recordAt}
@@ -33,16 +34,22 @@ use Rattle.file.proofs.Accepted.{accepted, accepts}
 use Rattle.file.proofs.Laws.{within-limit}
 use Rattle.changes_views.specs.Views.{wantedIn, wantedCount, wantedAt}
 use Rattle.changes_views.proofs.Laws.{count-bound}
+use Rattle.item.specs.Lines.{pointLine}
+use Rattle.item.specs.Item.{resolvedText}
+use Rattle.item.proofs.Lines.{view-short, point-short, refused-short}
 use Rattle.run.specs.declared.Series.{Series}
 use Rattle.run.specs.declared.Series.the-variants.{Unasked, Stopped, Done}
 use Rattle.ask.specs.Source.{Source}
-use Rattle.ask.specs.Labels.{viewLabel, codeLabel}
+use Rattle.ask.specs.Labels.{kth, viewLabel, codeLabel}
+use Rattle.ask.specs.Lists.{headings}
+use Rattle.ask.proofs.Kth.{kth-all}
 use Rattle.ask.proofs.Laws.{in-code-all}
 use Rattle.pack.specs.Opening.{pointCount, opened}
 use Rattle.pack.specs.Points.{packLabel}
 use Rattle.pack.specs.Cutting.{packBuilt}
 use Rattle.pack_open.proofs.Opened.{opened-all}
 use Rattle.pack_open.proofs.Fits.{points-few}
+use Rattle.changes_source.specs.Rows.{tableLookup}
 use Rattle.changes_source.specs.Addresses.{addressOf, addressesIn}
 use Rattle.changes_list.specs.Listing.{viewsAnswer, letterAt, letterAnswer, liveAt, liveAnswer}
 use Rattle.changes_codes.specs.Codes.{codesIn, entryBytes, roomed, entriesOutcome, codesOutcome}
@@ -53,13 +60,13 @@ use Rattle.changes_pair.proofs.Live.{all-views, all-wanted, kept-all}
 use Rattle.changes_pair.proofs.Numbers.{number-bound}
 use Rattle.changes_label.proofs.Laws.{points-accepted}
 use Rattle.changes_sound.proofs.Size.{pack-small}
-use Rattle.call.specs.Call.{Call, of-table, of-points, of-views, of-letter, of-live, of-codes, of-label, of-code-label, of-labels, of-code-labels, of-build, of-pack, of-pack-label, of-pack-labels, one, run}
-use Rattle.demands.specs.Two.{ViewAsked, CodeAsked, files-refused, code-refused, taken}
+use Rattle.call.specs.Call.{Call, of-table, of-points, of-views, of-letter, of-live, of-codes, of-label, of-code-label, of-labels, of-code-labels, of-list, of-code-list, of-build, of-pack, of-pack-label, of-pack-labels, of-pack-list, one, run}
+use Rattle.demands.specs.Two.{ViewAsked, CodeAsked, files-refused, code-refused, taken, labelAt, Bounded, AllBounded}
 use Rattle.demands.specs.Three.{FirstRefused, here, later, packed, whole, Building, files-refused, code-refused, view-refused, too-short, built}
-use Rattle.demands.specs.Fits.{Exception, large-pack, to-open, to-run, Typed, Tells, TellsAll}
-use Rattle.demands.proofs.Two.{view-asked, code-asked}
+use Rattle.demands.specs.Fits.{Exception, large-pack, large-list, to-open, to-run, to-list, Typed, Tells, TellsAll}
+use Rattle.demands.proofs.Two.{view-asked, code-asked, points-bounded}
 use Rattle.demands.proofs.Three.{building}
-use Rattle.demands.proofs.Says.{Judging, OneLabel, SeriesSays, Asked, table-says, points-says, code-says, opened-says, point-says, source-refused, view-says, code-label-says, views-say, codes-say, packs-say, pair-asked}
+use Rattle.demands.proofs.Says.{Judging, StopSays, OneLabel, SeriesSays, Asked, table-says, points-says, code-says, opened-says, point-says, source-refused, view-says, code-label-says, views-say, codes-say, packs-say, list-says, code-list-says, pack-list-says, pair-asked}
 
 -- ---- files and what a point file lists
 
@@ -243,6 +250,14 @@ first-fits look views why h (here {a = a} {why = w} e) = by-case (resolving look
     by-case (fine m n is) = let z : _≡_ {A = ℕ} 0 1 = cc in absurd (omega arith)
 first-fits look views why h (later {more = more} p r) = first-fits look more why (h .1) r
 
+-- the numbers of the live views in a code
+code-numbered : (table points code : List ℕ) {n : ℕ} → pairOf table points .judged ≡ Value n
+    → AllOf (λ a. a .view < 1_048_576) (packed (pairOf table points) code)
+code-numbered table points code e =
+    in-code-all (λ a. a .view < 1_048_576) code (pairOf table points .live)
+    (kept-all (λ a. a .view < 1_048_576) (addressesIn points)
+    (views-numbered points (points-accepted table points e)))
+
 build-fits : (table points code out : List ℕ) → Fits (packBuilt (pairOf table points) code out .answer)
 build-fits table points code out = by-case (building (pairOf table points) code out)
   where
@@ -252,16 +267,10 @@ build-fits table points code out = by-case (building (pairOf table points) code 
     small : {n : ℕ} → pair .judged ≡ Value n → outwardFault code ≡ 0 → length (whole pair code) < 4_294_967_296
     small e clean = omega (arith, pack-small table points code (points-accepted table points e) clean)
 
-    numbered : {n : ℕ} → pair .judged ≡ Value n → AllOf (λ a. a .view < 1_048_576) (packed pair code)
-    numbered e =
-        in-code-all (λ a. a .view < 1_048_576) code (pair .live)
-        (kept-all (λ a. a .view < 1_048_576) (addressesIn points)
-        (views-numbered points (points-accepted table points e)))
-
     by-case : Building pair code out → Fits (packBuilt pair code out .answer)
     by-case (files-refused e is) = rw is (source-refused pair (pair-asked table points) e .fits)
     by-case (code-refused e fault is) = rw is (code-says .fits)
-    by-case (view-refused e clean r is) = rw is (first-fits _ _ _ (numbered e) r)
+    by-case (view-refused e clean r is) = rw is (first-fits _ _ _ (code-numbered table points code e) r)
     by-case (too-short e clean ps h is) =
         rw is (record { file-fits = lit< tt; second-fits = lit< tt; detail-fits = small e clean })
     by-case (built e clean ps h is) = rw is (omega (arith, small e clean))
@@ -271,7 +280,24 @@ build-fits table points code out = by-case (building (pairOf table points) code 
 answer-tells : (call : Call) (a : Answer) → Fits a → Tells call (one a)
 answer-tells call a fits = record { fits = fits; number = refl; all = λ none. refl }
 
-series-tells : (call : Call) (limit : ℕ) (s : Series) → SeriesSays limit s → limit < 72_057_594_037_927_936
+-- a stop that fits: it names no view
+record SmallStop (why : Reason) : Type 0 where
+  no-view : second why ≡ 0
+  small : detail why < 4_294_967_296
+
+small-room : (n : ℕ) → n < 4_294_967_296 → SmallStop (Room n)
+small-room n h = record { no-view = refl; small = h }
+
+none-small : SmallStop NoSuchNumber
+none-small = record { no-view = refl; small = lit< tt }
+
+run-small : (limit : ℕ) (s : Series) → SeriesSays StopSays limit s → SeriesSays SmallStop limit s
+run-small limit (Unasked file why) h = h
+run-small limit (Stopped labels bytes why) h =
+    (h .0, record { no-view = h .1 .no-view; small = omega (arith, h .1 .small) })
+run-small limit (Done labels bytes) h = h
+
+series-tells : (call : Call) (limit : ℕ) (s : Series) → SeriesSays SmallStop limit s → limit < 72_057_594_037_927_936
     → ((Exception call → ⊥) → limit < 1_048_576)
     → Tells call (run s)
 unfolding word
@@ -279,7 +305,7 @@ series-tells call limit (Unasked file why) h below few =
     record { fits = h .fits; number = refl; all = λ none. refl }
 series-tells call limit (Stopped labels bytes why) h below few =
     record {
-      fits = (omega arith, (h .1 .no-view, omega (arith, h .1 .small)));
+      fits = (omega arith, (h .1 .no-view, h .1 .small));
       number = rw (mod-mod labels 1_048_576);
       all = λ none.
           ap (λ (n : ℕ). run (Stopped n bytes why))
@@ -288,22 +314,53 @@ series-tells call limit (Stopped labels bytes why) h below few =
 series-tells call limit (Done labels bytes) h below few =
     record { fits = omega (arith, h); number = refl; all = λ none. refl }
 
--- a run over a source that has no more labels than fit
-few-tells : (call : Call) (s : Series) → SeriesSays 1_048_575 s → Tells call (run s)
+-- over a source that has no more than fit
+few-tells : (call : Call) (s : Series) → SeriesSays SmallStop 1_048_575 s → Tells call (run s)
 few-tells call s says = series-tells call 1_048_575 s says (lit< tt) (λ none. lit< tt)
 
--- a run over a pack: where that is no exception, no more either
-pack-tells : (pack : List ℕ) (first count : ℕ) (s : Series) → ((i : ℕ) → getD pack i 0 < 256)
-    → SeriesSays (pointCount pack) s
-    → Tells (of-pack-labels pack first count) (run s)
-pack-tells pack first count s bytes says =
-    series-tells (of-pack-labels pack first count) (pointCount pack) s says (omega (arith, points-few pack bytes))
+-- over a pack: where that is no exception, no more either
+pack-tells : (call : Call) (pack : List ℕ) → (1_048_575 < pointCount pack → Exception call) → (s : Series)
+    → ((i : ℕ) → getD pack i 0 < 256)
+    → SeriesSays SmallStop (pointCount pack) s
+    → Tells call (run s)
+pack-tells call pack large s bytes says =
+    series-tells call (pointCount pack) s says (omega (arith, points-few pack bytes))
     (λ none. by-test (ltb 1_048_575 (pointCount pack)) refl none)
   where
-    by-test : (t : Bool) → ltb 1_048_575 (pointCount pack) ≡ t → (Exception (of-pack-labels pack first count) → ⊥)
-        → pointCount pack < 1_048_576
-    by-test true e none = absurd (none (large-pack (ltb-true 1_048_575 (pointCount pack) e)))
+    by-test : (t : Bool) → ltb 1_048_575 (pointCount pack) ≡ t → (Exception call → ⊥) → pointCount pack < 1_048_576
+    by-test true e none = absurd (none (large (ltb-true 1_048_575 (pointCount pack) e)))
     by-test false e none = omega (arith, ltb-false 1_048_575 (pointCount pack) e)
+
+-- ---- listings
+
+-- a label, or the line of its refusal
+resolved-short : (look : Lookup) (a : Address) → Bounded (elementsOf look a) → length (resolvedText (resolve look a)) ≤ 499
+resolved-short look a bounded = by-case (resolving look a)
+  where
+    by-case : Resolving look a → length (resolvedText (resolve look a)) ≤ 499
+    by-case (mixed n is) =
+        rw is (omega (arith, refused-short 8 (forbidden a) 0 (lit< tt) (omega (arith, three-rules a)) (lit< tt)))
+    by-case (lacking m n is) =
+        rw is (omega (arith, refused-short 9 (missing look a) 0 (lit< tt) (omega (arith, eight-fields look a)) (lit< tt)))
+    by-case (fine m n is) = rw is (bounded .bytes)
+
+-- views with their numbers, under the headings of a pair
+module _ (table points : List ℕ) (views : List Address) (bounded : AllBounded (tableLookup table) views)
+    (numbered : AllOf (λ a. a .view < 1_048_576) views) (k : ℕ) (a : Address) (e : kth views k ≡ some a) where
+  item-small : SmallStop (Room (length (headings (pairOf table points .heading) views k ++ resolvedText (resolve (tableLookup table) a))))
+  item-small =
+      let line : length (headings (pairOf table points .heading) views k) ≤ 80
+      = rw e (view-short (a .view) (a .letter) (omega (arith, kth-all (λ a. a .view < 1_048_576) views k a numbered e))) in
+      let text = resolved-short (tableLookup table) a (kth-all (λ a. Bounded (elementsOf (tableLookup table) a)) views k a bounded e) in
+      small-room _ (simp length-append (omega (arith, line, text)))
+
+point-small : (pack : List ℕ) → ((i : ℕ) → getD pack i 0 < 256) → (n : ℕ) → opened pack ≡ Value n → (k : ℕ) → 1 ≤ k
+    → k ≤ pointCount pack
+    → SmallStop (Room (length (pointLine k ++ labelAt pack k)))
+point-small pack bytes n e k low high =
+    let line = point-short k (omega (arith, points-few pack bytes)) in
+    let text = points-bounded pack n k e low (omega (arith, opened-all pack n e .counted)) .bytes in
+    small-room _ (simp length-append (omega (arith, line, text)))
 
 pub tells : (call : Call) → Typed call → TellsAll call
 unfolding viewsAnswer letterAnswer liveAnswer
@@ -321,11 +378,29 @@ tells (of-label table points view) typed out =
 tells (of-code-label table points code k) typed out =
     answer-tells _ _ (code-fits (pairOf table points) (pair-asked table points) out code k)
 tells (of-labels table points first count) typed out =
-    few-tells _ _ (views-say (pairOf table points) (pair-asked table points) first count out)
+    few-tells _ _ (run-small 1_048_575 _ (views-say (pairOf table points) (pair-asked table points) first count out))
 tells (of-code-labels table points code first count) typed out =
-    few-tells _ _ (codes-say (pairOf table points) (pair-asked table points) first count out code)
+    few-tells _ _ (run-small 1_048_575 _ (codes-say (pairOf table points) (pair-asked table points) first count out code))
+tells (of-list table points first count) typed out =
+    let says = pair-asked table points in
+    few-tells _ _
+    (list-says SmallStop none-small (pairOf table points) says
+    (λ e. item-small table points (addressesIn points) (says .views e) (views-numbered points (points-accepted table points e)))
+    first count out)
+tells (of-code-list table points code first count) typed out =
+    let says = pair-asked table points in
+    let Bound : Address → Type 0 = λ a. Bounded (elementsOf (tableLookup table) a) in
+    few-tells _ _
+    (code-list-says SmallStop none-small (pairOf table points) says code
+    (λ e.
+    item-small table points (packed (pairOf table points) code)
+    (in-code-all Bound code (pairOf table points .live) (says .live e)) (code-numbered table points code e))
+    first count out)
 tells (of-build table points code) typed out = answer-tells _ _ (build-fits table points code out)
 tells (of-pack pack) typed out = answer-tells _ _ (opened-fits pack (typed pack to-open))
 tells (of-pack-label pack k) typed out = answer-tells _ _ (point-fits pack k out)
 tells (of-pack-labels pack first count) typed out =
-    pack-tells pack first count _ (typed pack to-run) (packs-say pack first count out)
+    pack-tells _ pack large-pack _ (typed pack to-run) (run-small (pointCount pack) _ (packs-say pack first count out))
+tells (of-pack-list pack first count) typed out =
+    pack-tells _ pack large-list _ (typed pack to-list)
+    (pack-list-says SmallStop none-small pack (point-small pack (typed pack to-list)) first count out)

@@ -26,16 +26,18 @@ use Rattle.run.proofs.Going.{never-unasked}
 use Rattle.ask.specs.Source.{Source, inCode}
 use Rattle.ask.specs.Labels.{kth, labelOutcome, kthLabel, codeFirst, viewLabel, codeLabel}
 use Rattle.ask.specs.Runs.{viewsRun, codeRun}
+use Rattle.ask.specs.Lists.{viewsListed, codeListed, viewsList, codeList}
 use Rattle.pack.specs.Layout.{packOf}
 use Rattle.pack.specs.Cutting.{firstBad, cutWith, cutOutcome, packBuilt}
 use Rattle.pack.specs.Opening.{opened}
 use Rattle.pack.specs.Points.{elementsAt, pointPlace, isPoint, pointLabel, packLabel}
 use Rattle.pack_runs.specs.Runs.{packRun}
+use Rattle.pack_items.specs.Lists.{packListed, packList}
 use Rattle.file.specs.Check.{checked}
 use Rattle.file.specs.Formats.{pointFormat}
 use Rattle.changes_codes.specs.Codes.{roomed, codesOutcome}
 use Rattle.changes_pair.specs.Pair.{pairOf}
-use Rattle.call.specs.Call.{Call, of-table, of-points, of-views, of-letter, of-live, of-codes, of-label, of-code-label, of-labels, of-code-labels, of-build, of-pack, of-pack-label, of-pack-labels, Saying, one, run, Called, outcomeOf, bytesOf, comesTo}
+use Rattle.call.specs.Call.{Call, of-table, of-points, of-views, of-letter, of-live, of-codes, of-label, of-code-label, of-labels, of-code-labels, of-list, of-code-list, of-build, of-pack, of-pack-label, of-pack-labels, of-pack-list, Saying, one, run, Called, outcomeOf, bytesOf, comesTo}
 use Rattle.demands.specs.One.{Allows, IsRefused, IsUnasked, RefusedWhole}
 
 -- "for every input, refusals too, it allows one answer and one content of lent memory"
@@ -134,11 +136,20 @@ module _ (s : Source) (out : List ℕ) where
   unfolding viewsRun
   views-kept first count = after-kept IsUnasked Unasked out _ (run-kept (viewLabel s) first count out) (s .judged)
 
+  list-kept : (first count : ℕ) → Kept IsUnasked (viewsList s first count out) out
+  unfolding viewsList viewsListed
+  list-kept first count = after-kept IsUnasked Unasked out _ (run-kept _ first count out) (s .judged)
+
   module _ (code : List ℕ) where
     code-label-kept : (k : ℕ) → Kept IsRefused (codeLabel s code k out) out
     unfolding codeLabel
     code-label-kept k =
         after-kept IsRefused Refused out _ (code-kept IsRefused Refused out _ (kth-kept (s .look) _ k out) code) (s .judged)
+
+    code-list-kept : (first count : ℕ) → Kept IsUnasked (codeList s code first count out) out
+    unfolding codeList codeListed
+    code-list-kept first count =
+        after-kept IsUnasked Unasked out _ (code-kept IsUnasked Unasked out _ (run-kept _ first count out) code) (s .judged)
 
     code-run-kept : (first count : ℕ) → Kept IsUnasked (codeRun s code first count out) out
     unfolding codeRun
@@ -164,6 +175,10 @@ unfolding packRun
 pack-run-kept pack first count out =
     after-kept IsUnasked Unasked out _ (run-kept (packLabel pack) first count out) (opened pack)
 
+pack-list-kept : (pack : List ℕ) (first count : ℕ) (out : List ℕ) → Kept IsUnasked (packList pack first count out) out
+unfolding packList packListed
+pack-list-kept pack first count out = after-kept IsUnasked Unasked out _ (run-kept _ first count out) (opened pack)
+
 kept : (call : Call) (out : List ℕ) → Kept RefusedWhole (outcomeOf call out) out
 kept (of-table table) out = λ r. refl
 kept (of-points points) out = λ r. refl
@@ -175,12 +190,15 @@ kept (of-label table points view) out = view-kept (pairOf table points) out view
 kept (of-code-label table points code k) out = code-label-kept (pairOf table points) out code k
 kept (of-labels table points first count) out = views-kept (pairOf table points) out first count
 kept (of-code-labels table points code first count) out = code-run-kept (pairOf table points) out code first count
+kept (of-list table points first count) out = list-kept (pairOf table points) out first count
+kept (of-code-list table points code first count) out = code-list-kept (pairOf table points) out code first count
 kept (of-build table points code) out = build-kept (pairOf table points) out code
 kept (of-pack pack) out = λ r. refl
 kept (of-pack-label pack k) out = pack-label-kept pack k out
 kept (of-pack-labels pack first count) out = pack-run-kept pack first count out
+kept (of-pack-list pack first count) out = pack-list-kept pack first count out
 
--- "a refused call writes nothing into lent memory": neither the buffer nor a run's bytes
+-- "a refused call writes nothing into lent memory": neither the buffer nor the bytes of a run or a listing
 pub refused-writes-nothing : (call : Call) (out : List ℕ) (before : ℕ) → RefusedWhole (outcomeOf call out .answer)
     → (comesTo call out before .memory ≡ out) × (comesTo call out before .bytes ≡ before)
 refused-writes-nothing call out before r = (kept call out r, by-saying (outcomeOf call out .answer) r)

@@ -3,27 +3,29 @@
 use Prim.Native.Nat.{ℕ, zero, suc, _+_, _-_, _≤_, _<_}
 use mathlib.Core.Path.{_≡_, refl, sym, _∙_}
 use mathlib.Core.Bool.{Bool, true, false, cond}
-use mathlib.Core.List.{List, [], _∷_}
+use mathlib.Core.List.{List, [], _∷_, _++_}
+use mathlib.Core.Option.{Option, none, some}
 use mathlib.Core.Logic.{inl, inr}
 use native.Mathlib.Omega.{arith}
-use borrow.Author.Tests.{eqb-true, eqb-false}
-use lib.Dec.{eqb, lit≤, lit<}
+use borrow.Author.Tests.{eqb-true, eqb-false, leb-true}
+use lib.Dec.{eqb, leb, lit≤, lit<}
 use lib.ListN.{length}
+use Rattle.field.proofs.Tests.{and-left, and-right}
 use Rattle.field_outward.specs.Outward.{outwardFault}
 use Rattle.refusal.specs.Refusal.{number, detail, second, malformedAt}
 use Rattle.refusal.specs.Packed.{FitsRefusal}
 use Rattle.refusal.specs.declared.Reason.{Reason}
-use Rattle.refusal.specs.declared.Reason.the-variants.{Length, Header, Trailer, NotAbove, Follower, BadPack, BadCode}
+use Rattle.refusal.specs.declared.Reason.the-variants.{Length, Header, Trailer, NotAbove, Follower, NoSuchNumber, Room, BadPack, BadCode}
 use Rattle.refusal.specs.declared.Answer.{Answer}
 use Rattle.refusal.specs.declared.Answer.the-variants.{Value, Refused}
 use Rattle.refusal.specs.declared.Verdict.{Verdict}
 use Rattle.refusal.specs.declared.Verdict.the-variants.{Fine, Bad}
 use Rattle.refusal.specs.Verdict.{orElse}
-use Rattle.refusal.specs.Outcome.{Outcome, after}
+use Rattle.refusal.specs.Outcome.{Outcome, after, afterwards}
 use Rattle.refusal.proofs.Answers.{refused-value, same-value}
 use Rattle.refusal.proofs.Outcomes.{afterwards-value, afterwards-refused}
 use Rattle.source.specs.Address.{Lookup, Address}
-use Rattle.source.specs.Resolve.{elementsOf}
+use Rattle.source.specs.Resolve.{Resolved, elementsOf, elements, resolve}
 use Rattle.source.proofs.Cases.{three-rules, eight-fields}
 use Rattle.file.specs.Check.{Format, records, whole, at, rises, inPlace, judged, scan, verdict, answered, checked}
 use Rattle.file.specs.Formats.{tableFormat, pointFormat}
@@ -33,18 +35,24 @@ use Rattle.file_fault.proofs.Bounds.{table-bound, point-bound}
 use Rattle.file_compare.specs.Order.{same}
 use Rattle.changes_views.specs.Views.{wantedIn, wantedCount}
 use Rattle.changes_views.proofs.Laws.{count-bound}
+use Rattle.label.specs.Label.{roomOutcome}
+use Rattle.label.proofs.Room.{Fitting, fits, short, fitting}
+use Rattle.item.specs.Lines.{pointLine}
+use Rattle.item.specs.Item.{Heading, resolvedText, itemOutcome}
 use Rattle.run.specs.declared.Series.{Series}
 use Rattle.run.specs.declared.Series.the-variants.{Unasked, Stopped, Done}
 use Rattle.run.specs.Series.{Asking, runFrom}
 use Rattle.run.proofs.Count.{LabelSays, RunSays, run-says}
 use Rattle.ask.specs.Source.{Source, inCode}
-use Rattle.ask.specs.Labels.{kthLabel, viewLabel, codeLabel}
+use Rattle.ask.specs.Labels.{kth, kthLabel, byCode, viewLabel, codeLabel}
 use Rattle.ask.specs.Runs.{viewsRun, codeRun}
+use Rattle.ask.specs.Lists.{resolvedOf, kthItem, viewItem, codeItem, viewsListed, codeListed, headings, viewsList, codeList}
 use Rattle.ask.proofs.Kth.{kth-within, kth-all}
 use Rattle.ask.proofs.Laws.{in-code-all, by-good-code, by-bad-code, by-refused}
 use Rattle.pack.specs.Opening.{trailerGood, allRowsGood, allPointsGood, pointCount, opened}
-use Rattle.pack.specs.Points.{packLabel}
+use Rattle.pack.specs.Points.{elementsAt, pointPlace, isPoint, packLabel, pointItem, packItem}
 use Rattle.pack_runs.specs.Runs.{packRun}
+use Rattle.pack_items.specs.Lists.{packListed, packList}
 use Rattle.pack_open.proofs.Opened.{opened-all}
 use Rattle.changes_source.specs.Rows.{tableLookup}
 use Rattle.changes_source.specs.Addresses.{addressesIn, live, kept}
@@ -78,11 +86,11 @@ abbrev pub OneLabel : (limit k : ℕ) → Answer → Type 0
 OneLabel limit k (Value b) = (b ≤ 499) × ((1 ≤ k) × (k ≤ limit))
 OneLabel limit k (Refused file why) = (file ≡ 0) × StopSays why
 
--- a run
-abbrev pub SeriesSays : (limit : ℕ) → Series → Type 0
-SeriesSays limit (Unasked file why) = WholeSays file why
-SeriesSays limit (Stopped labels bytes why) = (labels ≤ limit) × StopSays why
-SeriesSays limit (Done labels bytes) = labels ≤ limit
+-- a run or a listing, whose stops are of a kind
+abbrev pub SeriesSays : (Kind : Reason → Type 0) → (limit : ℕ) → Series → Type 0
+SeriesSays Kind limit (Unasked file why) = WholeSays file why
+SeriesSays Kind limit (Stopped labels bytes why) = (labels ≤ limit) × Kind why
+SeriesSays Kind limit (Done labels bytes) = labels ≤ limit
 
 -- ---- files
 
@@ -221,21 +229,50 @@ module _ (pack : List ℕ) (n : ℕ) (taken : opened pack ≡ Value n) (k : ℕ)
       by-case (printed {n = m} e low high h is) =
           rw is (small e low high, (low, omega (arith, same-value m n (sym e ∙ taken))))
 
--- ---- runs
+-- what is said of one label, without its bytes
+label-says : (limit k : ℕ) (r : Answer) → OneLabel limit k r → LabelSays StopSays limit k r
+label-says limit k (Value b) h = h .1
+label-says limit k (Refused file why) h = h .1
 
--- labels asked in turn, each of them one of so many
-series-says : (a : Asking) (limit : ℕ) → ((k : ℕ) (out : List ℕ) → OneLabel limit k (a k out .answer))
+-- ---- items
+
+-- an item that is there: where a kind has 10 with its bytes, its refusal is of that kind
+module _ (Kind : Reason → Type 0) (limit k : ℕ) (heading out : List ℕ) where
+  an-item-says : (r : Resolved) → (1 ≤ k) × (k ≤ limit) → Kind (Room (length (heading ++ resolvedText r)))
+      → LabelSays Kind limit k (itemOutcome heading (some r) out .answer)
+  an-item-says r within room = by-case (fitting (heading ++ resolvedText r) out)
+    where
+      by-case : Fitting (heading ++ resolvedText r) out
+          → LabelSays Kind limit k (roomOutcome (heading ++ resolvedText r) out .answer)
+      by-case (fits h is) = rw is within
+      by-case (short h is) = rw is room
+
+-- the same of the k-th of some delivery points
+module _ (Kind : Reason → Type 0) (none-left : Kind NoSuchNumber) (heading : Heading) (look : Lookup)
+    (views : List Address)
+    (room : (k : ℕ) (a : Address) → kth views k ≡ some a → Kind (Room (length (heading k ++ resolvedText (resolve look a)))))
+    (k : ℕ) (out : List ℕ) where
+  kth-item-says : LabelSays Kind (length views) k (kthItem heading look views k out .answer)
+  unfolding kthItem
+  kth-item-says = by-found (kth views k) refl
+    where
+      by-found : (found : Option Address) → kth views k ≡ found
+          → LabelSays Kind (length views) k (itemOutcome (heading k) (resolvedOf look found) out .answer)
+      by-found none e = none-left
+      by-found (some a) e =
+          an-item-says Kind (length views) k (heading k) out (resolve look a) (kth-within views k a e) (room k a e)
+
+-- ---- runs and listings
+
+-- asked in turn, each of them one of so many
+series-says : (Kind : Reason → Type 0) (a : Asking) (limit : ℕ)
+    → ((k : ℕ) (out : List ℕ) → LabelSays Kind limit k (a k out .answer))
     → (first count : ℕ) (out : List ℕ)
-    → SeriesSays limit (runFrom a first count out .answer)
-series-says a limit says first count out =
-    by-series (runFrom a first count out .answer)
-    (run-says StopSays a limit (λ k o. label-says k (a k o .answer) (says k o)) count first out)
+    → SeriesSays Kind limit (runFrom a first count out .answer)
+series-says Kind a limit says first count out =
+    by-series (runFrom a first count out .answer) (run-says Kind a limit says count first out)
   where
-    label-says : (k : ℕ) (r : Answer) → OneLabel limit k r → LabelSays StopSays limit k r
-    label-says k (Value b) h = h .1
-    label-says k (Refused file why) h = h .1
-
-    by-series : (s : Series) → RunSays StopSays (limit - (first - 1)) s → SeriesSays limit s
+    by-series : (s : Series) → RunSays Kind (limit - (first - 1)) s → SeriesSays Kind limit s
     by-series (Unasked file why) h = absurd h
     by-series (Stopped labels bytes why) h = (omega (arith, h .0), h .1)
     by-series (Done labels bytes) h = omega arith
@@ -250,10 +287,10 @@ code-few code (a ∷ more) = by-test (same (a .outward) code) (code-few code mor
     by-test true h = omega arith
     by-test false h = omega arith
 
-more-say : (m limit : ℕ) (s : Series) → m ≤ limit → SeriesSays m s → SeriesSays limit s
-more-say m limit (Unasked file why) l h = h
-more-say m limit (Stopped labels bytes why) l h = (omega (arith, h .0), h .1)
-more-say m limit (Done labels bytes) l h = omega arith
+more-say : (Kind : Reason → Type 0) (m limit : ℕ) (s : Series) → m ≤ limit → SeriesSays Kind m s → SeriesSays Kind limit s
+more-say Kind m limit (Unasked file why) l h = h
+more-say Kind m limit (Stopped labels bytes why) l h = (omega (arith, h .0), h .1)
+more-say Kind m limit (Done labels bytes) l h = omega arith
 
 -- a source whose own refusals are of the whole, and which, where it is accepted, has no more views than the second detail can
 -- count, each with a bounded label
@@ -287,57 +324,140 @@ module _ (s : Source) (says : Asked s) where
           (in-code-all (λ a. Bounded (elementsOf (s .look) a)) code (s .live) (says .live taken)) k out _
           (printing (s .look) views k out))
 
-  module _ (first count : ℕ) (out : List ℕ) where
-    pub views-say : SeriesSays 1_048_575 (viewsRun s first count out .answer)
-    unfolding viewsRun
-    views-say = by-judged (s .judged) refl
+  -- asked in turn behind the files, and behind files and code
+  module _ (Kind : Reason → Type 0) (ask : Asking) (first count : ℕ) (out : List ℕ) where
+    next : Outcome Series
+    next = runFrom ask first count out
+
+    files-first : ({n : ℕ} → s .judged ≡ Value n → (k : ℕ) (o : List ℕ) → LabelSays Kind (length (s .views)) k (ask k o .answer))
+        → SeriesSays Kind 1_048_575 (afterwards Unasked (s .judged) out next .answer)
+    files-first each = by-judged (s .judged) refl
       where
-        by-judged : (j : Answer) → s .judged ≡ j → SeriesSays 1_048_575 (viewsRun s first count out .answer)
+        by-judged : (j : Answer) → s .judged ≡ j → SeriesSays Kind 1_048_575 (afterwards Unasked (s .judged) out next .answer)
         by-judged (Value n) e =
-            rw (afterwards-value Unasked out (runFrom (viewLabel s) first count out) e)
-            (more-say (length (s .views)) 1_048_575 (runFrom (viewLabel s) first count out .answer) (says .few e)
-            (series-says (viewLabel s) (length (s .views)) (view-says e) first count out))
-        by-judged (Refused file why) e =
-            rw (afterwards-refused Unasked out (runFrom (viewLabel s) first count out) e) (source-refused e)
+            rw (afterwards-value Unasked out next e)
+            (more-say Kind (length (s .views)) 1_048_575 (next .answer) (says .few e)
+            (series-says Kind ask (length (s .views)) (each e) first count out))
+        by-judged (Refused file why) e = rw (afterwards-refused Unasked out next e) (source-refused e)
 
     module _ (code : List ℕ) where
-      pub codes-say : SeriesSays 1_048_575 (codeRun s code first count out .answer)
-      unfolding codeRun
-      codes-say = by-judged (s .judged) refl
-        where
-          next : Outcome Series
-          next = runFrom (codeLabel s code) first count out
+      abbrev coded : List Address
+      coded = inCode code (s .live)
 
+      code-next : ({n : ℕ} → s .judged ≡ Value n → outwardFault code ≡ 0 → (k : ℕ) (o : List ℕ)
+          → LabelSays Kind (length coded) k (ask k o .answer))
+          → SeriesSays Kind 1_048_575 (byCode Unasked s code out next .answer)
+      code-next each = by-judged (s .judged) refl
+        where
           by-code : {n : ℕ} → s .judged ≡ Value n → (t : Bool) → eqb (outwardFault code) 0 ≡ t
-              → SeriesSays 1_048_575 (codeRun s code first count out .answer)
+              → SeriesSays Kind 1_048_575 (byCode Unasked s code out next .answer)
           by-code e true c =
               let clean = eqb-true (outwardFault code) 0 c in
               rw (by-good-code Unasked code out next s e clean)
-              (more-say (length (inCode code (s .live))) 1_048_575 (next .answer) (omega (arith, code-few code (s .live), says .few-live e))
-              (series-says (codeLabel s code) (length (inCode code (s .live))) (λ k o. code-label-says e k o code clean) first
-              count out))
+              (more-say Kind (length coded) 1_048_575 (next .answer) (omega (arith, code-few code (s .live), says .few-live e))
+              (series-says Kind ask (length coded) (each e clean) first count out))
           by-code e false c =
               rw (by-bad-code Unasked code out next s e (eqb-false (outwardFault code) 0 c)) code-says
 
-          by-judged : (j : Answer) → s .judged ≡ j → SeriesSays 1_048_575 (codeRun s code first count out .answer)
+          by-judged : (j : Answer) → s .judged ≡ j → SeriesSays Kind 1_048_575 (byCode Unasked s code out next .answer)
           by-judged (Value n) e = by-code e (eqb (outwardFault code) 0) refl
           by-judged (Refused file why) e = rw (by-refused Unasked code out next s e) (source-refused e)
 
-module _ (pack : List ℕ) (first count : ℕ) (out : List ℕ) where
-  pub packs-say : SeriesSays (pointCount pack) (packRun pack first count out .answer)
-  unfolding packRun
-  packs-say = by-opened (opened pack) refl
-    where
-      next : Outcome Series
-      next = runFrom (packLabel pack) first count out
+  module _ (first count : ℕ) (out : List ℕ) where
+    pub views-say : SeriesSays StopSays 1_048_575 (viewsRun s first count out .answer)
+    unfolding viewsRun
+    views-say =
+        files-first StopSays (viewLabel s) first count out
+        (λ e k o. label-says (length (s .views)) k (viewLabel s k o .answer) (view-says e k o))
 
-      by-opened : (r : Answer) → opened pack ≡ r → SeriesSays (pointCount pack) (packRun pack first count out .answer)
+    pub codes-say : (code : List ℕ) → SeriesSays StopSays 1_048_575 (codeRun s code first count out .answer)
+    unfolding codeRun
+    codes-say code =
+        code-next StopSays (codeLabel s code) first count out code
+        (λ e clean k o.
+        label-says (length (inCode code (s .live))) k (codeLabel s code k o .answer) (code-label-says e k o code clean))
+
+-- under the source's own headings, where a kind has 7, and 10 with the bytes of an item
+module _ (Kind : Reason → Type 0) (none-left : Kind NoSuchNumber) (s : Source) (says : Asked s) where
+  abbrev Roomy : List Address → Type 0
+  Roomy views =
+      (k : ℕ) (a : Address) → kth views k ≡ some a
+      → Kind (Room (length (headings (s .heading) views k ++ resolvedText (resolve (s .look) a))))
+
+  pub list-says : ({n : ℕ} → s .judged ≡ Value n → Roomy (s .views)) → (first count : ℕ) (out : List ℕ)
+      → SeriesSays Kind 1_048_575 (viewsList s first count out .answer)
+  unfolding viewsList viewsListed viewItem
+  list-says room first count out =
+      let heading = headings (s .heading) (s .views) in
+      files-first s says Kind (viewItem heading s) first count out
+      (λ e k o.
+      rw (afterwards-value Refused o (kthItem heading (s .look) (s .views) k o) e)
+      (kth-item-says Kind none-left heading (s .look) (s .views) (room e) k o))
+
+  module _ (code : List ℕ) where
+    abbrev listed : List Address
+    listed = inCode code (s .live)
+
+    pub code-list-says : ({n : ℕ} → s .judged ≡ Value n → Roomy listed) → (first count : ℕ) (out : List ℕ)
+        → SeriesSays Kind 1_048_575 (codeList s code first count out .answer)
+    unfolding codeList codeListed codeItem
+    code-list-says room first count out =
+        let heading = headings (s .heading) listed in
+        code-next s says Kind (codeItem heading s code) first count out code
+        (λ e clean k o.
+        rw (by-good-code Refused code o (kthItem heading (s .look) listed k o) s e clean)
+        (kth-item-says Kind none-left heading (s .look) listed (room e) k o))
+
+-- ---- of a pack
+
+module _ (Kind : Reason → Type 0) (ask : Asking) (pack : List ℕ)
+    (each : (n : ℕ) → opened pack ≡ Value n → (k : ℕ) (o : List ℕ) → LabelSays Kind (pointCount pack) k (ask k o .answer))
+    (first count : ℕ) (out : List ℕ) where
+  pack-next : SeriesSays Kind (pointCount pack) (afterwards Unasked (opened pack) out (runFrom ask first count out) .answer)
+  pack-next = by-opened (opened pack) refl
+    where
+      by-opened : (r : Answer) → opened pack ≡ r
+          → SeriesSays Kind (pointCount pack) (afterwards Unasked (opened pack) out (runFrom ask first count out) .answer)
       by-opened (Value n) e =
-          rw (afterwards-value Unasked out next e)
-          (series-says (packLabel pack) (pointCount pack)
-          (λ k o. rw (opened-all pack n e .counted) at (point-says pack n e k o)) first count out)
+          rw (afterwards-value Unasked out (runFrom ask first count out) e)
+          (series-says Kind ask (pointCount pack) (each n e) first count out)
       by-opened (Refused file why) e =
-          rw (afterwards-refused Unasked out next e) (rw e at (opened-says pack))
+          rw (afterwards-refused Unasked out (runFrom ask first count out) e) (rw e at (opened-says pack))
+
+pub packs-say : (pack : List ℕ) (first count : ℕ) (out : List ℕ)
+    → SeriesSays StopSays (pointCount pack) (packRun pack first count out .answer)
+unfolding packRun
+packs-say pack =
+    pack-next StopSays (packLabel pack) pack
+    (λ n e k o.
+    label-says (pointCount pack) k (packLabel pack k o .answer) (rw (opened-all pack n e .counted) at (point-says pack n e k o)))
+
+point-there : (pack : List ℕ) (k : ℕ) → isPoint pack k ≡ true → (1 ≤ k) × (k ≤ pointCount pack)
+point-there pack k e =
+    (leb-true 1 k (and-left (leb 1 k) (leb k (pointCount pack)) e), leb-true k (pointCount pack) (and-right (leb 1 k) (leb k (pointCount pack)) e))
+
+module _ (Kind : Reason → Type 0) (none-left : Kind NoSuchNumber) (pack : List ℕ)
+    (room : (n : ℕ) → opened pack ≡ Value n → (k : ℕ) → 1 ≤ k → k ≤ pointCount pack
+    → Kind (Room (length (pointLine k ++ labelAt pack k)))) where
+  point-item-says : (n : ℕ) → opened pack ≡ Value n → (k : ℕ) (out : List ℕ)
+      → LabelSays Kind (pointCount pack) k (packItem pointLine pack k out .answer)
+  unfolding packItem pointItem
+  point-item-says n e k out =
+      rw (afterwards-value Refused out (pointItem pointLine pack k out) e) (by-test (isPoint pack k) refl)
+    where
+      by-test : (t : Bool) → isPoint pack k ≡ t
+          → LabelSays Kind (pointCount pack) k
+          (itemOutcome (pointLine k) (cond t (some (elements (elementsAt pack (pointPlace pack k)))) none) out .answer)
+      by-test true p =
+          let there = point-there pack k p in
+          an-item-says Kind (pointCount pack) k (pointLine k) out (elements (elementsAt pack (pointPlace pack k))) there
+          (room n e k (there .0) (there .1))
+      by-test false p = none-left
+
+  pub pack-list-says : (first count : ℕ) (out : List ℕ)
+      → SeriesSays Kind (pointCount pack) (packList pack first count out .answer)
+  unfolding packList packListed
+  pack-list-says = pack-next Kind (packItem pointLine pack) pack point-item-says
 
 -- ---- a pair of files
 

@@ -24,19 +24,22 @@ use Rattle.source.proofs.Cases.{Resolving, mixed, lacking, fine, resolving}
 use Rattle.label.proofs.Room.{Fitting, fits, short, fitting}
 use Rattle.run.specs.declared.Series.the-variants.{Unasked}
 use Rattle.run.proofs.Same.{same-run}
+use Rattle.item.specs.Item.{Heading}
 use Rattle.ask.specs.Source.{Source}
 use Rattle.ask.specs.Labels.{codeLabel}
 use Rattle.ask.specs.Runs.{codeRun}
+use Rattle.ask.specs.Lists.{codeItem, codeListed}
 use Rattle.ask.proofs.Laws.{by-good-code, by-bad-code, by-refused}
 use Rattle.pack.specs.Layout.{usedBy}
 use Rattle.pack.specs.Opening.{opened}
-use Rattle.pack.specs.Points.{packLabel}
+use Rattle.pack.specs.Points.{packLabel, packItem}
 use Rattle.pack.specs.Cutting.{firstBad, cutWith, cutOutcome, packBuilt}
 use Rattle.pack.specs.Sound.{Sound}
 use Rattle.pack_runs.specs.Runs.{packRun}
+use Rattle.pack_items.specs.Lists.{packListed}
 use Rattle.pack_carries.proofs.Used.{used-exactly, used-rises}
 use Rattle.pack_carries.proofs.Carried.{pack-opens}
-use Rattle.pack_carries.proofs.Labels.{pack-labels}
+use Rattle.pack_carries.proofs.Labels.{pack-labels, pack-items}
 use Rattle.pack_carries.proofs.Exactly.{rows-exactly}
 use Rattle.demands.specs.Two.{Printed}
 use Rattle.demands.specs.Three.{Packable, AllPrinted, FirstRefused, here, later, packed, whole, Building, files-refused, code-refused, view-refused, too-short, built, Carries}
@@ -166,12 +169,25 @@ module _ (s : Source) (p : Packable s) (code : List ℕ) {n : ℕ} (taken : s .j
       afterwards-value Unasked out _ opens
       ∙ (same-run _ _ labels count first out ∙ sym (by-good-code Unasked code out _ s taken clean))
 
+  items : (heading : Heading) (k : ℕ) (out : List ℕ) → packItem heading (whole s code) k out ≡ codeItem heading s code k out
+  unfolding codeItem
+  items heading k out =
+      pack-items (s .look) (packed s code) code sound heading k out ∙ sym (by-good-code Refused code out _ s taken clean)
+
+  lists : (heading : Heading) (first count : ℕ) (out : List ℕ)
+      → packListed heading (whole s code) first count out ≡ codeListed heading s code first count out
+  unfolding packListed codeListed
+  lists heading first count out =
+      afterwards-value Unasked out _ opens
+      ∙ (same-run _ _ (items heading) count first out ∙ sym (by-good-code Unasked code out _ s taken clean))
+
   pub whole-carries : Carries s code (whole s code)
   whole-carries =
       record {
         opens = opens;
         labels = labels;
         runs = runs;
+        lists = lists;
         rows =
             record {
               numbers = usedBy (packed s code);

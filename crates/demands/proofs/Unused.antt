@@ -1,4 +1,4 @@
--- Document 02, No. 13: rows that no view refers to change no label, no run, no pack and no refusal.
+-- Document 02, No. 13: rows that no view refers to change no label, no run, no listing, no pack and no refusal.
 -- Assumes nothing.
 use Prim.Native.Nat.{ℕ}
 use mathlib.Core.Path.{_≡_, refl, sym, ap, ap₂, _∙_}
@@ -21,7 +21,8 @@ use Rattle.run.proofs.Same.{same-run}
 use Rattle.ask.specs.Source.{Source, inCode}
 use Rattle.ask.specs.Labels.{codeFirst, kthLabel, viewLabel, codeLabel}
 use Rattle.ask.specs.Runs.{viewsRun, codeRun}
-use Rattle.ask.proofs.Laws.{in-code-all, kth-same}
+use Rattle.ask.specs.Lists.{kthItem, viewItem, codeItem, headings, viewsListed, codeListed, viewsList, codeList}
+use Rattle.ask.proofs.Laws.{in-code-all, kth-same, kth-item-same}
 use Rattle.pack.specs.Layout.{packOf}
 use Rattle.pack.specs.Cutting.{badOf, firstBad, cutWith, cutOutcome, packBuilt}
 use Rattle.pack.specs.Sound.{KeysFit}
@@ -50,7 +51,7 @@ module _ (look other : Lookup) where
       ap₂ (λ (v : Verdict) (pack : List ℕ). cutWith v pack out) (bad-same views h) (pack-same look other views code fit h)
 
 module _ (one other : Source) {m n : ℕ} (t : one .judged ≡ Value m) (u : other .judged ≡ Value n)
-    (views : other .views ≡ one .views) (live : other .live ≡ one .live)
+    (heading : other .heading ≡ one .heading) (views : other .views ≡ one .views) (live : other .live ≡ one .live)
     (agree : AllAgree (one .look) (other .look) (one .views)) (agree-live : AllAgree (one .look) (other .look) (one .live))
     (fit : AllFit (one .live)) where
   labels : (view : ℕ) (out : List ℕ) → viewLabel one view out ≡ viewLabel other view out
@@ -59,6 +60,18 @@ module _ (one other : Source) {m n : ℕ} (t : one .judged ≡ Value m) (u : oth
       afterwards-value Refused out _ t
       ∙ (kth-same (one .look) (other .look) out (one .views) view agree
       ∙ (ap (λ (v : List Address). kthLabel (other .look) v view out) (sym views) ∙ sym (afterwards-value Refused out _ u)))
+
+  view-items : (view : ℕ) (out : List ℕ)
+      → viewItem (headings (one .heading) (one .views)) one view out
+      ≡ viewItem (headings (other .heading) (other .views)) other view out
+  unfolding viewItem
+  view-items view out =
+      afterwards-value Refused out _ t
+      ∙ (kth-item-same (one .look) (other .look) _ (one .views) view out agree
+      ∙ (ap₂
+      (λ (h : Address → List ℕ) (v : List Address). kthItem (headings h v) (other .look) v view out)
+      (sym heading) (sym views)
+      ∙ sym (afterwards-value Refused out _ u)))
 
   module _ (code : List ℕ) where
     in-code : AllAgree (one .look) (other .look) (inCode code (one .live))
@@ -75,6 +88,27 @@ module _ (one other : Source) {m n : ℕ} (t : one .judged ≡ Value m) (u : oth
         (kth-same (one .look) (other .look) out (inCode code (one .live)) k in-code
         ∙ ap (λ (v : List Address). kthLabel (other .look) (inCode code v) k out) (sym live))
         ∙ sym (afterwards-value Refused out _ u))
+
+    code-items : (k : ℕ) (out : List ℕ)
+        → codeItem (headings (one .heading) (inCode code (one .live))) one code k out
+        ≡ codeItem (headings (other .heading) (inCode code (other .live))) other code k out
+    unfolding codeItem
+    code-items k out =
+        afterwards-value Refused out _ t
+        ∙ (ap (codeFirst Refused code out)
+        (kth-item-same (one .look) (other .look) _ (inCode code (one .live)) k out in-code
+        ∙ ap₂
+        (λ (h : Address → List ℕ) (v : List Address).
+        kthItem (headings h (inCode code v)) (other .look) (inCode code v) k out)
+        (sym heading) (sym live))
+        ∙ sym (afterwards-value Refused out _ u))
+
+    code-lists : (first count : ℕ) (out : List ℕ) → codeList one code first count out ≡ codeList other code first count out
+    unfolding codeList codeListed
+    code-lists first count out =
+        afterwards-value Unasked out _ t
+        ∙ (ap (codeFirst Unasked code out) (same-run _ _ code-items count first out)
+        ∙ sym (afterwards-value Unasked out _ u))
 
     packs : (out : List ℕ) → packBuilt one code out ≡ packBuilt other code out
     unfolding packBuilt
@@ -97,8 +131,22 @@ module _ (one other : Source) {m n : ℕ} (t : one .judged ≡ Value m) (u : oth
   runs first count out =
       afterwards-value Unasked out _ t ∙ (same-run _ _ labels count first out ∙ sym (afterwards-value Unasked out _ u))
 
+  lists : (first count : ℕ) (out : List ℕ) → viewsList one first count out ≡ viewsList other first count out
+  unfolding viewsList viewsListed
+  lists first count out =
+      afterwards-value Unasked out _ t ∙ (same-run _ _ view-items count first out ∙ sym (afterwards-value Unasked out _ u))
+
   pub unmoved : Unmoved one other
-  unmoved = record { labels = labels; code-labels = code-labels; runs = runs; code-runs = code-runs; packs = packs }
+  unmoved =
+      record {
+        labels = labels;
+        code-labels = code-labels;
+        runs = runs;
+        code-runs = code-runs;
+        lists = lists;
+        code-lists = code-lists;
+        packs = packs;
+      }
 
 -- ---- a pair of files
 
@@ -119,7 +167,7 @@ pub unused-rows : (one other points : List ℕ) → Accepted tableFormat one →
     → SameRows one other points
     → Unmoved (pairOf one points) (pairOf other points)
 unused-rows one other points t u p same =
-    unmoved (pairOf one points) (pairOf other points) (pair-taken one points t p) (pair-taken other points u p) refl refl
+    unmoved (pairOf one points) (pairOf other points) (pair-taken one points t p) (pair-taken other points u p) refl refl refl
     same
     (kept-all (λ a. Agree (tableLookup one) (tableLookup other) (keysOf a)) (addressesIn points) same)
     (kept-all (λ a. KeysFit (keysOf a)) (addressesIn points) (rw (all-views points) (fits-at points (wantedIn [] points))))

@@ -10,11 +10,11 @@ use Rattle.run.specs.declared.Series.{Series}
 use Rattle.run.specs.declared.Series.the-variants.{Unasked, Stopped, Done}
 use Rattle.run.specs.Packed.{packedSeries, seriesBytes}
 use Rattle.pack.specs.Opening.{pointCount}
-use Rattle.call.specs.Call.{Call, of-pack, of-pack-labels, Saying, one, run, outcomeOf, numberOf}
+use Rattle.call.specs.Call.{Call, of-pack, of-pack-labels, of-pack-list, Saying, one, run, outcomeOf, numberOf}
 
 -- ---- what fits
 
--- of a run: where it is done, the labels below 2 to the 56; where it stopped, the labels before it below 2 to the 20, and the
+-- of a run or a listing: where it is done, the labels below 2 to the 56; where it stopped, the labels before it below 2 to the 20, and the
 -- refusal, which names no view
 abbrev pub FitsSeries : Series → Type 0
 FitsSeries (Unasked file why) = FitsRefusal file why
@@ -35,9 +35,10 @@ abbrev pub asTold : Saying → Saying
 asTold (one answer) = one answer
 asTold (run series) = run (toldSeries series)
 
--- the one exception, of which less is told than it says: a run over a pack of more than 1,048,575 points
+-- the one exception, of which less is told than it says: a run or a listing over a pack of more than 1,048,575 points
 pub data Exception : Call → Type 0 where
   large-pack : {pack : List ℕ} {first count : ℕ} → 1_048_575 < pointCount pack → Exception (of-pack-labels pack first count)
+  large-list : {pack : List ℕ} {first count : ℕ} → 1_048_575 < pointCount pack → Exception (of-pack-list pack first count)
 
 -- ---- every call
 
@@ -45,6 +46,7 @@ pub data Exception : Call → Type 0 where
 pub data CountedIn : Call → List ℕ → Type 0 where
   to-open : {pack : List ℕ} → CountedIn (of-pack pack) pack
   to-run : {pack : List ℕ} {first count : ℕ} → CountedIn (of-pack-labels pack first count) pack
+  to-list : {pack : List ℕ} {first count : ℕ} → CountedIn (of-pack-list pack first count) pack
 
 -- what is asked of a call: that such a pack holds bytes, as the type of its slice says
 abbrev pub Typed : Call → Type 0
@@ -61,7 +63,7 @@ TellsAll call = (out : List ℕ) → Tells call (outcomeOf call out .answer)
 
 -- ---- two inputs of a call
 
--- what C is told of both is the same: the number, and of a run the bytes
+-- what C is told of both is the same: the number, and of a run or a listing the bytes
 abbrev pub SameTold : (before : ℕ) → Saying → Saying → Type 0
 SameTold before (one a) (one b) = packed a ≡ packed b
 SameTold before (one a) (run t) = ⊥

@@ -9,11 +9,11 @@ use Rattle.run.specs.declared.Series.{Series}
 use Rattle.run.specs.declared.Series.the-variants.{Unasked, Stopped, Done}
 use Rattle.call.specs.Call.{Call, Saying, one, run, called, comesTo}
 
--- what the contract of an exported call allows: a number, what the buffer holds at exit, and the bytes of a run
+-- what the contract of an exported call allows: a number, what the buffer holds at exit, and the bytes of a run or a listing
 abbrev pub Allows : Call → (out : List ℕ) → (before : ℕ) → (number : ℕ) → (exit : List ℕ) → (bytes : ℕ) → Type 0
 Allows call out before number exit bytes = called number exit bytes ≡ comesTo call out before
 
--- refused as a whole; a run that stopped before a label is none
+-- refused as a whole; a run or a listing that stopped is none
 abbrev pub IsRefused : Answer → Type 0
 IsRefused (Value n) = ⊥
 IsRefused (Refused file why) = Unit {0}

@@ -16,15 +16,18 @@ use Rattle.refusal.specs.Outcome.{Outcome, said}
 use Rattle.source.specs.Address.{Lookup, Address}
 use Rattle.source.specs.Resolve.{refused, resolve}
 use Rattle.source.specs.Same.{AllOf}
+use Rattle.item.specs.Item.{Heading}
 use Rattle.ask.specs.Source.{Source, inCode}
 use Rattle.ask.specs.Labels.{codeLabel}
 use Rattle.ask.specs.Runs.{codeRun}
+use Rattle.ask.specs.Lists.{codeListed}
 use Rattle.pack.specs.Layout.{packOf}
 use Rattle.pack.specs.Opening.{opened}
 use Rattle.pack.specs.Points.{packLabel}
 use Rattle.pack.specs.Cutting.{firstBad, packBuilt}
 use Rattle.pack.specs.Sound.{Sound}
 use Rattle.pack_runs.specs.Runs.{packRun}
+use Rattle.pack_items.specs.Lists.{packListed}
 use Rattle.pack_carries.specs.Used.{refers, Rises}
 use Rattle.pack_carries.specs.Rows.{rowsIn, tableRows, organisationRows}
 use Rattle.demands.specs.Two.{Printed}
@@ -85,9 +88,12 @@ pub record Rows (look : Lookup) (views : List Address) (pack : List ℕ) : Type 
   pub held : rowsIn pack ≡ tableRows look numbers ++ organisationRows views
 
 -- "A pack built from accepted files opens, and for every number k and every buffer length answers label k as the files do
--- for the k-th live view of its code: same answer, same bytes written, same bytes untouched"; runs too: "demand 3 covers it"
+-- for the k-th live view of its code: same answer, same bytes written, same bytes untouched"; runs too: "demand 3 covers it";
+-- and listings "but for the heading's words": under any heading, which that of the two calls are
 pub record Carries (s : Source) (code pack : List ℕ) : Type 0 where
   pub opens : opened pack ≡ Value (length (inCode code (s .live)))
   pub labels : (k : ℕ) (out : List ℕ) → packLabel pack k out ≡ codeLabel s code k out
   pub runs : (first count : ℕ) (out : List ℕ) → packRun pack first count out ≡ codeRun s code first count out
+  pub lists : (heading : Heading) (first count : ℕ) (out : List ℕ)
+      → packListed heading pack first count out ≡ codeListed heading s code first count out
   pub rows : Rows (s .look) (inCode code (s .live)) pack

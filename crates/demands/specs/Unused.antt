@@ -7,6 +7,7 @@ use Rattle.source.specs.Same.{AllAgree}
 use Rattle.ask.specs.Source.{Source}
 use Rattle.ask.specs.Labels.{viewLabel, codeLabel}
 use Rattle.ask.specs.Runs.{viewsRun, codeRun}
+use Rattle.ask.specs.Lists.{viewsList, codeList}
 use Rattle.pack.specs.Cutting.{packBuilt}
 use Rattle.changes_source.specs.Rows.{tableLookup}
 use Rattle.changes_source.specs.Addresses.{addressesIn}
@@ -24,4 +25,7 @@ pub record Unmoved (s t : Source) : Type 0 where
   pub runs : (first count : ℕ) (out : List ℕ) → viewsRun s first count out ≡ viewsRun t first count out
   pub code-runs : (code : List ℕ) (first count : ℕ) (out : List ℕ)
       → codeRun s code first count out ≡ codeRun t code first count out
+  pub lists : (first count : ℕ) (out : List ℕ) → viewsList s first count out ≡ viewsList t first count out
+  pub code-lists : (code : List ℕ) (first count : ℕ) (out : List ℕ)
+      → codeList s code first count out ≡ codeList t code first count out
   pub packs : (code out : List ℕ) → packBuilt s code out ≡ packBuilt t code out

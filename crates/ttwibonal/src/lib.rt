@@ -1,10 +1,11 @@
 // The calls that a C program makes. Each answers one number, which packs the answer of the crate below; see the header,
 // include/ttwibonal.h.
+use changes_items::list_in_code;
 use changes_label::label_in_code;
 use changes_runs::labels_in_code;
 ghost use mathlib.Core.Path.{_≡_};
 ghost use mathlib.Core.List.{[]};
-ghost use Rattle.call.specs.Call.{of-table, of-points, of-views, of-letter, of-live, of-codes, of-label, of-code-label, of-build, of-pack, of-pack-label, of-labels, of-code-labels, of-pack-labels, called, comesTo};
+ghost use Rattle.call.specs.Call.{of-table, of-points, of-views, of-letter, of-live, of-codes, of-label, of-code-label, of-build, of-pack, of-pack-label, of-labels, of-code-labels, of-pack-labels, of-list, of-code-list, of-pack-list, called, comesTo};
 
 // How many records a table file has.
 #[no_mangle]
@@ -160,4 +161,62 @@ pub extern "C" fn ttw_pack_labels<'a>(
     let run = pack_runs::labels_of_points(pack, first as usize, count as usize, out);
     *bytes = run::bytes_of(run, *bytes as usize) as u64;
     run::packed_series(run) as u64
+}
+
+// So many views from one on in `out`, each as its line and the label or the line of its refusal, and their bytes in
+// `bytes`.
+#[no_mangle]
+pub extern "C" fn ttw_list<'a>(
+    table: &'a [u8],
+    points: &'a [u8],
+    first: u64,
+    count: u64,
+    out: &mut [u8],
+    bytes: &mut u64,
+) -> u64
+    ensures { λ r. ⌜ called r (now (out .exit)) (now (bytes .exit))
+        ≡ comesTo (of-list (now (table .entry)) (now (points .entry)) first count)
+        (now (out .entry)) (now (bytes .entry)) ⌝ }
+{
+    let list = changes_items::list_of_views(table, points, first as usize, count as usize, out);
+    *bytes = run::bytes_of(list, *bytes as usize) as u64;
+    run::packed_series(list) as u64
+}
+
+// The same of the live views of a code, from the k-th on.
+#[no_mangle]
+pub extern "C" fn ttw_code_list<'a>(
+    table: &'a [u8],
+    points: &'a [u8],
+    code: &[u8],
+    first: u64,
+    count: u64,
+    out: &mut [u8],
+    bytes: &mut u64,
+) -> u64
+    ensures { λ r. ⌜ called r (now (out .exit)) (now (bytes .exit))
+        ≡ comesTo (of-code-list (now (table .entry)) (now (points .entry)) (now (code .entry)) first count)
+        (now (out .entry)) (now (bytes .entry)) ⌝ }
+{
+    let list = list_in_code(table, points, code, first as usize, count as usize, out);
+    *bytes = run::bytes_of(list, *bytes as usize) as u64;
+    run::packed_series(list) as u64
+}
+
+// The same of the points of a pack, each as its line and the label.
+#[no_mangle]
+pub extern "C" fn ttw_pack_list<'a>(
+    pack: &'a [u8],
+    first: u64,
+    count: u64,
+    out: &mut [u8],
+    bytes: &mut u64,
+) -> u64
+    ensures { λ r. ⌜ called r (now (out .exit)) (now (bytes .exit))
+        ≡ comesTo (of-pack-list (now (pack .entry)) first count)
+        (now (out .entry)) (now (bytes .entry)) ⌝ }
+{
+    let list = pack_items::list_of_points(pack, first as usize, count as usize, out);
+    *bytes = run::bytes_of(list, *bytes as usize) as u64;
+    run::packed_series(list) as u64
 }
