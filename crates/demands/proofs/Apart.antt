@@ -44,10 +44,10 @@ item-of-label (Done labels bytes) h = tt
 pub list-stops : (call : Call) → IsList call → (out : List ℕ) → ListStops (outcomeOf call out .answer)
 list-stops call (views-listed {table} {points} {first} {count}) out =
     item-stops 1_048_575 (viewsList (pairOf table points) first count out .answer)
-    (list-says OfItem (inl refl) (pairOf table points) (pair-asked table points) (λ taken k a e. inr refl) first count out)
+    (list-says OfItem (inl refl) (pairOf table points) (pair-asked table points) (λ n taken k a e. inr refl) first count out)
 list-stops call (code-listed {table} {points} {code} {first} {count}) out =
     item-stops 1_048_575 (codeList (pairOf table points) code first count out .answer)
-    (code-list-says OfItem (inl refl) (pairOf table points) (pair-asked table points) code (λ taken k a e. inr refl) first
+    (code-list-says OfItem (inl refl) (pairOf table points) (pair-asked table points) code (λ n taken k a e. inr refl) first
     count out)
 list-stops call (pack-listed {pack} {first} {count}) out =
     item-stops (pointCount pack) (packList pack first count out .answer)

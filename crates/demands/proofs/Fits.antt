@@ -41,12 +41,14 @@ use Rattle.run.specs.declared.Series.{Series}
 use Rattle.run.specs.declared.Series.the-variants.{Unasked, Stopped, Done}
 use Rattle.ask.specs.Source.{Source}
 use Rattle.ask.specs.Labels.{kth, viewLabel, codeLabel}
+use Rattle.ask.specs.Runs.{viewsRun, codeRun}
 use Rattle.ask.specs.Lists.{headings}
 use Rattle.ask.proofs.Kth.{kth-all}
 use Rattle.ask.proofs.Laws.{in-code-all}
 use Rattle.pack.specs.Opening.{pointCount, opened}
 use Rattle.pack.specs.Points.{packLabel}
 use Rattle.pack.specs.Cutting.{packBuilt}
+use Rattle.pack_runs.specs.Runs.{packRun}
 use Rattle.pack_open.proofs.Opened.{opened-all}
 use Rattle.pack_open.proofs.Fits.{points-few}
 use Rattle.changes_source.specs.Rows.{tableLookup}
@@ -107,9 +109,9 @@ elem-below b limit (x ∷ xs) h e = by-test (eqb b x) refl e (elem-below b limit
 -- the k-th of wanted places is one, where it is not 0
 place-wanted : (code points places : List ℕ) → WantedPlaces code points places → (k : ℕ) → (getD places k 0 ≡ 0 → ⊥)
     → WantedPlace code points (getD places k 0)
-place-wanted code points [] h k some = absurd (some refl)
-place-wanted code points (place ∷ places) h zero some = h .0
-place-wanted code points (place ∷ places) h (suc k) some = place-wanted code points places (h .1) k some
+place-wanted code points [] h k there = absurd (there refl)
+place-wanted code points (place ∷ places) h zero there = h .0
+place-wanted code points (place ∷ places) h (suc k) there = place-wanted code points places (h .1) k there
 
 module _ (points : List ℕ) (p : Accepted pointFormat points) where
   records-few : records pointFormat points ≤ 20_000
@@ -378,21 +380,25 @@ tells (of-label table points view) typed out =
 tells (of-code-label table points code k) typed out =
     answer-tells _ _ (code-fits (pairOf table points) (pair-asked table points) out code k)
 tells (of-labels table points first count) typed out =
-    few-tells _ _ (run-small 1_048_575 _ (views-say (pairOf table points) (pair-asked table points) first count out))
+    few-tells _ _
+    (run-small 1_048_575 (viewsRun (pairOf table points) first count out .answer)
+    (views-say (pairOf table points) (pair-asked table points) first count out))
 tells (of-code-labels table points code first count) typed out =
-    few-tells _ _ (run-small 1_048_575 _ (codes-say (pairOf table points) (pair-asked table points) first count out code))
+    few-tells _ _
+    (run-small 1_048_575 (codeRun (pairOf table points) code first count out .answer)
+    (codes-say (pairOf table points) (pair-asked table points) first count out code))
 tells (of-list table points first count) typed out =
     let says = pair-asked table points in
     few-tells _ _
     (list-says SmallStop none-small (pairOf table points) says
-    (λ e. item-small table points (addressesIn points) (says .views e) (views-numbered points (points-accepted table points e)))
+    (λ n e. item-small table points (addressesIn points) (says .views e) (views-numbered points (points-accepted table points e)))
     first count out)
 tells (of-code-list table points code first count) typed out =
     let says = pair-asked table points in
     let Bound : Address → Type 0 = λ a. Bounded (elementsOf (tableLookup table) a) in
     few-tells _ _
     (code-list-says SmallStop none-small (pairOf table points) says code
-    (λ e.
+    (λ n e.
     item-small table points (packed (pairOf table points) code)
     (in-code-all Bound code (pairOf table points .live) (says .live e)) (code-numbered table points code e))
     first count out)
@@ -400,7 +406,8 @@ tells (of-build table points code) typed out = answer-tells _ _ (build-fits tabl
 tells (of-pack pack) typed out = answer-tells _ _ (opened-fits pack (typed pack to-open))
 tells (of-pack-label pack k) typed out = answer-tells _ _ (point-fits pack k out)
 tells (of-pack-labels pack first count) typed out =
-    pack-tells _ pack large-pack _ (typed pack to-run) (run-small (pointCount pack) _ (packs-say pack first count out))
+    pack-tells _ pack large-pack _ (typed pack to-run)
+    (run-small (pointCount pack) (packRun pack first count out .answer) (packs-say pack first count out))
 tells (of-pack-list pack first count) typed out =
     pack-tells _ pack large-list _ (typed pack to-list)
     (pack-list-says SmallStop none-small pack (point-small pack (typed pack to-list)) first count out)

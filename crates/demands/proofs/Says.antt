@@ -326,10 +326,10 @@ module _ (s : Source) (says : Asked s) where
 
   -- asked in turn behind the files, and behind files and code
   module _ (Kind : Reason → Type 0) (ask : Asking) (first count : ℕ) (out : List ℕ) where
-    next : Outcome Series
+    abbrev next : Outcome Series
     next = runFrom ask first count out
 
-    files-first : ({n : ℕ} → s .judged ≡ Value n → (k : ℕ) (o : List ℕ) → LabelSays Kind (length (s .views)) k (ask k o .answer))
+    files-first : ((n : ℕ) → s .judged ≡ Value n → (k : ℕ) (o : List ℕ) → LabelSays Kind (length (s .views)) k (ask k o .answer))
         → SeriesSays Kind 1_048_575 (afterwards Unasked (s .judged) out next .answer)
     files-first each = by-judged (s .judged) refl
       where
@@ -337,30 +337,30 @@ module _ (s : Source) (says : Asked s) where
         by-judged (Value n) e =
             rw (afterwards-value Unasked out next e)
             (more-say Kind (length (s .views)) 1_048_575 (next .answer) (says .few e)
-            (series-says Kind ask (length (s .views)) (each e) first count out))
+            (series-says Kind ask (length (s .views)) (each n e) first count out))
         by-judged (Refused file why) e = rw (afterwards-refused Unasked out next e) (source-refused e)
 
     module _ (code : List ℕ) where
       abbrev coded : List Address
       coded = inCode code (s .live)
 
-      code-next : ({n : ℕ} → s .judged ≡ Value n → outwardFault code ≡ 0 → (k : ℕ) (o : List ℕ)
+      code-next : ((n : ℕ) → s .judged ≡ Value n → outwardFault code ≡ 0 → (k : ℕ) (o : List ℕ)
           → LabelSays Kind (length coded) k (ask k o .answer))
           → SeriesSays Kind 1_048_575 (byCode Unasked s code out next .answer)
       code-next each = by-judged (s .judged) refl
         where
-          by-code : {n : ℕ} → s .judged ≡ Value n → (t : Bool) → eqb (outwardFault code) 0 ≡ t
+          by-code : (n : ℕ) → s .judged ≡ Value n → (t : Bool) → eqb (outwardFault code) 0 ≡ t
               → SeriesSays Kind 1_048_575 (byCode Unasked s code out next .answer)
-          by-code e true c =
+          by-code n e true c =
               let clean = eqb-true (outwardFault code) 0 c in
               rw (by-good-code Unasked code out next s e clean)
               (more-say Kind (length coded) 1_048_575 (next .answer) (omega (arith, code-few code (s .live), says .few-live e))
-              (series-says Kind ask (length coded) (each e clean) first count out))
-          by-code e false c =
+              (series-says Kind ask (length coded) (each n e clean) first count out))
+          by-code n e false c =
               rw (by-bad-code Unasked code out next s e (eqb-false (outwardFault code) 0 c)) code-says
 
           by-judged : (j : Answer) → s .judged ≡ j → SeriesSays Kind 1_048_575 (byCode Unasked s code out next .answer)
-          by-judged (Value n) e = by-code e (eqb (outwardFault code) 0) refl
+          by-judged (Value n) e = by-code n e (eqb (outwardFault code) 0) refl
           by-judged (Refused file why) e = rw (by-refused Unasked code out next s e) (source-refused e)
 
   module _ (first count : ℕ) (out : List ℕ) where
@@ -368,13 +368,13 @@ module _ (s : Source) (says : Asked s) where
     unfolding viewsRun
     views-say =
         files-first StopSays (viewLabel s) first count out
-        (λ e k o. label-says (length (s .views)) k (viewLabel s k o .answer) (view-says e k o))
+        (λ n e k o. label-says (length (s .views)) k (viewLabel s k o .answer) (view-says e k o))
 
     pub codes-say : (code : List ℕ) → SeriesSays StopSays 1_048_575 (codeRun s code first count out .answer)
     unfolding codeRun
     codes-say code =
         code-next StopSays (codeLabel s code) first count out code
-        (λ e clean k o.
+        (λ n e clean k o.
         label-says (length (inCode code (s .live))) k (codeLabel s code k o .answer) (code-label-says e k o code clean))
 
 -- under the source's own headings, where a kind has 7, and 10 with the bytes of an item
@@ -384,29 +384,29 @@ module _ (Kind : Reason → Type 0) (none-left : Kind NoSuchNumber) (s : Source)
       (k : ℕ) (a : Address) → kth views k ≡ some a
       → Kind (Room (length (headings (s .heading) views k ++ resolvedText (resolve (s .look) a))))
 
-  pub list-says : ({n : ℕ} → s .judged ≡ Value n → Roomy (s .views)) → (first count : ℕ) (out : List ℕ)
+  pub list-says : ((n : ℕ) → s .judged ≡ Value n → Roomy (s .views)) → (first count : ℕ) (out : List ℕ)
       → SeriesSays Kind 1_048_575 (viewsList s first count out .answer)
   unfolding viewsList viewsListed viewItem
   list-says room first count out =
       let heading = headings (s .heading) (s .views) in
       files-first s says Kind (viewItem heading s) first count out
-      (λ e k o.
+      (λ n e k o.
       rw (afterwards-value Refused o (kthItem heading (s .look) (s .views) k o) e)
-      (kth-item-says Kind none-left heading (s .look) (s .views) (room e) k o))
+      (kth-item-says Kind none-left heading (s .look) (s .views) (room n e) k o))
 
   module _ (code : List ℕ) where
     abbrev listed : List Address
     listed = inCode code (s .live)
 
-    pub code-list-says : ({n : ℕ} → s .judged ≡ Value n → Roomy listed) → (first count : ℕ) (out : List ℕ)
+    pub code-list-says : ((n : ℕ) → s .judged ≡ Value n → Roomy listed) → (first count : ℕ) (out : List ℕ)
         → SeriesSays Kind 1_048_575 (codeList s code first count out .answer)
     unfolding codeList codeListed codeItem
     code-list-says room first count out =
         let heading = headings (s .heading) listed in
         code-next s says Kind (codeItem heading s code) first count out code
-        (λ e clean k o.
+        (λ n e clean k o.
         rw (by-good-code Refused code o (kthItem heading (s .look) listed k o) s e clean)
-        (kth-item-says Kind none-left heading (s .look) listed (room e) k o))
+        (kth-item-says Kind none-left heading (s .look) listed (room n e) k o))
 
 -- ---- of a pack
 
