@@ -5,15 +5,11 @@ use mathlib.Core.Path.{_≡_, sym, ap, subst, _∙_}
 use mathlib.Core.List.{List, [], _∷_, _++_}
 use native.Mathlib.Omega.{arith}
 use native.Mathlib.Nat.{sub-zero, zero-sub, suc-sub-suc}
-use borrow.Author.Tests.{eq-eqb, ne-eqb}
 use lib.ListN.{length, take, drop, length-append, length-take, length-drop}
 use lib.Seq.{length-take-le, take-all}
-use Rattle.refusal.specs.declared.Reason.{Reason}
-use Rattle.refusal.specs.Refusal.{number, second}
 use Rattle.label.specs.Put.{Wrote, Put}
 use Rattle.label.proofs.Puts.{put-none, put-then, put-as, wrote}
 use Rattle.report.specs.Fed.{fitting, Fed}
-use Rattle.report.specs.Report.{spacedNumber, byteText}
 
 -- the front of two texts
 take-both : (m : ℕ) (p q : List ℕ) → take m (p ++ q) ≡ take m p ++ take (m - length p) q
@@ -87,12 +83,3 @@ fed-wrote {p} {o} v = wrote (put-as (ap (λ (n : ℕ). take n p) (sub-zero (leng
 -- no more is written than there is room for
 pub wrote-count : {l o x : List ℕ} {r : ℕ} → Wrote l o r x → r ≤ length x
 wrote-count {l} {o} w = omega (arith, w .size, ap length (w .is), length-append l (drop (length l) o))
-
--- the byte of a refusal, which 4 alone has
-pub byte-none : (why : Reason) → (number why ≡ 4 → ⊥) → [] ≡ byteText why
-unfolding byteText
-byte-none why n = simp (ne-eqb (number why) 4 n)
-
-pub byte-some : (why : Reason) → number why ≡ 4 → spacedNumber (second why) ≡ byteText why
-unfolding byteText
-byte-some why e = simp (eq-eqb (number why) 4 e)

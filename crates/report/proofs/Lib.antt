@@ -1,2 +1,1 @@
 pub mod Feeds
-pub mod Decimals

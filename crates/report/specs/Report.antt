@@ -1,32 +1,24 @@
 -- Document 01's "One run, complete": the bytes that the program writes for a pair of files, of at most 300 records each.
 -- Assumes nothing.
-use Prim.Native.Nat.{ℕ, zero, suc, _+_, _/_, _%_}
+use Prim.Native.Nat.{ℕ, zero, suc}
 use mathlib.Core.Bool.{cond}
 use mathlib.Core.List.{List, [], _∷_, _++_}
 use lib.Dec.{eqb, ltb}
 use lib.ListN.{length, getD}
-use Rattle.refusal.specs.declared.Reason.{Reason}
 use Rattle.refusal.specs.declared.Reason.the-variants.{NoSuchNumber}
 use Rattle.refusal.specs.declared.Answer.{Answer}
 use Rattle.refusal.specs.declared.Answer.the-variants.{Value, Refused}
-use Rattle.refusal.specs.Refusal.{number, detail, second}
 use Rattle.file_record.specs.Parts.{recordAt}
 use Rattle.file.specs.Check.{checked}
 use Rattle.file.specs.Formats.{tableFormat, pointFormat}
 use Rattle.changes_views.specs.Views.{wantedCount, wantedAt}
-use Rattle.source.specs.Resolve.{Resolved, elements, refused}
-use Rattle.label.specs.Label.{labelOf}
+use Rattle.item.specs.Lines.{spacedNumber, viewLine, refusedLine}
+use Rattle.item.specs.Item.{resolvedText}
 use Rattle.changes_label.specs.Places.{resolvedAt}
 
--- the words `pair`, `view`, `refused`, `table`, `points`, `long`
+-- the words `pair`, `table`, `points`, `long`
 abbrev pub pairWord : List ℕ
 pairWord = 112 ∷ 97 ∷ 105 ∷ 114 ∷ []
-
-abbrev pub viewWord : List ℕ
-viewWord = 118 ∷ 105 ∷ 101 ∷ 119 ∷ []
-
-abbrev pub refusedWord : List ℕ
-refusedWord = 114 ∷ 101 ∷ 102 ∷ 117 ∷ 115 ∷ 101 ∷ 100 ∷ []
 
 abbrev pub tableWord : List ℕ
 tableWord = 116 ∷ 97 ∷ 98 ∷ 108 ∷ 101 ∷ []
@@ -37,34 +29,7 @@ pointsWord = 112 ∷ 111 ∷ 105 ∷ 110 ∷ 116 ∷ 115 ∷ []
 abbrev pub longWord : List ℕ
 longWord = 108 ∷ 111 ∷ 110 ∷ 103 ∷ []
 
--- a number in decimal digits without leading zeros; the first argument is one less than the most digits
-abbrev pub decimalIn : ℕ → ℕ → List ℕ
-decimalIn zero n = (48 + n % 10) ∷ []
-decimalIn (suc most) n = cond (ltb n 10) ((48 + n) ∷ []) (decimalIn most (n / 10) ++ ((48 + n % 10) ∷ []))
-
--- the number n has at most n + 1 digits
-unfoldable pub decimal : ℕ → List ℕ
-decimal n = decimalIn n n
-
--- a space and a number
-abbrev pub spacedNumber : ℕ → List ℕ
-spacedNumber n = 32 ∷ decimal n
-
--- "refusal 4 then carries record and byte of the record .. and the program prints it last" (document 02, No. 1)
-unfoldable pub byteText : Reason → List ℕ
-byteText why = cond (eqb (number why) 4) (spacedNumber (second why)) []
-
--- "`refused`, number, detail", and that byte
-unfoldable pub refusedLine : Reason → List ℕ
-refusedLine why =
-    refusedWord ++ (spacedNumber (number why) ++ (spacedNumber (detail why) ++ (byteText why ++ (10 ∷ []))))
-
--- "then the label, or `refused`, number, detail"
-abbrev pub resolvedText : Resolved → List ℕ
-resolvedText (elements e) = labelOf e
-resolvedText (refused why) = refusedLine why
-
--- the same of the view at a place, 0 being no place
+-- "then the label, or `refused`, number, detail", of the view at a place, 0 being no place
 unfoldable pub viewText : List ℕ → List ℕ → ℕ → List ℕ
 viewText table points place =
     cond (eqb place 0) (refusedLine NoSuchNumber) (resolvedText (resolvedAt table points place))
@@ -72,10 +37,7 @@ viewText table points place =
 -- "For each view: `view`, number, letter; then the label"
 unfoldable pub block : List ℕ → List ℕ → ℕ → List ℕ
 block table points k =
-    viewWord
-    ++ (spacedNumber k
-    ++ ((32 ∷ getD (recordAt 168 points (wantedAt [] points k)) 40 0 ∷ 10 ∷ [])
-    ++ viewText table points (wantedAt [] points k)))
+    viewLine k (getD (recordAt 168 points (wantedAt [] points k)) 40 0) ++ viewText table points (wantedAt [] points k)
 
 -- the views from 1 up to a number
 abbrev pub blocks : List ℕ → List ℕ → ℕ → List ℕ

@@ -34,9 +34,11 @@ use Rattle.label.specs.Label.{labelOf}
 use Rattle.changes_label.specs.Places.{resolvedAt, ViewPlace}
 use Rattle.changes_label.proofs.Laws.{wanted-place}
 use Rattle.report.specs.Fed.{fitting}
-use Rattle.report.specs.Report.{tableWord, pointsWord, decimal, spacedNumber, byteText, refusedLine, resolvedText, viewText, block, blocks, pairText, fileText, pointsText, reportOf}
-use Rattle.report.proofs.Decimals.{decimal-one, decimal-more}
-use Rattle.report_write.proofs.Labels.{label-fits}
+use Rattle.item.specs.Lines.{decimal, spacedNumber, viewLine, byteText, refusedText, refusedLine}
+use Rattle.item.specs.Item.{resolvedText}
+use Rattle.item.proofs.Decimals.{decimal-one, decimal-more}
+use Rattle.report.specs.Report.{tableWord, pointsWord, viewText, block, blocks, pairText, fileText, pointsText, reportOf}
+use Rattle.changes_label.proofs.Laws.{label-fits}
 
 -- a number below ten to the n has at most n digits
 decimal-size : (k n : ℕ) → n < 10 ^ suc k → length (decimal n) ≤ suc k
@@ -181,7 +183,7 @@ resolve-mild look a h =
     (forbidden-most a, omega arith)
 
 -- the line of a refusal
-byte-size : (why : Reason) → second why ≤ 999 → length (byteText why) ≤ 4
+byte-size : (why : Reason) → second why ≤ 999 → length (byteText (number why) (second why)) ≤ 4
 unfolding byteText
 byte-size why h = by-test (eqb (number why) 4)
   where
@@ -190,7 +192,7 @@ byte-size why h = by-test (eqb (number why) 4)
     by-test false = omega arith
 
 refused-size : (why : Reason) → Told 50_700 why → length (refusedLine why) ≤ 24
-unfolding refusedLine
+unfolding refusedText
 refused-size why h =
     simp length-append
     (omega (
@@ -218,7 +220,7 @@ module _ (table points : List ℕ) (t : Accepted tableFormat table) (p : Accepte
           (label-fits table points place v (eqb-false place 0 e))))
 
   block-size : (k : ℕ) → k ≤ 300 → length (block table points k) ≤ 512
-  unfolding block
+  unfolding block viewLine
   block-size k h =
       simp length-append
       (omega (

@@ -23,7 +23,8 @@ use Rattle.source.specs.Resolve.{forbidden, missing, elementsOf, resolve}
 use Rattle.changes_source.specs.Addresses.{addressOf}
 use Rattle.label.specs.Label.{labelOf}
 use Rattle.label.specs.Lines.{numberText, linesOf}
-use Rattle.report.specs.Report.{decimal, byteText, refusedLine, viewText, block, pairText, pointsText, reportOf}
+use Rattle.item.specs.Lines.{decimal, viewLine, byteText, refusedText}
+use Rattle.report.specs.Report.{viewText, block, pairText, pointsText, reportOf}
 
 -- a number as so many digits
 abbrev digitsOf : ℕ → ℕ → List ℕ
@@ -124,7 +125,7 @@ refused-line = 114 ∷ 101 ∷ 102 ∷ 117 ∷ 115 ∷ 101 ∷ 100 ∷ 32 ∷ 57
 
 -- what a run is computed from: to unfold this is to unfold all that its line names
 unfoldable pub run-computes : Unit {0}
-unfolding digitsFault digitValue value textFault filledFault textIn numericLike identifier headerOk trailerOk recordAt inwardLetter inwardFault suffixFault class allowed outwardFault oneOf keyFault pointFault doubleFault tableFault judged verdict checked needed follows placed wanted wantedIn wantedCount wantedAt refAt textsAt lastRow inForce rowOf lookIn forbidden missing elementsOf resolve addressOf labelOf numberText linesOf decimal byteText refusedLine viewText block pairText pointsText reportOf
+unfolding digitsFault digitValue value textFault filledFault textIn numericLike identifier headerOk trailerOk recordAt inwardLetter inwardFault suffixFault class allowed outwardFault oneOf keyFault pointFault doubleFault tableFault judged verdict checked needed follows placed wanted wantedIn wantedCount wantedAt refAt textsAt lastRow inForce rowOf lookIn forbidden missing elementsOf resolve addressOf labelOf numberText linesOf decimal viewLine byteText refusedText viewText block pairText pointsText reportOf
 run-computes = tt
 
 pub one-run : reportOf table points

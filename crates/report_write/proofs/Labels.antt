@@ -19,12 +19,13 @@ use Rattle.changes_source.specs.Rows.{tableLookup}
 use Rattle.changes_source.specs.Addresses.{addressAt}
 use Rattle.label.specs.Label.{labelOf, roomOutcome, resolvedOutcome}
 use Rattle.label.proofs.Room.{room-fits}
-use Rattle.label.proofs.Bounds.{at-most-499}
-use Rattle.changes_meaning.proofs.Meant.{address-fits}
 use Rattle.changes_label.specs.Places.{resolvedAt, placeLabel, ViewPlace}
+use Rattle.changes_label.proofs.Laws.{label-fits}
 use Rattle.label_print.proofs.Unique.{zeros, fresh-tail}
 use Rattle.report_write.specs.Fresh.{TailZero}
-use Rattle.report.specs.Report.{refusedLine, resolvedText, viewText}
+use Rattle.item.specs.Lines.{refusedLine}
+use Rattle.item.specs.Item.{resolvedText}
+use Rattle.report.specs.Report.{viewText}
 
 -- what an answer and a buffer say of a text: it stands in front of the buffer, or it is the refusal's line
 abbrev pub Told : List ℕ → Answer → List ℕ → Type 0
@@ -68,12 +69,6 @@ unfolding resolve
 resolved-is look a e h = resolved-by (elementsOf look a) e _ _ (eqb (forbidden a) 0) (eqb (missing look a) 0) h
 
 module _ (table points : List ℕ) (place : ℕ) (v : ViewPlace table points place) where
-  -- the label of a view has at most 499 bytes
-  pub label-fits : (place ≡ 0 → ⊥) → length (labelOf (elementsOf (tableLookup table) (addressAt points 0 place))) ≤ 499
-  label-fits some =
-      at-most-499 (elementsOf (tableLookup table) (addressAt points 0 place))
-      (address-fits table points (v .of-table) place (v .high some) 0)
-
   module _ (out : List ℕ) (n : 499 ≤ length out) where
     some-told : (place ≡ 0 → ⊥)
         → ToldBy (resolvedText (resolvedAt table points place)) (resolvedOutcome (resolvedAt table points place) out)
@@ -81,7 +76,7 @@ module _ (table points : List ℕ) (place : ℕ) (v : ViewPlace table points pla
         resolved-told (resolvedAt table points place) out
         (λ e h.
         let same = resolved-is (tableLookup table) (addressAt points 0 place) e h in
-        omega (arith, label-fits some, ap (λ (x : Elements). length (labelOf x)) same))
+        omega (arith, label-fits table points place v some, ap (λ (x : Elements). length (labelOf x)) same))
 
     pub view-told : ToldBy (viewText table points place) (placeLabel table points place out)
     unfolding viewText placeLabel

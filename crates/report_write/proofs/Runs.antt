@@ -9,7 +9,8 @@ use Rattle.refusal.specs.declared.Reason.{Reason}
 use Rattle.refusal.specs.declared.Answer.the-variants.{Value, Refused}
 use Rattle.file.specs.Check.{checked}
 use Rattle.file.specs.Formats.{tableFormat, pointFormat}
-use Rattle.report.specs.Report.{tableWord, pointsWord, refusedLine, pairText, longText, pointsText, reportOf}
+use Rattle.item.specs.Lines.{refusedLine}
+use Rattle.report.specs.Report.{tableWord, pointsWord, pairText, longText, pointsText, reportOf}
 
 module _ (table points : List ℕ) where
   module _ (t : ℕ) where

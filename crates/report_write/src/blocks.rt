@@ -1,6 +1,6 @@
 // What is written of each view of a pair of accepted files, which are not judged again.
 use refusal::Answer;
-use report::inner::number_at;
+use report::inner::line_at;
 use report::inner::refused_at;
 use report::inner::text_at;
 ghost use Prim.Native.Nat.{_≤_};
@@ -59,11 +59,8 @@ fn block_at<'a>(table: &'a [u8], points: &'a [u8], view: usize, at: usize, out: 
         file_record::point_record(points, place),
         file_record::Point::LETTER,
     );
-    let ending = [b' ', letter, b'\n'];
-    let i = text_at(b"view", at, out);
-    let j = number_at(view, i, out);
-    let k = text_at(&ending, j, out);
-    view_at(table, points, place, k, out)
+    let i = line_at(item_write::view_line(view, letter), at, out);
+    view_at(table, points, place, i, out)
 }
 
 // The views from 1 on.

@@ -15,7 +15,8 @@ ghost use Rattle.file.specs.Check.{checked};
 ghost use Rattle.file.specs.Formats.{tableFormat, pointFormat};
 ghost use Rattle.label.specs.Put.{Wrote};
 ghost use Rattle.report.specs.Fed.{Fed, fitting};
-ghost use Rattle.report.specs.Report.{refusedLine, pairText, pointsText, reportOf};
+ghost use Rattle.item.specs.Lines.{refusedLine};
+ghost use Rattle.report.specs.Report.{pairText, pointsText, reportOf};
 
 // 300 records.
 const TABLE_MOST: usize = 50700;

@@ -1,7 +1,8 @@
 -- `report_write::write_pair` meets its contract. Assumes nothing.
 use borrow.Author.Needs.{needs}
 use mathlib.Core.Path.{ap}
-use Rattle.report.specs.Report.{spacedNumber, blocks, pairText}
+use Rattle.item.specs.Lines.{spacedNumber}
+use Rattle.report.specs.Report.{blocks, pairText}
 use Rattle.report.proofs.Feeds.{fed-then, fed-as}
 use Rattle.report_write.proofs.write_pair.Statement.{statement}
 use Rattle.report_write.proofs.write_pair.Tie as tie
