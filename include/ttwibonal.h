@@ -6,9 +6,9 @@
  * same slices too where they only read them. No call writes into the slices that it only reads, asks the system for
  * memory, or opens a file. What a call writes (`out`, `*bytes`) may overlap nothing else that it is lent.
  *
- * Stack: a call on files takes less than 2,048 bytes, labels from files less than 4,096, opening a pack or labels from a
- * pack less than 80 KiB, building a pack or listing codes less than 192 KiB. A thread that is to do either needs its stack
- * sized for that.
+ * Stack: a call on files takes less than 2,048 bytes, labels and listings from files less than 4,096, opening a pack,
+ * labels or listings from a pack less than 80 KiB, building a pack or listing codes less than 192 KiB. A thread that is to
+ * do either needs its stack sized for that.
  *
  * Each call answers one number. Take it apart with the macros below and never compare whole words: later calls fill bits
  * that are 0 today.
@@ -38,8 +38,8 @@ extern "C" {
 #define TTW_REFUSAL(answer) ((answer) >> 56)
 /* The file to blame: 1 the table file, 2 the point file, 0 no file. */
 #define TTW_FILE(answer) (((answer) >> 52) & 15u)
-/* The refusal's second detail: the byte for 4, the view where building gives 8 or 9, the labels written where a run
- * stops, otherwise 0. */
+/* The refusal's second detail: the byte for 4, the view where building gives 8 or 9, the labels or items written where a
+ * run or a listing stops, otherwise 0. */
 #define TTW_SECOND(answer) (((answer) >> 32) & 0xFFFFFu)
 /* The refusal's detail. */
 #define TTW_DETAIL(answer) ((answer) & 0xFFFFFFFFu)
@@ -147,6 +147,39 @@ uint64_t ttw_code_labels(const uint8_t *table, size_t table_len, const uint8_t *
                          const uint8_t *code, size_t code_len, uint64_t first, uint64_t count, uint8_t *out,
                          size_t out_len, uint64_t *bytes);
 
+/* Listings. `count` items are written into `out` one behind the other, each asked for in what is left behind those before
+ * it. An item is the line `view N L`, where N is the view's number in the file, counted from 1, and L its amendment
+ * letter; then the label, or the line `refused n d` with the label's refusal, 8 or 9, and its detail. Each line ends with
+ * byte 10. `*bytes` becomes how many bytes the items take together, and what stands behind these in `out` is as it was.
+ * The value is how many items were written: `count`.
+ *
+ * A listing goes on behind a refused label. It stops with 7 where no such view is left, and with 10 before the first item
+ * that does not fit in what is left (the bytes that this item needs); the second detail is how many items were written
+ * before it, modulo 1,048,576. These stay, and `*bytes` counts them. What refuses the whole, and what is written then, is as
+ * for runs. 512 bytes hold any item of a file, 520 any of a pack.
+ *
+ * No text has a small letter, so a line that begins with one is never a label's: `v` begins an item (`p` of a
+ * pack), `r` is the line of a refusal, and every other line is one of the label behind such a line.
+ *
+ *     static uint8_t out[1 << 16];
+ *     uint64_t bytes = 0, first = 1, answer;
+ *     do {
+ *         answer = ttw_list(table, table_len, points, points_len, first, UINT64_MAX, out, sizeof out, &bytes);
+ *         fwrite(out, 1, bytes, stdout);
+ *         first += TTW_SECOND(answer);
+ *     } while (TTW_REFUSAL(answer) == 10);
+ */
+
+/* `count` views from view `first` on, counted from 1: how many items were written. */
+uint64_t ttw_list(const uint8_t *table, size_t table_len, const uint8_t *points, size_t points_len, uint64_t first,
+                  uint64_t count, uint8_t *out, size_t out_len, uint64_t *bytes);
+
+/* `count` live views in an outward code from the `first` on, counted from 1 in file order: how many items were written.
+ * N is the view's number in the file here too. */
+uint64_t ttw_code_list(const uint8_t *table, size_t table_len, const uint8_t *points, size_t points_len,
+                       const uint8_t *code, size_t code_len, uint64_t first, uint64_t count, uint8_t *out,
+                       size_t out_len, uint64_t *bytes);
+
 /* Packs. A pack holds the labels of the live views in one outward code, and needs no file beside it: its k-th point has
  * the label that ttw_code_label gives for the k-th live view of the files that it was built from.
  *
@@ -178,6 +211,12 @@ uint64_t ttw_pack_label(const uint8_t *pack, size_t pack_len, uint64_t k, uint8_
  * run of labels as above, refused as a whole with 11, and stops with 7 or 10. */
 uint64_t ttw_pack_labels(const uint8_t *pack, size_t pack_len, uint64_t first, uint64_t count, uint8_t *out,
                          size_t out_len, uint64_t *bytes);
+
+/* `count` points of a pack from point `first` on, counted from 1: how many items were written. It is a listing as above,
+ * whose items are the line `point K`, K being the point's number, and the label; refused as a whole with 11, and stops
+ * with 7 or 10. */
+uint64_t ttw_pack_list(const uint8_t *pack, size_t pack_len, uint64_t first, uint64_t count, uint8_t *out,
+                       size_t out_len, uint64_t *bytes);
 
 #ifdef __cplusplus
 }

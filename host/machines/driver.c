@@ -27,10 +27,13 @@
     CALL(ttw_code_label, READ(0), READ(1), READ(2), NUMBER(0), WRITE(0))                      \
     CALL(ttw_labels, READ(0), READ(1), NUMBER(0), NUMBER(1), WRITE(0), TELL(1))               \
     CALL(ttw_code_labels, READ(0), READ(1), READ(2), NUMBER(0), NUMBER(1), WRITE(0), TELL(1)) \
+    CALL(ttw_list, READ(0), READ(1), NUMBER(0), NUMBER(1), WRITE(0), TELL(1))                 \
+    CALL(ttw_code_list, READ(0), READ(1), READ(2), NUMBER(0), NUMBER(1), WRITE(0), TELL(1))   \
     CALL(ttw_build, READ(0), READ(1), READ(2), WRITE(0))                                      \
     CALL(ttw_pack, READ(0))                                                                   \
     CALL(ttw_pack_label, READ(0), NUMBER(0), WRITE(0))                                        \
-    CALL(ttw_pack_labels, READ(0), NUMBER(0), NUMBER(1), WRITE(0), TELL(1))
+    CALL(ttw_pack_labels, READ(0), NUMBER(0), NUMBER(1), WRITE(0), TELL(1))                   \
+    CALL(ttw_pack_list, READ(0), NUMBER(0), NUMBER(1), WRITE(0), TELL(1))
 
 /* What these lines are made of: a slice to read or to write, a number, a place for a number. */
 #define READ(i) told->reads[i].bytes, told->reads[i].length

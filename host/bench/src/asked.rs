@@ -35,7 +35,7 @@ const fn call(name: &'static str, library: Question, plain: Question) -> Call {
 }
 
 /// Every call that the header declares, in its order.
-pub const CALLS: [Call; 14] = [
+pub const CALLS: [Call; 17] = [
     Call {
         pass: Some(Pass {
             file: |input| &input.pair.table,
@@ -58,15 +58,19 @@ pub const CALLS: [Call; 14] = [
     call("ttw_code_label", library::code_label, plain::code_label),
     call("ttw_labels", library::labels, plain::labels),
     call("ttw_code_labels", library::code_labels, plain::code_labels),
+    call("ttw_list", library::list, plain::list),
+    call("ttw_code_list", library::code_list, plain::code_list),
     call("ttw_build", library::build, plain::build),
     call("ttw_pack", library::pack, plain::pack),
     call("ttw_pack_label", library::pack_label, plain::pack_label),
     call("ttw_pack_labels", library::pack_labels, plain::pack_labels),
+    call("ttw_pack_list", library::pack_list, plain::pack_list),
 ];
 
 /// The library's calls: letter and label of the last view, the label of the
 /// code's first live view, the pack of the code, the label of its last point;
-/// runs of the last views, of the code's first, and of the last points.
+/// runs and listings of the last views, of the code's first, and of the last
+/// points.
 mod library {
     use crate::input::{Input, CODE, LABEL, ROUND};
     use ttw::calls;
@@ -116,6 +120,17 @@ mod library {
         calls::code_labels(table, points, CODE, 1, ROUND, room, &mut 0)
     }
 
+    pub fn list(input: &Input, room: &mut [u8]) -> u64 {
+        let (table, points) = (&input.pair.table, &input.pair.points);
+        let first = input.last_view - ROUND + 1;
+        calls::list(table, points, first, ROUND, room, &mut 0)
+    }
+
+    pub fn code_list(input: &Input, room: &mut [u8]) -> u64 {
+        let (table, points) = (&input.pair.table, &input.pair.points);
+        calls::code_list(table, points, CODE, 1, ROUND, room, &mut 0)
+    }
+
     pub fn build(input: &Input, room: &mut [u8]) -> u64 {
         calls::build(&input.pair.table, &input.pair.points, CODE, room)
     }
@@ -131,6 +146,11 @@ mod library {
     pub fn pack_labels(input: &Input, room: &mut [u8]) -> u64 {
         let first = input.last_point - ROUND + 1;
         calls::pack_labels(&input.pack, first, ROUND, room, &mut 0)
+    }
+
+    pub fn pack_list(input: &Input, room: &mut [u8]) -> u64 {
+        let first = input.last_point - ROUND + 1;
+        calls::pack_list(&input.pack, first, ROUND, room, &mut 0)
     }
 }
 
@@ -205,6 +225,18 @@ mod plain {
         packed_run(run, &mut 0)
     }
 
+    pub fn list(input: &Input, room: &mut [u8]) -> u64 {
+        let (table, points) = (&input.pair.table, &input.pair.points);
+        let first = input.last_view - ROUND + 1;
+        packed_run(paper::list(table, points, first, ROUND, room), &mut 0)
+    }
+
+    pub fn code_list(input: &Input, room: &mut [u8]) -> u64 {
+        let (table, points) = (&input.pair.table, &input.pair.points);
+        let list = paper::code_list(table, points, CODE, 1, ROUND, room);
+        packed_run(list, &mut 0)
+    }
+
     pub fn build(input: &Input, room: &mut [u8]) -> u64 {
         let (table, points) = (&input.pair.table, &input.pair.points);
         answer(plain_files::build(table, points, CODE, room))
@@ -221,5 +253,10 @@ mod plain {
     pub fn pack_labels(input: &Input, room: &mut [u8]) -> u64 {
         let first = input.last_point - ROUND + 1;
         plain_pack::labels(&input.pack, first, ROUND, room, &mut 0)
+    }
+
+    pub fn pack_list(input: &Input, room: &mut [u8]) -> u64 {
+        let first = input.last_point - ROUND + 1;
+        packed_run(paper::pack_list(&input.pack, first, ROUND, room), &mut 0)
     }
 }

@@ -57,6 +57,7 @@ pub fn run(case: &Case, reached: &mut Reached) {
         lent.ask_reading_calls(case, reached);
         lent.ask_labels(case, reached);
         lent.ask_runs(case, reached);
+        lent.ask_lists(case, reached);
         lent.ask_build(case, reached);
         for pack in &case.packs {
             ask_pack(case, pack, flush, reached);
@@ -172,6 +173,35 @@ impl Lent {
         );
     }
 
+    /// The calls that list views.
+    fn ask_lists(&self, case: &Case, reached: &mut Reached) {
+        let (table, points) = (self.table.bytes(), self.points.bytes());
+        let code = self.code.bytes();
+        let (view, k, count) = (case.files.view, case.files.nth, case.count);
+        let mut list = |call, ours: &Ours, plain: &PlainRun| {
+            run_written(call, self.flush, case.run_room, ours, plain, reached)
+        };
+        list(
+            "list",
+            &|out, bytes| calls::list(table, points, view, count, out, bytes),
+            &|out| paper::list(&case.files.table, &case.files.points, view, count, out),
+        );
+        list(
+            "code list",
+            &|out, bytes| calls::code_list(table, points, code, k, count, out, bytes),
+            &|out| {
+                paper::code_list(
+                    &case.files.table,
+                    &case.files.points,
+                    &case.files.code,
+                    k,
+                    count,
+                    out,
+                )
+            },
+        );
+    }
+
     /// Building, with some room, with just enough, and with a byte less.
     fn ask_build(&self, case: &Case, reached: &mut Reached) {
         let (table, points) = (self.table.bytes(), self.points.bytes());
@@ -212,6 +242,14 @@ fn ask_pack(case: &Case, pack: &[u8], flush: Flush, reached: &mut Reached) {
         &|out| paper::pack_labels(pack, k, count, out),
         reached,
     );
+    run_written(
+        "pack list",
+        flush,
+        case.run_room,
+        &|out, bytes| calls::pack_list(ours, k, count, out, bytes),
+        &|out| paper::pack_list(pack, k, count, out),
+        reached,
+    );
 }
 
 /// A call of the second program that writes.
@@ -237,7 +275,7 @@ fn written(
     answer
 }
 
-/// A run of labels, by the library and by the second program.
+/// A run or a listing, by the library and by the second program.
 type Ours<'a> = dyn Fn(&mut [u8], &mut u64) -> u64 + 'a;
 type PlainRun<'a> = dyn Fn(&mut [u8]) -> Result<Run, Refusal> + 'a;
 

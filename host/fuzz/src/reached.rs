@@ -114,7 +114,7 @@ fn kind(call: &'static str, number: u8, file: u8, detail: u64) -> Kind {
 
 /// The refusals that each call gives besides a value: those of a table file (t),
 /// of a point file (p), of a view's rows (v), of a pack (k); and single ones.
-const CALLS: [(&str, &str, &[u8]); 14] = [
+const CALLS: [(&str, &str, &[u8]); 17] = [
     ("table", "t", &[]),
     ("points", "p", &[]),
     ("views", "p", &[]),
@@ -125,10 +125,13 @@ const CALLS: [(&str, &str, &[u8]); 14] = [
     ("code label", "tpv", &[7, 10, 12]),
     ("labels", "tpv", &[7, 10]),
     ("code labels", "tpv", &[7, 10, 12]),
+    ("list", "tp", &[7, 10]),
+    ("code list", "tp", &[7, 10, 12]),
     ("build", "tpv", &[10, 12]),
     ("pack", "k", &[]),
     ("pack label", "k", &[7, 10]),
     ("pack labels", "k", &[7, 10]),
+    ("pack list", "k", &[7, 10]),
 ];
 
 /// Every kind of answer that there is; of malformed records each byte for the

@@ -28,14 +28,14 @@ pub struct Lent {
 
 /// What the header says of the stack: a call on files takes less than this,
 const FILES: u64 = 2_048;
-/// labels from files less than this,
+/// labels and listings from files less than this,
 const LABELS: u64 = 4_096;
-/// opening a pack or labels from a pack less than this,
+/// opening a pack, labels or listings from a pack less than this,
 const PACKS: u64 = 80 << 10;
 /// building a pack or listing codes less than this.
 const BUILDING: u64 = 192 << 10;
 
-pub const CALLS: [Call; 14] = [
+pub const CALLS: [Call; 17] = [
     Call {
         name: "ttw_table",
         stack: FILES,
@@ -103,6 +103,24 @@ pub const CALLS: [Call; 14] = [
         },
     },
     Call {
+        name: "ttw_list",
+        stack: LABELS,
+        lend: |case| lent_to_run(&pair(case), case.files.view, case),
+        plain: |r, n, w| {
+            let list = paper::list(&r[0], &r[1], n[0], n[1], &mut w[0]);
+            told(list, &mut w[1])
+        },
+    },
+    Call {
+        name: "ttw_code_list",
+        stack: LABELS,
+        lend: |case| lent_to_run(&files(case), case.files.nth, case),
+        plain: |r, n, w| {
+            let list = paper::code_list(&r[0], &r[1], &r[2], n[0], n[1], &mut w[0]);
+            told(list, &mut w[1])
+        },
+    },
+    Call {
         name: "ttw_build",
         stack: BUILDING,
         lend: |case| lent(&files(case), &[], &[case.room]),
@@ -129,6 +147,15 @@ pub const CALLS: [Call; 14] = [
             told(run, &mut w[1])
         },
     },
+    Call {
+        name: "ttw_pack_list",
+        stack: PACKS,
+        lend: |case| lent_to_run(&[&case.packs[0]], case.point, case),
+        plain: |r, n, w| {
+            let list = paper::pack_list(&r[0], n[0], n[1], &mut w[0]);
+            told(list, &mut w[1])
+        },
+    },
 ];
 
 /// The slices of a call on a pair of files.
@@ -150,7 +177,7 @@ fn lent(reads: &[&Vec<u8>], numbers: &[u64], rooms: &[usize]) -> Lent {
     }
 }
 
-/// What a run of labels is lent beside its slices to read: where to start, how
+/// What a run or a listing is lent beside its slices to read: where to start, how
 /// many, room for them and for the number of their bytes.
 fn lent_to_run(reads: &[&Vec<u8>], first: u64, case: &Case) -> Lent {
     let numbers = [first, case.count];
@@ -166,7 +193,7 @@ fn count(answer: Result<usize, Refusal>) -> u64 {
     packed(answer.map(|value| value as u64))
 }
 
-/// The answer of a run, whose bytes become a number in that slice.
+/// The answer of a run or a listing, whose bytes become a number in that slice.
 fn told(run: Result<Run, Refusal>, slice: &mut [u8]) -> u64 {
     let mut bytes = u64::from_le_bytes((&*slice).try_into().expect("8 bytes"));
     let answer = packed_run(run, &mut bytes);

@@ -39,8 +39,8 @@ fn the_header_says_how_much_stack_a_call_may_take() {
     let said = text_of("include/ttwibonal.h").replace("\n *", "");
     for promise in [
         "a call on files takes less than 2,048 bytes",
-        "labels from files less than 4,096",
-        "opening a pack or labels from a pack less than 80 KiB",
+        "labels and listings from files less than 4,096",
+        "opening a pack, labels or listings from a pack less than 80 KiB",
         "building a pack or listing codes less than 192 KiB",
     ] {
         assert!(said.contains(promise), "{promise}");

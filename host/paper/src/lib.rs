@@ -21,7 +21,7 @@
 //! | `mainfile` | Document 02, Mainfile; layouts in the guide's chapter 5 |
 //! | `runs` | Document 02, Print a street at a time |
 //! | `pack`, `build` | The pack; Pack check |
-//! | `listing`, `report` | One run, complete |
+//! | `listing`, `report` | One run, complete; listings of many views or points |
 //! | [`make`] | Test data: files, damaged files, packs, codes, the guide's examples, the samples |
 //!
 //! # Decisions
@@ -83,6 +83,7 @@ mod source;
 pub use build::build;
 pub use files::{check_points, check_table, codes, letter, live, point_fault, table_fault, views};
 pub use label::{label_bytes, lines, Elements};
+pub use listing::{code_list, list, pack_list};
 pub use pack::{open, pack_label};
 pub use pair::{code_label, label, label_of};
 pub use refusal::{packed, Refusal};

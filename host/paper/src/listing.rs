@@ -1,7 +1,55 @@
-//! How a view is listed: document 01, "One run, complete".
+//! How a view is listed: document 01, "One run, complete"; and listings: for
+//! each view this, for each point of a pack the line `point K`, then its label.
+//! A refused label does not stop a listing. It stops with 7 where no such view
+//! is left, and with 10 before the first item that does not fit in what is left.
 
+use crate::pack;
+use crate::pair::Changes;
 use crate::refusal::Refusal;
+use crate::runs::{from, run, view_run, Run};
 use crate::source::{view_label, Source, View};
+
+/// Lists so many views, from number `first` on, in `out`.
+pub fn list(
+    table: &[u8],
+    points: &[u8],
+    first: u64,
+    count: u64,
+    out: &mut [u8],
+) -> Result<Run, Refusal> {
+    let changes = Changes::accept(table, points)?;
+    Ok(view_run(changes.views(), first, count, out, |view| {
+        Ok(entry(changes, view))
+    }))
+}
+
+/// Lists so many live views of an outward code, from the first that is given
+/// on, in `out`.
+pub fn code_list(
+    table: &[u8],
+    points: &[u8],
+    code: &[u8],
+    first: u64,
+    count: u64,
+    out: &mut [u8],
+) -> Result<Run, Refusal> {
+    let changes = Changes::accept(table, points)?;
+    let views = changes.live_views(code)?;
+    Ok(view_run(views, first, count, out, |view| {
+        Ok(entry(changes, view))
+    }))
+}
+
+/// Lists so many points of a pack, from number `first` on, in `out`.
+pub fn pack_list(pack: &[u8], first: u64, count: u64, out: &mut [u8]) -> Result<Run, Refusal> {
+    let points = from(first, (1u64..).zip(pack::points(pack)?));
+    let item = |(k, point): (u64, pack::Point)| {
+        let mut item = format!("point {k}\n").into_bytes();
+        item.extend(point.label());
+        Ok(item)
+    };
+    Ok(run(points.map(item), count, out))
+}
 
 /// A view with its answer: the line `view`, number and letter, where there are
 /// letters; then the label, or the line `refused`, number, detail.

@@ -87,16 +87,16 @@ pub fn packed_run(answer: Result<Run, Refusal>, bytes: &mut u64) -> u64 {
 
 /// All of them from that number on, 1 being the first. There is no number 0,
 /// and nothing is reached from it.
-fn from<I: Iterator>(first: u64, all: I) -> impl Iterator<Item = I::Item> {
+pub(crate) fn from<I: Iterator>(first: u64, all: I) -> impl Iterator<Item = I::Item> {
     let before = first
         .checked_sub(1)
         .and_then(|before| usize::try_from(before).ok());
     all.skip(before.unwrap_or(usize::MAX))
 }
 
-/// Writes so many of these labels one behind the other. Where they end before,
-/// the next is refused with 7.
-fn run(
+/// Writes so many of these labels, or items of a listing, one behind the other.
+/// Where they end before, the next is refused with 7.
+pub(crate) fn run(
     mut labels: impl Iterator<Item = Result<Vec<u8>, Refusal>>,
     count: u64,
     out: &mut [u8],

@@ -1,5 +1,5 @@
-//! Runs of labels: the library asked beside the second program, and beside its own calls for each label in turn. Answer,
-//! buffer and bytes told have to be the same three times.
+//! Runs of labels and listings: the library asked beside the second program, and beside its own calls for each label in
+//! turn. Answer, buffer and bytes told have to be the same three times.
 
 use crate::agree::{lent, telling};
 use crate::rooms::refusal;
@@ -67,6 +67,81 @@ pub fn pack_labels(pack: &[u8], asked: Asked) -> u64 {
     same_thrice(asked, library, one, plain)
 }
 
+/// A listing of the views of a pair: its answer.
+#[track_caller]
+pub fn list(table: &[u8], points: &[u8], asked: Asked) -> u64 {
+    let Asked { first, count, .. } = asked;
+    let library = |out: &mut [u8], bytes: &mut u64| {
+        lent(table, |table| {
+            lent(points, |points| {
+                calls::list(table, points, first, count, out, bytes)
+            })
+        })
+    };
+    let one = |view, out: &mut [u8]| {
+        let line = || {
+            format!(
+                "view {view} {}\n",
+                calls::letter(points, view) as u8 as char
+            )
+        };
+        item(line, |room| calls::label(table, points, view, room), out)
+    };
+    let plain = |out: &mut [u8]| paper::list(table, points, first, count, out);
+    same_thrice(asked, library, one, plain)
+}
+
+/// A listing of the live views of a pair in a code: its answer. No call tells
+/// the number of such a view, so it is asked beside the second program alone.
+#[track_caller]
+pub fn code_list(table: &[u8], points: &[u8], code: &[u8], asked: Asked) -> u64 {
+    let Asked { first, count, .. } = asked;
+    let library = |out: &mut [u8], bytes: &mut u64| {
+        lent(code, |code| {
+            lent(points, |points| {
+                calls::code_list(table, points, code, first, count, out, bytes)
+            })
+        })
+    };
+    let plain = |out: &mut [u8]| paper::code_list(table, points, code, first, count, out);
+    same_twice(asked, library, plain)
+}
+
+/// A listing of the points of a pack: its answer.
+#[track_caller]
+pub fn pack_list(pack: &[u8], asked: Asked) -> u64 {
+    let Asked { first, count, .. } = asked;
+    let library = |out: &mut [u8], bytes: &mut u64| {
+        lent(pack, |pack| {
+            calls::pack_list(pack, first, count, out, bytes)
+        })
+    };
+    let one = |k, out: &mut [u8]| {
+        let line = || format!("point {k}\n");
+        item(line, |room| calls::pack_label(pack, k, room), out)
+    };
+    let plain = |out: &mut [u8]| paper::pack_list(pack, first, count, out);
+    same_thrice(asked, library, one, plain)
+}
+
+/// An item put together from a call for its label: its line, then the label or
+/// its refusal. A file, a pack or a number that is refused is answered as it is.
+fn item(line: impl Fn() -> String, label: impl Fn(&mut [u8]) -> u64, out: &mut [u8]) -> u64 {
+    let mut room = [0; 499];
+    let answer = label(&mut room);
+    let mut text = line().into_bytes();
+    match refusal(answer) {
+        0 => text.extend(&room[..answer as usize]),
+        number @ (8 | 9) => text.extend(format!("refused {number} {}\n", answer as u32).bytes()),
+        _ => return answer,
+    }
+    if out.len() < text.len() {
+        return 10 << 56 | text.len() as u64;
+    }
+    out[..text.len()].copy_from_slice(&text);
+    text.len() as u64
+}
+
 /// What a run leaves behind.
 #[derive(PartialEq, Eq)]
 struct Left {
@@ -96,17 +171,33 @@ fn same_thrice(
     let ours = left(asked.room, library);
     let turned = left(asked.room, |out, bytes| in_turn(asked, one, out, bytes));
     let plain = left(asked.room, |out, bytes| packed_run(plain(out), bytes));
-    for (other, left) in [("in turn", turned), ("the second program", plain)] {
-        assert!(
-            left == ours,
-            "{asked:?}: {:#x} with {} bytes, {other} {:#x} with {}",
-            ours.answer,
-            ours.bytes,
-            left.answer,
-            left.bytes
-        );
-    }
+    same(asked, &ours, "in turn", &turned);
+    same(asked, &ours, "the second program", &plain);
     ours.answer
+}
+
+#[track_caller]
+fn same_twice(
+    asked: Asked,
+    library: impl FnOnce(&mut [u8], &mut u64) -> u64,
+    plain: impl FnOnce(&mut [u8]) -> Result<Run, Refusal>,
+) -> u64 {
+    let ours = left(asked.room, library);
+    let plain = left(asked.room, |out, bytes| packed_run(plain(out), bytes));
+    same(asked, &ours, "the second program", &plain);
+    ours.answer
+}
+
+#[track_caller]
+fn same(asked: Asked, ours: &Left, other: &str, left: &Left) {
+    assert!(
+        left == ours,
+        "{asked:?}: {:#x} with {} bytes, {other} {:#x} with {}",
+        ours.answer,
+        ours.bytes,
+        left.answer,
+        left.bytes
+    );
 }
 
 /// The same labels asked for one by one, each in what is left behind those before it. What is refused with another number

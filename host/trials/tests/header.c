@@ -95,6 +95,28 @@ static void say_runs(const uint8_t *table, size_t table_length, const uint8_t *p
     printf("%" PRIu64 " bytes are as they were\n", bytes);
 }
 
+/* Listings that stop, of the files and of the pack. */
+static void say_lists(const uint8_t *table, size_t table_length, const uint8_t *points, size_t points_length,
+                      const uint8_t *pack, size_t pack_length)
+{
+    const uint8_t code[4] = {'A', 'B', '1', ' '};
+    uint8_t listed[2 * 512];
+    uint64_t bytes = 0;
+    uint64_t answer;
+
+    answer = ttw_list(table, table_length, points, points_length, 1, 2, listed, sizeof listed, &bytes);
+    say_run("list from 1, 2 of them", listed, answer, bytes);
+    answer = ttw_list(table, table_length, points, points_length, 2, 2, listed, 21, &bytes);
+    say_run("list from 2, 2 of them", listed, answer, bytes);
+    answer = ttw_list(table, table_length, points, points_length, 2, 2, listed, 20, &bytes);
+    say_run("list from 2 without room", listed, answer, bytes);
+    answer = ttw_code_list(table, table_length, points, points_length, code, sizeof code, 1, 9, listed, sizeof listed,
+                           &bytes);
+    say_run("list from 1 in AB1, 9 of them", listed, answer, bytes);
+    answer = ttw_pack_list(pack, pack_length, 1, 1, listed, sizeof listed, &bytes);
+    say_run("points listed from 1, 1 of them", listed, answer, bytes);
+}
+
 /* A label from the files and from the pack that is built from them, with room and without. */
 static void say_labels(const uint8_t *table, size_t table_length, const uint8_t *points, size_t points_length)
 {
@@ -115,6 +137,7 @@ static void say_labels(const uint8_t *table, size_t table_length, const uint8_t 
     say("point 1 without room", ttw_pack_label(pack, (size_t)TTW_VALUE(built), 1, label, 1));
     say("point 2", ttw_pack_label(pack, (size_t)TTW_VALUE(built), 2, label, sizeof label));
     say_runs(table, table_length, points, points_length, pack, (size_t)TTW_VALUE(built));
+    say_lists(table, table_length, points, points_length, pack, (size_t)TTW_VALUE(built));
     say("pack without its last byte", ttw_pack(pack, (size_t)TTW_VALUE(built) - 1));
 }
 

@@ -60,6 +60,35 @@ points from 1 without room: refused 10, file 0, second 0, detail 52
 0 bytes
 labels from 1 in no code: refused 12, file 0, second 0, detail 0
 7 bytes are as they were
+list from 1, 2 of them: 2
+82 bytes
+view 1 I
+ATTIC FLAT
+110-114 QUARRY LANE
+HARTWELL BAY
+AB1 9ZZ
+view 2 D
+refused 9 6
+list from 2, 2 of them: refused 7, file 0, second 1, detail 0
+21 bytes
+view 2 D
+refused 9 6
+list from 2 without room: refused 10, file 0, second 0, detail 21
+0 bytes
+list from 1 in AB1, 9 of them: refused 7, file 0, second 1, detail 0
+61 bytes
+view 1 I
+ATTIC FLAT
+110-114 QUARRY LANE
+HARTWELL BAY
+AB1 9ZZ
+points listed from 1, 1 of them: 1
+60 bytes
+point 1
+ATTIC FLAT
+110-114 QUARRY LANE
+HARTWELL BAY
+AB1 9ZZ
 pack without its last byte: refused 11, file 0, second 0, detail 1
 empty table: refused 1, file 1, second 0, detail 0
 table with another header: refused 2, file 1, second 0, detail 1

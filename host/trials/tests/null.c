@@ -58,6 +58,16 @@ static uint64_t ask_code_labels(struct lent *l)
     return ttw_code_labels(l->table.bytes, l->table.length, l->points.bytes, l->points.length, l->code.bytes,
                            l->code.length, 1, 1, l->out.bytes, l->out.length, &l->bytes);
 }
+static uint64_t ask_list(struct lent *l)
+{
+    return ttw_list(l->table.bytes, l->table.length, l->points.bytes, l->points.length, 1, 1, l->out.bytes,
+                    l->out.length, &l->bytes);
+}
+static uint64_t ask_code_list(struct lent *l)
+{
+    return ttw_code_list(l->table.bytes, l->table.length, l->points.bytes, l->points.length, l->code.bytes,
+                         l->code.length, 1, 1, l->out.bytes, l->out.length, &l->bytes);
+}
 static uint64_t ask_build(struct lent *l)
 {
     return ttw_build(l->table.bytes, l->table.length, l->points.bytes, l->points.length, l->code.bytes, l->code.length,
@@ -71,6 +81,10 @@ static uint64_t ask_pack_label(struct lent *l)
 static uint64_t ask_pack_labels(struct lent *l)
 {
     return ttw_pack_labels(l->pack.bytes, l->pack.length, 1, 1, l->out.bytes, l->out.length, &l->bytes);
+}
+static uint64_t ask_pack_list(struct lent *l)
+{
+    return ttw_pack_list(l->pack.bytes, l->pack.length, 1, 1, l->out.bytes, l->out.length, &l->bytes);
 }
 
 /* A call, and the letters of the slices that it takes: table, points, pack (k), code, out. */
@@ -89,10 +103,13 @@ static const struct call {
     {"ttw_code_label", ask_code_label, "tpco"},
     {"ttw_labels", ask_labels, "tpo"},
     {"ttw_code_labels", ask_code_labels, "tpco"},
+    {"ttw_list", ask_list, "tpo"},
+    {"ttw_code_list", ask_code_list, "tpco"},
     {"ttw_build", ask_build, "tpco"},
     {"ttw_pack", ask_pack, "k"},
     {"ttw_pack_label", ask_pack_label, "ko"},
     {"ttw_pack_labels", ask_pack_labels, "ko"},
+    {"ttw_pack_list", ask_pack_list, "ko"},
 };
 
 static struct slice *slice_of(struct lent *lent, char letter)

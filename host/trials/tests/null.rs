@@ -29,6 +29,13 @@ ttw_code_labels t: 1 1 0
 ttw_code_labels p: 1 2 0
 ttw_code_labels c: 12 0 0
 ttw_code_labels o: 10 0 52
+ttw_list t: 1 1 0
+ttw_list p: 1 2 0
+ttw_list o: 10 0 61
+ttw_code_list t: 1 1 0
+ttw_code_list p: 1 2 0
+ttw_code_list c: 12 0 0
+ttw_code_list o: 10 0 61
 ttw_build t: 1 1 0
 ttw_build p: 1 2 0
 ttw_build c: 12 0 0
@@ -38,6 +45,8 @@ ttw_pack_label k: 11 0 1
 ttw_pack_label o: 10 0 52
 ttw_pack_labels k: 11 0 1
 ttw_pack_labels o: 10 0 52
+ttw_pack_list k: 11 0 1
+ttw_pack_list o: 10 0 60
 ";
 
 #[test]

@@ -6,7 +6,7 @@ use crate::calls;
 pub const LABEL: usize = 499;
 
 /// The refusal of a number that there is none of, the lowest of a label's own.
-const NO_SUCH: u8 = 7;
+pub const NO_SUCH: u8 = 7;
 
 /// The refusal of a lent buffer that is too short, the highest of a label's own;
 /// its detail is the bytes needed.
@@ -26,7 +26,7 @@ pub struct Refusal {
     pub detail: u64,
 }
 
-/// How far a run of labels came.
+/// How far a run of labels came, or a listing.
 #[derive(Clone, Copy, Debug, PartialEq, Eq)]
 pub struct Run {
     /// How many labels were written; of a run that stopped, the last 20 bits.
@@ -125,6 +125,29 @@ pub fn code_labels(
     run(|bytes| calls::code_labels(table, points, code, first, count, out, bytes))
 }
 
+/// So many views from `first` on, listed in `out`.
+pub fn list(
+    table: &[u8],
+    points: &[u8],
+    first: u64,
+    count: u64,
+    out: &mut [u8],
+) -> Result<Run, Refusal> {
+    run(|bytes| calls::list(table, points, first, count, out, bytes))
+}
+
+/// The same for the live views in a code.
+pub fn code_list(
+    table: &[u8],
+    points: &[u8],
+    code: &[u8],
+    first: u64,
+    count: u64,
+    out: &mut [u8],
+) -> Result<Run, Refusal> {
+    run(|bytes| calls::code_list(table, points, code, first, count, out, bytes))
+}
+
 /// The pack of a code. Its length is learnt from the refusal of a buffer that
 /// is too short, so that no bound has to be known here; `likely` spares that
 /// round where it is long enough.
@@ -159,7 +182,12 @@ pub fn pack_labels(pack: &[u8], first: u64, count: u64, out: &mut [u8]) -> Resul
     run(|bytes| calls::pack_labels(pack, first, count, out, bytes))
 }
 
-/// What a run's answer says: a label's own refusal stops it, any other refuses
+/// So many points from `first` on, listed in `out`.
+pub fn pack_list(pack: &[u8], first: u64, count: u64, out: &mut [u8]) -> Result<Run, Refusal> {
+    run(|bytes| calls::pack_list(pack, first, count, out, bytes))
+}
+
+/// What a run's answer says, or a listing's: a label's own refusal stops it, any other refuses
 /// the whole.
 fn run(call: impl FnOnce(&mut u64) -> u64) -> Result<Run, Refusal> {
     let mut bytes = 0;

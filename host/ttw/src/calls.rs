@@ -53,6 +53,30 @@ extern "C" {
         out_len: usize,
         bytes: *mut u64,
     ) -> u64;
+    fn ttw_list(
+        table: *const u8,
+        table_len: usize,
+        points: *const u8,
+        points_len: usize,
+        first: u64,
+        count: u64,
+        out: *mut u8,
+        out_len: usize,
+        bytes: *mut u64,
+    ) -> u64;
+    fn ttw_code_list(
+        table: *const u8,
+        table_len: usize,
+        points: *const u8,
+        points_len: usize,
+        code: *const u8,
+        code_len: usize,
+        first: u64,
+        count: u64,
+        out: *mut u8,
+        out_len: usize,
+        bytes: *mut u64,
+    ) -> u64;
     fn ttw_build(
         table: *const u8,
         table_len: usize,
@@ -72,6 +96,15 @@ extern "C" {
         out_len: usize,
     ) -> u64;
     fn ttw_pack_labels(
+        pack: *const u8,
+        pack_len: usize,
+        first: u64,
+        count: u64,
+        out: *mut u8,
+        out_len: usize,
+        bytes: *mut u64,
+    ) -> u64;
+    fn ttw_pack_list(
         pack: *const u8,
         pack_len: usize,
         first: u64,
@@ -207,6 +240,61 @@ pub fn code_labels(
     }
 }
 
+/// So many views from `first` on, each as its line and the label or the line of
+/// its refusal, one behind the other in `out`; `bytes` becomes the bytes that
+/// they take.
+pub fn list(
+    table: &[u8],
+    points: &[u8],
+    first: u64,
+    count: u64,
+    out: &mut [u8],
+    bytes: &mut u64,
+) -> u64 {
+    // SAFETY: as above.
+    unsafe {
+        ttw_list(
+            table.as_ptr(),
+            table.len(),
+            points.as_ptr(),
+            points.len(),
+            first,
+            count,
+            out.as_mut_ptr(),
+            out.len(),
+            bytes,
+        )
+    }
+}
+
+/// The same for the live views in a code.
+pub fn code_list(
+    table: &[u8],
+    points: &[u8],
+    code: &[u8],
+    first: u64,
+    count: u64,
+    out: &mut [u8],
+    bytes: &mut u64,
+) -> u64 {
+    // SAFETY: as above.
+    unsafe {
+        ttw_code_list(
+            table.as_ptr(),
+            table.len(),
+            points.as_ptr(),
+            points.len(),
+            code.as_ptr(),
+            code.len(),
+            first,
+            count,
+            out.as_mut_ptr(),
+            out.len(),
+            bytes,
+        )
+    }
+}
+
 /// The pack of an outward code, written into `out`.
 pub fn build(table: &[u8], points: &[u8], code: &[u8], out: &mut [u8]) -> u64 {
     // SAFETY: as above.
@@ -242,6 +330,23 @@ pub fn pack_labels(pack: &[u8], first: u64, count: u64, out: &mut [u8], bytes: &
     // SAFETY: as above.
     unsafe {
         ttw_pack_labels(
+            pack.as_ptr(),
+            pack.len(),
+            first,
+            count,
+            out.as_mut_ptr(),
+            out.len(),
+            bytes,
+        )
+    }
+}
+
+/// So many points from `first` on, each as its line and the label, one behind
+/// the other in `out`; `bytes` becomes the bytes that they take.
+pub fn pack_list(pack: &[u8], first: u64, count: u64, out: &mut [u8], bytes: &mut u64) -> u64 {
+    // SAFETY: as above.
+    unsafe {
+        ttw_pack_list(
             pack.as_ptr(),
             pack.len(),
             first,

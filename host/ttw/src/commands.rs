@@ -11,7 +11,7 @@ use std::io::Write;
 use std::path::Path;
 use std::slice;
 use ttw::ask::{self, Refusal, Run};
-use ttw::listing::{each_label, room, AT_A_TIME};
+use ttw::listing::{each_item, room, AT_A_TIME};
 use ttw::words::words;
 
 /// Room that most packs fit into.
@@ -125,45 +125,38 @@ fn print_run(
 
 fn labels_of_code(table: &[u8], points: &[u8], code: &Code) -> Outcome {
     let name = code.name();
-    let live = ask::live(points, &code.padded)
-        .map_err(|why| Stop::Refused(words(&why, &format!("code {name}"))))?;
-    list_runs(
-        live,
-        |k| format!("{name} number {k}"),
-        |first, count, room| ask::code_labels(table, points, &code.padded, first, count, room),
+    list_items(
+        &format!("code {name}"),
+        |first, count, page| ask::code_list(table, points, &code.padded, first, count, page),
+        |k, _| {
+            let name = format!("{name} number {k}");
+            (name.clone(), name)
+        },
     )
 }
 
-/// Each view is asked for by itself: no run tells the amendment letters.
 fn labels_of_all(table: &[u8], points: &[u8]) -> Outcome {
-    let views = ask::views(points).map_err(|why| Stop::Refused(words(&why, "files")))?;
-    let numbers: Vec<u64> = (1..=views).collect();
-    let ask = |view: &u64| {
-        let letter =
-            ask::letter(points, *view).map_or(String::new(), |letter| format!(" {letter}"));
-        (letter, ask::label(table, points, *view))
-    };
-    list(|list| {
-        in_order(&numbers, ask, |view, (letter, label)| {
-            let name = format!("view {view}");
-            list.put(&format!("{name}{letter}"), &name, label)
-        })
-    })
+    list_items(
+        "files",
+        |first, count, page| ask::list(table, points, first, count, page),
+        |view, heading| (heading.to_string(), format!("view {view}")),
+    )
 }
 
-/// A list of labels numbered from 1, asked for in runs. Its headings are their
-/// names.
-fn list_runs(
-    count: u64,
-    name: impl Fn(u64) -> String,
+/// A list of all labels that a listing has. `names` are the heading of one and
+/// what its refusal is said of, by its number and its heading there.
+fn list_items(
+    whole: &str,
     ask: impl Fn(u64, u64, &mut [u8]) -> Result<Run, Refusal>,
+    names: impl Fn(u64, &str) -> (String, String),
 ) -> Outcome {
     list(|list| {
-        let ask = |first, count, room: &mut [u8]| {
-            ask(first, count, room).map_err(|why| Stop::Refused(words(&why, &name(first))))
+        let ask = |first, count, page: &mut [u8]| {
+            ask(first, count, page).map_err(|why| Stop::Refused(words(&why, whole)))
         };
-        each_label(count, ask, |number, label| {
-            list.put(&name(number), &name(number), label)
+        each_item(ask, |number, item| {
+            let (heading, subject) = names(number, item.heading);
+            list.put(&heading, &subject, item.label)
         })
     })
 }
@@ -180,13 +173,13 @@ impl List<'_> {
         &mut self,
         heading: &str,
         subject: &str,
-        label: Result<impl AsRef<[u8]>, Refusal>,
+        label: Result<&[u8], Refusal>,
     ) -> Result<(), Stop> {
         writeln!(self.out, "{heading}")?;
         match label {
             Ok(label) => {
                 self.printed += 1;
-                self.out.write_all(label.as_ref())?;
+                self.out.write_all(label)?;
             }
             Err(why) => {
                 self.refused += 1;
@@ -316,15 +309,17 @@ pub fn show(given: &Arguments) -> Outcome {
     }
     send_to(given.out.as_deref());
     let pack = read_pack(&given.files[0])?;
-    let points = ask::pack(&pack).map_err(|why| Stop::Refused(words(&why, "pack")))?;
+    ask::pack(&pack).map_err(|why| Stop::Refused(words(&why, "pack")))?;
     let name = |k| format!("point {k}");
     match (given.nth, given.count) {
         (Some(k), None) => print_one(&name(k), ask::pack_label(&pack, k)),
         (Some(k), Some(count)) => print_run(k, count, name, |first, count, out| {
             ask::pack_labels(&pack, first, count, out)
         }),
-        (None, _) => list_runs(points, name, |first, count, room| {
-            ask::pack_labels(&pack, first, count, room)
-        }),
+        (None, _) => list_items(
+            "pack",
+            |first, count, page| ask::pack_list(&pack, first, count, page),
+            |k, _| (name(k), name(k)),
+        ),
     }
 }

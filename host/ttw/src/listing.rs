@@ -1,64 +1,87 @@
-//! Labels that are asked for in runs, so that files and packs are checked once,
-//! and handed on one by one.
+//! Listings, asked for page by page and handed on item by item.
 
-use crate::ask::{Refusal, Run, LABEL};
+use crate::ask::{Refusal, Run, LABEL, NO_SUCH};
 
-/// How many labels are asked for at a time.
+/// How many labels of a run are asked for at a time.
 pub const AT_A_TIME: u64 = 1 << 14;
+
+/// A page of a listing has room for so many bytes, and so for fewer items than
+/// an answer can count.
+pub const PAGE: usize = 1 << 20;
 
 /// Room for so many labels, or for as many as are asked for at a time.
 pub fn room(labels: u64) -> Vec<u8> {
     vec![0; LABEL * labels.min(AT_A_TIME) as usize]
 }
 
-/// Hands on the labels numbered from 1 to `count`, each with its number, and in
-/// the place of a refused one its refusal. `ask` is a run of so many labels from
-/// a number on.
-pub fn each_label<E>(
-    count: u64,
+/// An item of a listing: its heading, and the label or its refusal.
+#[derive(Debug, PartialEq, Eq)]
+pub struct Item<'a> {
+    pub heading: &'a str,
+    pub label: Result<&'a [u8], Refusal>,
+}
+
+/// Hands on all items from number 1 on, each with its number. `ask` is a listing
+/// of so many from a number on; it ends where there is no such number.
+pub fn each_item<E>(
     mut ask: impl FnMut(u64, u64, &mut [u8]) -> Result<Run, E>,
-    mut take: impl FnMut(u64, Result<&[u8], Refusal>) -> Result<(), E>,
+    mut take: impl FnMut(u64, Item) -> Result<(), E>,
 ) -> Result<(), E> {
-    let mut room = room(count);
-    let (mut next, mut most) = (1, AT_A_TIME);
-    while next <= count {
-        let run = ask(next, most.min(count - next + 1), &mut room)?;
-        let Some(labels) = split(&room[..run.bytes], run.labels) else {
-            most = run.labels / 2;
-            continue;
-        };
-        most = AT_A_TIME.min(most * 2);
-        let all = labels.into_iter().map(Ok).chain(run.stop.map(Err));
-        for label in all {
-            take(next, label)?;
+    let mut page = vec![0; PAGE];
+    let mut next = 1;
+    loop {
+        let listed = ask(next, u64::MAX, &mut page)?;
+        for item in items(&page[..listed.bytes]) {
+            take(next, item)?;
             next += 1;
         }
-    }
-    Ok(())
-}
-
-/// So many labels that stand one behind the other, each by itself. The last line
-/// of a label is its postcode. So there are as many lines like one as there are
-/// labels, or more; where there are more, as of an organisation that is called
-/// like a postcode, it cannot be told which of them end a label.
-fn split(bytes: &[u8], labels: u64) -> Option<Vec<&[u8]>> {
-    if labels == 1 {
-        return Some(vec![bytes]);
-    }
-    let mut found = Vec::new();
-    let (mut start, mut end) = (0, 0);
-    for line in bytes.split_inclusive(|byte| *byte == b'\n') {
-        end += line.len();
-        if is_like_a_postcode(line) {
-            found.push(&bytes[start..end]);
-            start = end;
+        // Without room it goes on, and an item has room in a page of its own.
+        if listed.labels == 0 || listed.stop.is_some_and(|why| why.number == NO_SUCH) {
+            return Ok(());
         }
     }
-    (found.len() as u64 == labels).then_some(found)
 }
 
-/// Whether a line ends as every postcode does.
-fn is_like_a_postcode(line: &[u8]) -> bool {
-    let end = line.strip_suffix(b"\n").unwrap_or(line);
-    matches!(end, [.., b' ', b'0'..=b'9', b'A'..=b'Z', b'A'..=b'Z'])
+/// The items of a listing. A line that begins with a small letter is never a
+/// label's, so each of them is a heading, or the line of a refusal behind one.
+fn items(mut listing: &[u8]) -> impl Iterator<Item = Item<'_>> {
+    std::iter::from_fn(move || {
+        let (heading, rest) = first_line(listing)?;
+        let (label, behind) = match refused(rest) {
+            Some((why, behind)) => (Err(why), behind),
+            None => {
+                let (label, behind) = rest.split_at(label_end(rest));
+                (Ok(label), behind)
+            }
+        };
+        listing = behind;
+        Some(Item { heading, label })
+    })
+}
+
+/// The first line without its end, and what stands behind it.
+fn first_line(bytes: &[u8]) -> Option<(&str, &[u8])> {
+    let end = bytes.iter().position(|byte| *byte == b'\n')?;
+    let line = std::str::from_utf8(&bytes[..end]).ok()?;
+    Some((line, &bytes[end + 1..]))
+}
+
+/// Where the lines end that begin with no small letter.
+fn label_end(bytes: &[u8]) -> usize {
+    let lines = bytes.split_inclusive(|byte| *byte == b'\n');
+    let own = lines.take_while(|line| !line[0].is_ascii_lowercase());
+    own.map(<[u8]>::len).sum()
+}
+
+/// A refusal of which the first line tells number and detail.
+fn refused(bytes: &[u8]) -> Option<(Refusal, &[u8])> {
+    let (line, behind) = first_line(bytes)?;
+    let (number, detail) = line.strip_prefix("refused ")?.split_once(' ')?;
+    let why = Refusal {
+        number: number.parse().ok()?,
+        file: 0,
+        second: 0,
+        detail: detail.parse().ok()?,
+    };
+    Some((why, behind))
 }

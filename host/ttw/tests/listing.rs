@@ -1,5 +1,5 @@
-//! Lists of labels asked for in runs: each label is the one that is asked for
-//! alone, and a pack is opened once for all of them.
+//! Lists of labels, asked for page by page: each item stands in its place, and a
+//! file or a pack is checked once for a page of them.
 
 mod support;
 
@@ -7,105 +7,86 @@ use paper::make::{Pair, TableRow, View};
 use std::time::{Duration, Instant};
 use support::Folder;
 use ttw::ask::{Refusal, Run};
-use ttw::listing::{each_label, AT_A_TIME};
+use ttw::listing::{each_item, Item, PAGE};
 
-type Label = Result<Vec<u8>, Refusal>;
-
-/// A run over a list of labels, as the library has it.
-fn run_over(all: &[Label], first: u64, count: u64, room: &mut [u8]) -> Run {
-    let (mut labels, mut bytes) = (0, 0);
-    let mut stop = None;
-    for label in all.iter().skip(first as usize - 1).take(count as usize) {
-        match label {
-            Ok(label) => {
-                room[bytes..bytes + label.len()].copy_from_slice(label);
-                bytes += label.len();
-                labels += 1;
-            }
-            Err(why) => {
-                stop = Some(*why);
-                break;
-            }
+/// A listing of these items from a number on, as the library has it: as many as there is room for, then 10; 7 behind the
+/// last.
+fn listed(items: &[String], first: u64, room: &mut [u8]) -> Run {
+    let (mut labels, mut bytes, mut stop) = (0, 0, 7);
+    for item in &items[first as usize - 1..] {
+        if room.len() - bytes < item.len() {
+            stop = 10;
+            break;
         }
+        room[bytes..bytes + item.len()].copy_from_slice(item.as_bytes());
+        bytes += item.len();
+        labels += 1;
     }
     Run {
         labels,
         bytes,
-        stop,
+        stop: Some(refusal(stop, 0)),
     }
 }
 
-/// Lists the labels, compares each with the one it has to be, and says how many
-/// runs were asked for.
-fn runs_for(all: &[Label]) -> usize {
-    let (mut runs, mut expected) = (0, (1..).zip(all));
-    let ask = |first, count, room: &mut [u8]| {
-        runs += 1;
-        Ok::<Run, ()>(run_over(all, first, count, room))
-    };
-    let take = |number, label: Result<&[u8], Refusal>| {
-        let label = label.map(<[u8]>::to_vec);
-        assert_eq!(Some((number, &label)), expected.next());
-        Ok(())
-    };
-    assert_eq!(each_label(all.len() as u64, ask, take), Ok(()));
-    assert_eq!(expected.next(), None);
-    runs
-}
-
-fn label(name: &str, n: usize) -> Label {
-    Ok(format!("{name}\n{n} QUARRY LANE\nAB1 9ZZ\n").into_bytes())
-}
-
-fn refused() -> Label {
-    Err(Refusal {
-        number: 9,
+fn refusal(number: u8, detail: u64) -> Refusal {
+    Refusal {
+        number,
         file: 0,
         second: 0,
-        detail: 6,
-    })
-}
-
-#[test]
-fn labels_of_a_large_pack_are_one_run() {
-    let labels: Vec<Label> = (0..15_999).map(|n| label("ROSE COTTAGE", n)).collect();
-    assert_eq!(runs_for(&labels), 1);
-    assert_eq!(runs_for(&labels[..1]), 1);
-    assert_eq!(runs_for(&[]), 0);
-}
-
-#[test]
-fn more_labels_than_are_asked_for_at_a_time() {
-    let labels = AT_A_TIME as usize * 2 + 1;
-    let labels: Vec<Label> = (0..labels).map(|n| label("ROSE COTTAGE", n)).collect();
-    assert_eq!(runs_for(&labels), 3);
-}
-
-#[test]
-fn a_refused_label_stands_in_its_place_and_the_list_goes_on() {
-    for place in [0, 1, 700, 999] {
-        let mut labels: Vec<Label> = (0..1_000).map(|n| label("ROSE COTTAGE", n)).collect();
-        labels[place] = refused();
-        assert_eq!(runs_for(&labels), if place == 999 { 1 } else { 2 });
+        detail,
     }
-    let labels: Vec<Label> = (0..9).map(|_| refused()).collect();
-    assert_eq!(runs_for(&labels), 9);
+}
+
+/// Takes the items apart, compares each with the one it has to be, and says how many pages were asked for.
+fn pages_for(items: &[String]) -> usize {
+    let (mut pages, mut expected) = (0, (1..).zip(items));
+    let ask = |first, _, page: &mut [u8]| {
+        pages += 1;
+        Ok::<Run, ()>(listed(items, first, page))
+    };
+    let take = |number, Item { heading, label }: Item| {
+        let rest = match label {
+            Ok(label) => String::from_utf8(label.to_vec()).expect("text"),
+            Err(why) => format!("refused {} {}\n", why.number, why.detail),
+        };
+        let item = format!("{heading}\n{rest}");
+        assert_eq!(Some((number, &item)), expected.next());
+        Ok(())
+    };
+    assert_eq!(each_item(ask, take), Ok(()));
+    assert_eq!(expected.next(), None);
+    pages
+}
+
+fn item(n: usize) -> String {
+    format!("view {n} I\nAB1 9ZZ\n{n} QUARRY LANE\nAB1 9ZZ\n")
+}
+
+fn refused(n: usize) -> String {
+    format!("view {n} D\nrefused 9 6\n")
 }
 
 #[test]
-fn names_like_postcodes_are_told_apart() {
-    for names in [1, 2, 7] {
-        let mut labels: Vec<Label> = (0..2_000).map(|n| label("ROSE COTTAGE", n)).collect();
-        for place in 0..names {
-            labels[place * 251] = label("AB1 9ZZ", place);
-        }
-        let runs = runs_for(&labels);
-        assert!(runs <= 40 * names, "{names}: {runs}");
+fn items_are_told_apart_and_refused_ones_stand_in_their_places() {
+    let items: Vec<String> = (1..=9).map(item).collect();
+    assert_eq!(pages_for(&items), 1);
+    assert_eq!(pages_for(&[]), 1);
+    let all: Vec<String> = (1..=9).map(refused).collect();
+    assert_eq!(pages_for(&all), 1);
+    for place in [0, 4, 8] {
+        let mut items = items.clone();
+        items[place] = refused(place + 1);
+        assert_eq!(pages_for(&items), 1);
     }
-    let all: Vec<Label> = (0..100).map(|n| label("UNIT 3AB", n)).collect();
-    assert!(runs_for(&all) < 250);
-    let lines = |n| Ok(b"AB1 9ZZ\n".repeat(n));
-    assert_eq!(runs_for(&[lines(11), lines(11)]), 3);
+}
+
+#[test]
+fn a_long_listing_is_asked_for_page_by_page() {
+    let items: Vec<String> = (1..=60_000).map(item).collect();
+    let bytes: usize = items.iter().map(String::len).sum();
+    let pages = pages_for(&items);
+    assert!((2..=bytes / PAGE + 2).contains(&pages), "{pages}");
 }
 
 /// So many live views of AB1, in a pack of more than 1 MiB.
@@ -162,4 +143,21 @@ fn a_pack_of_15_999_points_is_shown_at_once() {
     assert!(of_code.out == listed.replace("point ", "AB1 number "));
     // Opened anew for each point this takes half a minute and more.
     assert!(taken < Duration::from_secs(15), "{taken:?}");
+}
+
+#[test]
+fn all_views_are_listed_at_once() {
+    let views = 15_999;
+    let pair = long_pair(views);
+    let folder = Folder::with_pair(&pair);
+    let mut listing = vec![0; 512 * views as usize];
+    let listed = paper::list(&pair.table, &pair.points, 1, u64::MAX, &mut listing);
+    listing.truncate(listed.expect("a listing").bytes);
+    let start = Instant::now();
+    let all = folder.ttw(&["labels", "changes1", "changes2"]);
+    let taken = start.elapsed();
+    assert!(all.out.into_bytes() == listing);
+    assert_eq!(all.told, "labels printed: 15999, refused: 0\n");
+    // Asked for view by view this takes half a minute and more.
+    assert!(taken < Duration::from_secs(10), "{taken:?}");
 }
