@@ -1,22 +1,23 @@
--- Laws of the trailer, and of an array of starts that is fresh.
+-- Laws of the trailer, and of the array in which row starts are kept.
 -- Assumes nothing.
-use Prim.Native.Nat.{ℕ, _+_, _*_, _/_, _≤_, _<_}
-use mathlib.Core.Path.{_≡_, sym}
+use Prim.Native.Nat.{ℕ, zero, suc, _+_, _*_, _/_, _%_, _^_, _≤_, _<_}
+use mathlib.Core.Path.{_≡_, refl, sym, ap, _∙_}
 use mathlib.Core.Bool.{Bool, true, false, _&&_}
 use mathlib.Core.List.{List}
 use native.Mathlib.Omega.{arith}
-use native.Mathlib.Nat.{le-of-lt, lt-mul-div-succ, div-le-self}
-use borrow.Author.Tests.{le-leb, lt-leb, leb-true, eqb-true}
-use lib.Dec.{eqb, leb}
-use lib.ListN.{length, replicate, length-replicate}
-use Rattle.field.proofs.Tests.{and-left, and-right}
+use native.Mathlib.Nat.{le-of-lt, lt-mul-div-succ, div-le-self, zero-div}
+use borrow.Author.Tests.{le-leb, lt-leb, eqb-true}
+use lib.Dec.{eqb, leb, lit<}
+use lib.ListN.{length, getD, replicate, length-replicate}
+use Rattle.field.proofs.Tests.{and-right}
 use Rattle.field_outward.specs.Outward.{outwardFault}
 use Rattle.pack.specs.Names.{known, pointWidth, trailerWidth}
 use Rattle.pack.specs.Opening.{edition, rowCount, pointsStart, pointCount, outward, lengthSaid, trailerGood}
 use Rattle.pack_read.specs.declared.layout.Layout.{Layout}
 use Rattle.pack_read.specs.Laid.{LaidIn}
 use Rattle.pack_rows.specs.Walks.{GoodRows, Cut, Starts}
-use Rattle.pack_points.specs.Ready.{Sized, Area, Ready}
+use Rattle.pack_rows.specs.Marks.{marked, Unmarked, Fine}
+use Rattle.pack_points.specs.Ready.{Sized, Marked, Told, Kept}
 
 module _ (pack : List ℕ) where
   abbrev width : ℕ
@@ -62,28 +63,50 @@ module _ (pack : List ℕ) where
       (and-right (eqb (lengthSaid pack) (length pack)) _
       (and-right (known (edition pack)) _ (and-right (leb width (length pack)) tests good))))
 
--- k stretches are enough, and keep so
-module _ (k : ℕ) (some : 0 < k) (pack rows : List ℕ) (is : Area pack rows) where
+-- so many stretches are enough, and keep so
+module _ (pack rows : List ℕ) (fine : Bool) (kept : List ℕ) (is : Kept pack rows fine kept) where
   abbrev stretch : ℕ
-  stretch = length rows / k + 1
+  stretch = length rows / 16_384 + 1
 
-  fresh-cut : Cut rows stretch (replicate {A = ℕ} k 0)
-  fresh-cut =
+  cut : Cut rows stretch kept
+  cut =
       record {
         some = omega arith;
-        small = omega (arith, div-le-self (length rows) k, is .small);
-        enough = rw (length-replicate {A = ℕ} k 0) (le-of-lt (lt-mul-div-succ (length rows) some));
+        small = omega (arith, div-le-self (length rows) 16_384, is .area .small);
+        enough = rw (is .size) (le-of-lt (lt-mul-div-succ (length rows) {b = 16_384} (lit< tt)));
       }
 
-  pub fresh : (length rows < 4_294_967_296) × (GoodRows rows × Cut rows stretch (replicate {A = ℕ} k 0))
-  fresh = (is .small, (record { count = rowCount pack; good = is .good }, fresh-cut))
+  pub fresh : (length rows < 4_294_967_296) × (GoodRows rows × Cut rows stretch kept)
+  fresh = (is .area .small, (record { count = rowCount pack; good = is .area .good }, cut))
 
-  pub ready : (starts : List ℕ) → length starts ≡ length (replicate {A = ℕ} k 0)
-      → Starts rows (rowCount pack) stretch starts
-      → Ready pack rows stretch starts
-  ready starts e kept =
+  pub told : (starts : List ℕ) → length starts ≡ length kept → Starts rows (rowCount pack) stretch starts
+      → Told pack rows stretch starts
+  told starts e known =
       record {
-        area = is .area;
-        cut = record { some = fresh-cut .some; small = fresh-cut .small; enough = rw e (fresh-cut .enough) };
-        kept = kept;
+        area = is .area .area;
+        cut = record { some = cut .some; small = cut .small; enough = rw e (cut .enough) };
+        kept = known;
       }
+
+  -- and the bits are where the rows are fine and not too long
+  pub covered : fine ≡ true → length rows ≤ 524_288 → Marked pack rows kept
+  covered e h = record { area = is .area .area; room = omega (arith, is .size); fine = is .marked e }
+
+-- no bit of a fresh array is set
+zeros : (n i : ℕ) → getD {A = ℕ} (replicate n 0) i 0 ≡ 0
+zeros zero i = refl
+zeros (suc n) zero = refl
+zeros (suc n) (suc i) = zeros n i
+
+pub fresh-unmarked : (n : ℕ) → Unmarked (replicate {A = ℕ} n 0)
+unfolding marked
+fresh-unmarked n o =
+    let none : getD {A = ℕ} (replicate n 0) (o / 32) 0 / 2 ^ (o % 32) % 2 ≡ 0
+    = ap (λ w. w / 2 ^ (o % 32) % 2) (zeros n (o / 32)) ∙ ap (_% 2) (zero-div (2 ^ (o % 32))) in
+    ap (λ z. eqb z 1) none
+
+pub as-long : (n : ℕ) (kept : List ℕ) → length kept ≡ length (replicate {A = ℕ} n 0) → length kept ≡ n
+as-long n kept e = e ∙ length-replicate n 0
+
+pub same-count : {rows marks : List ℕ} {n m : ℕ} → n ≡ m → Fine rows n marks → Fine rows m marks
+same-count e fine = rw e at fine

@@ -1,5 +1,7 @@
 // Opening any bytes as a pack.
-use pack_points::inner::points_good;
+use pack_points::inner::fields_good;
+use pack_points::inner::offsets_marked;
+use pack_points::inner::offsets_told;
 use pack_read::Layout;
 use pack_read::PackTrailer;
 use pack_read::inner::outward_of;
@@ -7,18 +9,21 @@ use pack_read::inner::trailer_number;
 use pack_read::is_known;
 use pack_read::layout_in;
 use pack_rows::inner::keep_starts;
+use pack_rows::inner::rows_fine;
 use pack_rows::inner::rows_good;
 use refusal::Answer;
 use refusal::Reason;
 ghost use mathlib.Core.Path.{_≡_};
+ghost use mathlib.Core.Bool.{true};
 ghost use Rattle.refusal.specs.declared.Reason.the-variants.{BadPack};
 ghost use Rattle.refusal.specs.declared.Answer.the-variants.{Refused};
-ghost use Rattle.pack.specs.Opening.{trailerGood, allPointsGood, opened};
+ghost use Rattle.pack.specs.Opening.{trailerGood, rowsGood, allPointsGood, opened};
 ghost use Rattle.pack_read.specs.Laid.{LaidIn};
-ghost use Rattle.pack_points.specs.Ready.{Sized, Area};
+ghost use Rattle.pack_points.specs.Ready.{Sized, Kept};
 
-// Into how many stretches the row area is cut, so that the walk to an offset is short.
-const STRETCHES: usize = 16384;
+// The numbers in which the starts of rows are kept: a bit for each byte of a row area of at most half a megabyte, or for
+// each stretch of a larger one its first start.
+const WORDS: usize = 16384;
 
 // Step 1: whether the trailer is good.
 fn trailer_good(pack: &[u8], layout: Layout) -> bool
@@ -38,15 +43,33 @@ fn trailer_good(pack: &[u8], layout: Layout) -> bool
     known & ((said == n) & ((fault == 0) & (end == n)))
 }
 
-// Step 3: whether the points are good, the rows being so.
-fn all_points_good(pack: &[u8], rows: &[u8], layout: Layout) -> bool
-    requires { ⌜ Sized (now pack) × (LaidIn (now pack) layout × Area (now pack) (now rows)) ⌝ }
+// Step 2: whether the rows are good; those that are not fine at first sight are judged one by one.
+fn all_rows_good(rows: &[u8], count: usize, fine: bool) -> bool
+    requires { ⌜ (fine ≡ true → rowsGood (now rows) count 1 0 ≡ true) ⌝ }
+    ensures { λ r. ⌜ r ≡ rowsGood (now (rows .entry)) count 1 0 ⌝ }
+{
+    if fine {
+        return true;
+    }
+    rows_good(rows, count)
+}
+
+// Step 3: whether the points are good, the rows being so. Row starts are told by bits where rows that are fine at first
+// sight are short enough, else by walks.
+fn all_points_good(pack: &[u8], rows: &[u8], fine: bool, layout: Layout, kept: &mut [u32]) -> bool
+    requires { ⌜ Sized (now pack) × (LaidIn (now pack) layout × Kept (now pack) (now rows) fine (now kept)) ⌝ }
     ensures { λ r. ⌜ r ≡ allPointsGood (now (pack .entry)) ⌝ }
 {
-    let width = rows.len() / STRETCHES + 1;
-    let mut starts = [0u32; STRETCHES];
-    keep_starts(rows, width, &mut starts);
-    points_good(pack, rows, width, &starts, layout)
+    if !fields_good(pack, rows, layout) {
+        return false;
+    }
+    let n = rows.len();
+    if fine & (n <= 32 * WORDS) {
+        return offsets_marked(pack, rows, kept, layout);
+    }
+    let width = n / WORDS + 1;
+    keep_starts(rows, width, kept);
+    offsets_told(pack, rows, width, kept, layout)
 }
 
 fn bad_pack(step: usize) -> Answer
@@ -68,10 +91,13 @@ pub fn open_pack(pack: &[u8]) -> Answer
     }
     let start = trailer_number(pack, layout, PackTrailer::START);
     let rows = &pack[..start];
-    if !rows_good(rows, trailer_number(pack, layout, PackTrailer::ROWS)) {
+    let count = trailer_number(pack, layout, PackTrailer::ROWS);
+    let mut kept = [0u32; WORDS];
+    let fine = rows_fine(rows, count, &mut kept);
+    if !all_rows_good(rows, count, fine) {
         return bad_pack(2);
     }
-    if !all_points_good(pack, rows, layout) {
+    if !all_points_good(pack, rows, fine, layout, &mut kept) {
         return bad_pack(3);
     }
     Answer::Value(trailer_number(pack, layout, PackTrailer::POINTS))

@@ -1,6 +1,6 @@
 -- Laws of the points of a pack.
 -- Assumes nothing.
-use Prim.Native.Nat.{ℕ, suc, _+_, _-_, _*_, _≤_, _<_}
+use Prim.Native.Nat.{ℕ, zero, suc, _+_, _-_, _*_, _≤_, _<_}
 use mathlib.Core.Path.{_≡_, refl, sym, ap}
 use mathlib.Core.Bool.{Bool, true, false, cond, not, _&&_, _||_}
 use mathlib.Core.List.{List, [], _∷_}
@@ -13,11 +13,11 @@ use Rattle.field.specs.Test.{elem}
 use Rattle.field.proofs.Tests.{or-false}
 use Rattle.source.specs.Resolve.{forbiddenOf}
 use Rattle.pack.specs.Names.{pointWidth}
-use Rattle.pack.specs.Opening.{edition, rowCount, pointsStart, pointCount, rowArea, offsetGood, offsetOfPoint, offsetsGood, pointGood, pointsGood}
+use Rattle.pack.specs.Opening.{edition, rowCount, pointsStart, pointCount, rowArea, offsetKinds, restOf, offsetGood, offsetOfPoint, offsetsGood, partsGood, pointsGood, allPointsGood}
 use Rattle.pack.proofs.Widths.{one-of}
 use Rattle.pack_read.specs.declared.layout.Layout.{Layout}
 use Rattle.pack_read.specs.Laid.{LaidIn, Trailed}
-use Rattle.pack_points.specs.Ready.{Sized, PointIn}
+use Rattle.pack_points.specs.Ready.{Sized, PointIn, restGood, eachPoint, allPoints, offsetsFine, fieldsFine}
 
 -- one offset more
 module _ (pack : List ℕ) (at n : ℕ) (kinds : List ℕ) where
@@ -62,13 +62,39 @@ module _ (pack : List ℕ) (sized : Sized pack) where
   point-in i at h is = omega (arith, sized, is, one-of (pointWidth (edition pack)) i (pointCount pack) h)
 
 -- one point more
-module _ (pack : List ℕ) (count i at : ℕ) where
-  pub points-step : i < count → pointGood pack at ≡ true
-      → pointsGood pack (count - i) at ≡ pointsGood pack (count - (i + 1)) (at + pointWidth (edition pack))
-  points-step h e = rw (let size : count - i ≡ suc (count - (i + 1)) = omega arith in size) (simp e)
+module _ (good : ℕ → Bool) (width count i at : ℕ) where
+  pub each-step : i < count → good at ≡ true
+      → eachPoint good width (count - i) at ≡ eachPoint good width (count - (i + 1)) (at + width)
+  each-step h e = rw (let size : count - i ≡ suc (count - (i + 1)) = omega arith in size) (simp e)
 
-  pub points-stop : i < count → pointGood pack at ≡ false → pointsGood pack (count - i) at ≡ false
-  points-stop h e = rw (let size : count - i ≡ suc (count - (i + 1)) = omega arith in size) (simp e)
+  pub each-stop : i < count → good at ≡ false → eachPoint good width (count - i) at ≡ false
+  each-stop h e = rw (let size : count - i ≡ suc (count - (i + 1)) = omega arith in size) (simp e)
 
-  pub points-end : count ≤ i → pointsGood pack (count - i) at ≡ true
-  points-end h = rw (let size : count - i ≡ 0 = omega arith in size)
+  pub each-end : count ≤ i → eachPoint good width (count - i) at ≡ true
+  each-end h = rw (let size : count - i ≡ 0 = omega arith in size)
+
+-- points are good where their offsets and all else of them are
+module _ (pack : List ℕ) where
+  parts-split : (at rest : ℕ) → partsGood pack at rest ≡ offsetsGood pack rest 0 offsetKinds && restGood pack at rest
+  unfolding partsGood restGood
+  parts-split at rest = refl
+
+  regroup : (a b c d : Bool) → (a && b) && (c && d) ≡ (a && c) && (b && d)
+  regroup true true c d = refl
+  regroup true false true d = refl
+  regroup true false false d = refl
+  regroup false b c d = refl
+
+  points-split : (n at : ℕ)
+      → pointsGood pack n at
+      ≡ eachPoint (offsetsFine pack) (pointWidth (edition pack)) n at && eachPoint (fieldsFine pack) (pointWidth (edition pack)) n at
+  points-split zero at = refl
+  points-split (suc n) at =
+      rw (parts-split at (restOf pack at), points-split n (at + pointWidth (edition pack)))
+      (regroup (offsetsFine pack at) (fieldsFine pack at)
+      (eachPoint (offsetsFine pack) (pointWidth (edition pack)) n (at + pointWidth (edition pack)))
+      (eachPoint (fieldsFine pack) (pointWidth (edition pack)) n (at + pointWidth (edition pack))))
+
+  pub all-split : allPointsGood pack ≡ allPoints pack (offsetsFine pack) && allPoints pack (fieldsFine pack)
+  unfolding allPointsGood
+  all-split = points-split (pointCount pack) (pointsStart pack)

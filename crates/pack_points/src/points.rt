@@ -1,4 +1,6 @@
-// The points of a pack whose trailer and rows are good.
+// All of the points but their offsets, of a pack whose trailer and rows are good.
+use field_test::all_are;
+use field_test::text_fault;
 use pack_read::Layout;
 use pack_read::PackPoint;
 use pack_read::PackTrailer;
@@ -6,39 +8,32 @@ use pack_read::inner::number_within;
 use pack_read::inner::offset_of;
 use pack_read::inner::outward_of;
 use pack_read::inner::trailer_number;
-use pack_rows::inner::offset_good;
 use pack_rows::inner::text_empty;
 ghost use mathlib.Core.Path.{_≡_};
-ghost use Prim.Native.Nat.{_≤_};
-ghost use Rattle.pack.specs.Opening.{rowArea, offsetKinds, given, postcodeGood, plainGood, offsetsGood, allowedMix, organisationGood, pointGood, allPointsGood};
+ghost use Prim.Native.Nat.{_≤_, _<_, max};
+ghost use lib.Dec.{eqb};
+ghost use Rattle.field.specs.Text.{textFault};
+ghost use Rattle.pack.specs.Opening.{rowArea, given, postcodeGood, plainGood, allowedMix, organisationGood};
 ghost use Rattle.pack_read.specs.Laid.{LaidIn, Trailed, PostcodeIn, RestIn};
-ghost use Rattle.pack_points.specs.Ready.{Sized, PointIn, Ready};
+ghost use Rattle.pack_points.specs.Ready.{Sized, PointIn, numbersGood, allPoints, fieldsFine};
 
-// The types of the rows that the offsets of a point refer to.
-const KINDS: [u8; 8] = [1, 2, 3, 2, 3, 4, 5, 6];
+// A byte as a number.
+fn wide(b: u8) -> usize
+    ensures { λ r. ⌜ (r ≡ b) × (r < 256) ⌝ }
+{
+    b as usize
+}
 
-// Whether the n-th offset of a rest refers to a row.
+// Whether the n-th offset of a rest refers to a row. Its bytes are taken from the back: an absent one reads the same, and
+// so they are compared at once.
 fn is_given(pack: &[u8], rest: usize, n: usize) -> bool
     requires { ⌜ RestIn (now pack) rest × (n ≤ 7) ⌝ }
     ensures { λ r. ⌜ r ≡ given (now (pack .entry)) rest n ⌝ }
 {
-    offset_of(pack, rest, n) != PackPoint::ABSENT
-}
-
-// Whether each offset is absent or the start of a row of its type.
-fn offsets_good(pack: &[u8], rows: &[u8], width: usize, starts: &[u32], rest: usize) -> bool
-    requires { ⌜ RestIn (now pack) rest × Ready (now pack) (now rows) width (now starts) ⌝ }
-    ensures { λ r. ⌜ r ≡ offsetsGood (now (pack .entry)) rest 0 offsetKinds ⌝ }
-{
-    let mut n = 0;
-    while n < 8 {
-        let o = offset_of(pack, rest, n);
-        if !offset_good(rows, width, starts, KINDS[n], o) {
-            return false;
-        }
-        n += 1;
-    }
-    true
+    let at = rest + PackPoint::OFFSETS + 4 * n;
+    let low = wide(pack[at]) + wide(pack[at + 1]) * 256;
+    let high = wide(pack[at + 2]) + wide(pack[at + 3]) * 256;
+    low + high * 65536 != PackPoint::ABSENT
 }
 
 // Whether the postcode is well formed, in the code of the trailer.
@@ -47,9 +42,38 @@ fn postcode_good(pack: &[u8], layout: Layout, at: usize) -> bool
     ensures { λ r. ⌜ r ≡ postcodeGood (now (pack .entry)) at ⌝ }
 {
     let inward = at + PackPoint::INWARD;
-    let order = file_compare::order_of(&pack[at..inward], outward_of(pack, layout));
-    let fault = field_inward::inward_fault(&pack[inward..at + PackPoint::POSTCODE_END]);
-    (order == 0) & (fault == 0)
+    if !file_compare::same_bytes(&pack[at..inward], outward_of(pack, layout)) {
+        return false;
+    }
+    field_inward::is_inward(&pack[inward..at + PackPoint::POSTCODE_END])
+}
+
+// The greater of two numbers.
+fn greater(a: usize, b: usize) -> usize
+    ensures { λ r. ⌜ r ≡ max a b ⌝ }
+{
+    if a < b { b } else { a }
+}
+
+// Whether keys and number are not too high.
+fn numbers_good(pack: &[u8], rest: usize) -> bool
+    requires { ⌜ RestIn (now pack) rest ⌝ }
+    ensures { λ r. ⌜ r ≡ numbersGood (now (pack .entry)) rest ⌝ }
+{
+    let address = number_within(pack, rest + PackPoint::ADDRESS_KEY, 4);
+    let organisation = number_within(pack, rest + PackPoint::ORGANISATION_KEY, 4);
+    let number = number_within(pack, rest + PackPoint::NUMBER, 2);
+    (greater(address, organisation) <= 99999999) & (number <= 9999)
+}
+
+// Whether a PO box is well formed: this looks for no place.
+fn box_good(s: &[u8]) -> bool
+    ensures { λ r. ⌜ r ≡ eqb (textFault (now (s .entry))) 0 ⌝ }
+{
+    if all_are(s, 32) {
+        return true;
+    }
+    text_fault(s) == 0
 }
 
 // Whether type, keys, number, concatenation and PO box are well formed.
@@ -57,16 +81,16 @@ fn plain_good(pack: &[u8], rest: usize) -> bool
     requires { ⌜ RestIn (now pack) rest ⌝ }
     ensures { λ r. ⌜ r ≡ plainGood (now (pack .entry)) rest ⌝ }
 {
+    if !numbers_good(pack, rest) {
+        return false;
+    }
     let kind = pack[rest + PackPoint::TYPE];
-    let address = number_within(pack, rest + PackPoint::ADDRESS_KEY, 4);
-    let organisation = number_within(pack, rest + PackPoint::ORGANISATION_KEY, 4);
-    let number = number_within(pack, rest + PackPoint::NUMBER, 2);
     let mark = pack[rest + PackPoint::CONCATENATION];
-    let fault = field_test::text_fault(&pack[rest + PackPoint::PO_BOX..rest + PackPoint::OFFSETS]);
-    ((kind == b'S') | (kind == b'L'))
-        & ((address <= 99999999)
-            & ((organisation <= 99999999)
-                & ((number <= 9999) & (((mark == b'Y') | (mark == b' ')) & (fault == 0)))))
+    let marks = ((kind == b'S') | (kind == b'L')) & ((mark == b'Y') | (mark == b' '));
+    if !marks {
+        return false;
+    }
+    box_good(&pack[rest + PackPoint::PO_BOX..rest + PackPoint::OFFSETS])
 }
 
 // Whether no forbidden combination is present.
@@ -85,53 +109,50 @@ fn allowed_mix(pack: &[u8], rest: usize) -> bool
     !(sub & !(name | number)) & (!(dependent & !street) & !own)
 }
 
-// Whether a point has the organisation row that its type and its organisation key ask for.
+// Whether a point has the organisation row that its type and its organisation key ask for. Without one the first row is
+// looked at, so that nothing has to be guessed on the way.
 fn organisation_good(pack: &[u8], rows: &[u8], rest: usize) -> bool
     requires { ⌜ RestIn (now pack) rest × (now rows ≡ rowArea (now pack)) ⌝ }
     ensures { λ r. ⌜ r ≡ organisationGood (now (pack .entry)) rest ⌝ }
 {
     let given = is_given(pack, rest, 7);
-    if pack[rest + PackPoint::TYPE] == b'L' {
-        return given;
-    }
-    if number_within(pack, rest + PackPoint::ORGANISATION_KEY, 4) == 0 {
-        return !given;
-    }
-    given & !text_empty(rows, offset_of(pack, rest, 7), 0)
+    let large = pack[rest + PackPoint::TYPE] == b'L';
+    let keyed = number_within(pack, rest + PackPoint::ORGANISATION_KEY, 4) != 0;
+    let row = offset_of(pack, rest, 7);
+    let at = if given { row } else { 0 };
+    let named = !text_empty(rows, at, 0);
+    let wanted = large | keyed;
+    ((given & wanted) | !(given | wanted)) & ((large | !keyed) | named)
 }
 
-// Whether the point at a place is good.
-fn point_good(
-    pack: &[u8],
-    rows: &[u8],
-    width: usize,
-    starts: &[u32],
-    layout: Layout,
-    at: usize,
-) -> bool
-    requires { ⌜ PointIn (now pack) at × Trailed (now pack) layout × Ready (now pack) (now rows) width (now starts) ⌝ }
-    ensures { λ r. ⌜ r ≡ pointGood (now (pack .entry)) at ⌝ }
+// Whether all but the offsets of the point at a place is good.
+fn point_good(pack: &[u8], rows: &[u8], layout: Layout, at: usize) -> bool
+    requires { ⌜ PointIn (now pack) at × (Trailed (now pack) layout × (now rows ≡ rowArea (now pack))) ⌝ }
+    ensures { λ r. ⌜ r ≡ fieldsFine (now (pack .entry)) at ⌝ }
 {
     let rest = at + layout.rest;
-    let offsets = offsets_good(pack, rows, width, starts, rest);
+    if !postcode_good(pack, layout, at) {
+        return false;
+    }
+    if !plain_good(pack, rest) {
+        return false;
+    }
     let locality = is_given(pack, rest, 0);
-    let postcode = postcode_good(pack, layout, at);
-    let plain = plain_good(pack, rest);
     let mix = allowed_mix(pack, rest);
     let organisation = organisation_good(pack, rows, rest);
-    offsets & (locality & (postcode & (plain & (mix & organisation))))
+    locality & (mix & organisation)
 }
 
-// Whether all points are good.
-pub fn points_good(pack: &[u8], rows: &[u8], width: usize, starts: &[u32], layout: Layout) -> bool
-    requires { ⌜ Sized (now pack) × (LaidIn (now pack) layout × Ready (now pack) (now rows) width (now starts)) ⌝ }
-    ensures { λ r. ⌜ r ≡ allPointsGood (now (pack .entry)) ⌝ }
+// Whether all but the offsets of the points is good.
+pub fn fields_good(pack: &[u8], rows: &[u8], layout: Layout) -> bool
+    requires { ⌜ Sized (now pack) × (LaidIn (now pack) layout × (now rows ≡ rowArea (now pack))) ⌝ }
+    ensures { λ r. ⌜ r ≡ allPoints (now (pack .entry)) (fieldsFine (now (pack .entry))) ⌝ }
 {
     let count = trailer_number(pack, layout, PackTrailer::POINTS);
     let mut at = trailer_number(pack, layout, PackTrailer::START);
     let mut i = 0;
     while i < count {
-        if !point_good(pack, rows, width, starts, layout, at) {
+        if !point_good(pack, rows, layout, at) {
             return false;
         }
         at += layout.point;

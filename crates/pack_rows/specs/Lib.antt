@@ -1,1 +1,4 @@
 pub mod Walks
+pub mod Odds
+pub mod Marks
+pub mod Steps

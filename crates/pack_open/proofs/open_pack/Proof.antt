@@ -1,6 +1,6 @@
 -- `pack_open::open_pack` meets its contract. Assumes nothing.
 use borrow.Author.Needs.{needs}
-use mathlib.Core.Path.{_≡_, sym, _∙_}
+use mathlib.Core.Path.{_≡_, sym, ap, _∙_}
 use native.Mathlib.Omega.{arith}
 use lib.Seq.{length-take-le}
 use borrow.Author.Tests.{not-true, not-false}
@@ -9,11 +9,12 @@ use Prim.Native.Nat.{ℕ, _≤_}
 use lib.Dec.{lit≤}
 use lib.ListN.{length, take}
 use mathlib.Core.List.{List}
-use Rattle.pack_points.specs.Ready.{Sized, Area}
-use Rattle.pack.specs.Opening.{rowsGood, trailerGood, allRowsGood, opened}
+use Rattle.pack_points.specs.Ready.{Sized, Kept}
+use Rattle.pack.specs.Opening.{rowCount, rowArea, rowsGood, trailerGood, allRowsGood, opened}
+use Rattle.pack_rows.specs.Marks.{Fine}
 use Rattle.pack_read.specs.Laid.{Trailed}
 use Rattle.pack_points.proofs.PointLaws.{trailed}
-use Rattle.pack_open.proofs.Trailers.{trailer-sized}
+use Rattle.pack_open.proofs.Trailers.{trailer-sized, fresh-unmarked, same-count, as-long}
 use Rattle.pack_open.proofs.open_pack.Statement.{statement}
 use Rattle.pack_open.proofs.open_pack.Tie as tie
 
@@ -34,39 +35,50 @@ module _ (c : tie.Else1) where
 within : (c : tie.After-trailer-number) → c .trailer-number .result ≤ length (Pack (c .before))
 within c = omega (arith, c .trailer-number .ensures .0, sized (c .before))
 
-rows-said : (c : tie.After-rows-good) → c .rows-good .result ≡ allRowsGood (Pack (c .before .before .before .before))
-unfolding allRowsGood
-rows-said c =
-    let n = c .before in
-    let t = n .before .before in
-    let said : c .rows-good .result
-    ≡ rowsGood (take (t .trailer-number .result) (Pack (t .before))) (n .trailer-number2 .result) 1 0 =
-    c .rows-good .ensures in
-    said ∙ rw (t .trailer-number .ensures .0, n .trailer-number2 .ensures .0)
+-- the rows as they were found at first sight, and judged
+module _ (c : tie.After-all-rows-good) where
+  abbrev at-fine : tie.After-rows-fine
+  at-fine = c .before .before
 
--- past step 2
-area : (c : tie.Else2)
-    → Area (Pack (c .before .before .before .before .before))
-    (take (c .before .before .before .before .trailer-number .result) (Pack (c .before .before .before .before .before)))
-unfolding allRowsGood
-area c =
-    let g = c .before in
-    let t = g .before .before .before in
-    let good = sym (rows-said g) ∙ not-false _ (c .if2 .left) in
-    record {
-      area = rw (t .trailer-number .ensures .0);
-      small = rw (length-take-le _ _ (within t)) (t .trailer-number .ensures .1);
-      good = rw (t .trailer-number .ensures .0) good;
-    }
+  abbrev at-count : tie.After-trailer-number2
+  at-count = at-fine .before .before
 
-layout-in-requires : tie.Need-layout-in-requires
-layout-in-requires c κs = search needs
+  abbrev at-start : tie.After-trailer-number
+  at-start = at-count .before .before
 
-trailer-good-requires : tie.Need-trailer-good-requires
-trailer-good-requires c κs = search needs
+  abbrev past : tie.Else1
+  past = at-start .before
 
-bad-pack-requires : tie.Need-bad-pack-requires
-bad-pack-requires c κs = search needs
+  abbrev Rows : List ℕ
+  Rows = take (at-start .trailer-number .result) (Pack past)
+
+  -- they are those of the row area, and as many as the trailer says
+  rows-are : Rows ≡ rowArea (Pack past)
+  rows-are = ap (λ k. take k (Pack past)) (at-start .trailer-number .ensures .0)
+
+  rows-said : c .all-rows-good .result ≡ allRowsGood (Pack past)
+  unfolding allRowsGood
+  rows-said =
+      c .all-rows-good .ensures
+      ∙ (ap (λ rows. rowsGood rows (at-count .trailer-number2 .result) 1 0) rows-are
+      ∙ ap (λ n. rowsGood (rowArea (Pack past)) n 1 0) (at-count .trailer-number2 .ensures .0))
+
+  marked : at-fine .rows-fine .result ≡ true → Fine Rows (rowCount (Pack past)) (at-fine .rows-fine .last .1 .1 .0)
+  marked e = same-count (at-count .trailer-number2 .ensures .0) (at-fine .rows-fine .ensures e)
+
+  kept : c .all-rows-good .result ≡ true
+      → Kept (Pack past) Rows (at-fine .rows-fine .result) (at-fine .rows-fine .last .1 .1 .0)
+  unfolding allRowsGood
+  kept e =
+      record {
+        area = record {
+          area = rows-are;
+          small = rw (length-take-le _ _ (within at-start)) (at-start .trailer-number .ensures .1);
+          good = ap (λ rows. rowsGood rows (rowCount (Pack past)) 1 0) rows-are ∙ (sym rows-said ∙ e);
+        };
+        size = as-long 16_384 (at-fine .rows-fine .last .1 .1 .0) (at-fine .rows-fine .kept .1 .1 .0);
+        marked = marked;
+      }
 
 returns : tie.Need-returns
 unfolding opened
@@ -83,74 +95,74 @@ slice-aggregate-rows c = sym (length-take-le _ _ (within (c .before)))
 trailer-number-requires-2 : tie.Need-trailer-number-requires-2
 trailer-number-requires-2 c κs = (there (c .before .before), lit≤ tt)
 
-rows-good-requires : tie.Need-rows-good-requires
-rows-good-requires c κs = search needs
+rows-fine-requires : tie.Need-rows-fine-requires
+rows-fine-requires c κs = fresh-unmarked 16_384
 
-bad-pack-requires-2 : tie.Need-bad-pack-requires-2
-bad-pack-requires-2 c κs = search needs
+all-rows-good-requires : tie.Need-all-rows-good-requires
+all-rows-good-requires c κs = λ e. c .before .rows-fine .ensures e .good
 
 returns-2 : tie.Need-returns-2
 unfolding opened
 returns-2 c =
     let g = c .before .before in
-    let e = g .before .before .before .before in
     rw (c .bad-pack2 .ensures)
-    (simp (trailer e, sym (rows-said g) ∙ not-true _ (c .before .if2 .taken)))
+    (simp (trailer (past g), sym (rows-said g) ∙ not-true _ (c .before .if2 .taken)))
 
 all-points-good-requires : tie.Need-all-points-good-requires
 all-points-good-requires c κs =
-    let opened = c .before .before .before .before .before in
-    (sized opened, (opened .before .before .layout-in .ensures, area c))
-
-bad-pack-requires-3 : tie.Need-bad-pack-requires-3
-bad-pack-requires-3 c κs = search needs
+    let e = c .before in
+    let g = e .before in
+    (sized (past g), (past g .before .before .layout-in .ensures, kept g (not-false _ (e .if2 .left))))
 
 returns-3 : tie.Need-returns-3
 unfolding opened
 returns-3 c =
-    let p = c .before .before in
-    let g = p .before .before in
-    let e = g .before .before .before .before in
+    let p = c .before .before .before in
+    let e = p .before .before in
+    let g = e .before in
     rw (c .bad-pack3 .ensures)
     (simp (
-      trailer e,
-      sym (rows-said g) ∙ not-false _ (p .before .if2 .left),
+      trailer (past g),
+      sym (rows-said g) ∙ not-false _ (e .if2 .left),
       sym (p .all-points-good .ensures) ∙ not-true _ (c .before .if3 .taken),
     ))
 
 trailer-number-requires-3 : tie.Need-trailer-number-requires-3
-trailer-number-requires-3 c κs = (there (c .before .before .before .before .before .before .before), lit≤ tt)
+trailer-number-requires-3 c κs = (there (past (c .before .before .before .before .before)), lit≤ tt)
 
 returns-4 : tie.Need-returns-4
 unfolding opened
 returns-4 c =
-    let e₃ = c .before in
-    let p = e₃ .before in
-    let g = p .before .before in
-    let e = g .before .before .before .before in
+    let i = c .before in
+    let p = i .before .before in
+    let e = p .before .before in
+    let g = e .before in
     rw (c .trailer-number3 .ensures .0)
     (simp (
-      trailer e,
-      sym (rows-said g) ∙ not-false _ (p .before .if2 .left),
-      sym (p .all-points-good .ensures) ∙ not-false _ (e₃ .if3 .left),
+      trailer (past g),
+      sym (rows-said g) ∙ not-false _ (e .if2 .left),
+      sym (p .all-points-good .ensures) ∙ not-false _ (i .if3 .left),
     ))
 
 pub open-pack-spec : {M : Type 1} → statement M
 open-pack-spec =
     tie.close
     (tie.spec
-    layout-in-requires
-    trailer-good-requires
-    bad-pack-requires
+    (search needs)
+    (search needs)
+    (search needs)
     returns
     trailer-number-requires
     slice-aggregate-rows
     trailer-number-requires-2
-    rows-good-requires
-    bad-pack-requires-2
+    (search needs)
+    rows-fine-requires
+    all-rows-good-requires
+    (search needs)
     returns-2
+    (search needs)
     all-points-good-requires
-    bad-pack-requires-3
+    (search needs)
     returns-3
     trailer-number-requires-3
     returns-4)

@@ -2,6 +2,7 @@
 //! what document 01 says.
 
 mod accepted;
+mod areas;
 mod built;
 mod damaged;
 mod kept;

@@ -1,68 +1,55 @@
 -- `pack_points::points::organisation_good` meets its contract. Assumes nothing.
 use borrow.Author.Needs.{needs}
-use mathlib.Core.Path.{sym, _∙_}
-use borrow.Author.Tests.{eq-eqb, ne-eqb}
-use Rattle.pack.specs.Opening.{organisationGood}
+use mathlib.Core.Path.{_≡_, sym, ap, _∙_}
+use mathlib.Core.Bool.{true, not, true≢false}
+use mathlib.Core.Logic.{⊎-elim}
+use lib.Dec.{eqb}
+use Rattle.label.specs.Lines.{isEmpty}
+use Rattle.pack.specs.Opening.{rowArea, rowText, typeByte, organisationKey, given, offsetOfPoint, organisationGood}
+use native.Mathlib.Omega.{arith}
+use Rattle.pack_points.proofs.FieldLaws.{organisation-test}
 use Rattle.pack_points.proofs.points.organisation_good.Statement.{statement}
 use Rattle.pack_points.proofs.points.organisation_good.Tie as tie
 
-is-given-requires : tie.Need-is-given-requires
-is-given-requires c κs = search needs
+text-empty-requires : tie.Need-text-empty-requires
+text-empty-requires c κs = ⊎-elim (λ w. omega (arith, w .1, c .before .offset-of .ensures .1)) (λ w. omega (arith, w .1)) (c .if1 .came)
 
-add-if1 : tie.Need-add-if1
-add-if1 c = search needs
-
-shared-slice-read-if1 : tie.Need-shared-slice-read-if1
-shared-slice-read-if1 c = search needs
+-- the row that is looked at is the point's own, where it has one
+own-row : (j : tie.Joined1)
+    → let o = j .before in
+    let a = o .before .before .before .before .before .before .args in
+    given (a .pack .now) (a .rest) 7 ≡ true → j .if1 .at ≡ offsetOfPoint (a .pack .now) (a .rest) 7
+own-row j e =
+    let o = j .before in
+    let g = o .before .before .before in
+    ⊎-elim (λ w. w .1 ∙ o .offset-of .ensures .0)
+    (λ w. absurd (true≢false (sym e ∙ (sym (g .is-given .ensures) ∙ w .0 .left)))) (j .if1 .came)
 
 returns : tie.Need-returns
 unfolding organisationGood
-returns c = rw (c .before .before .is-given .ensures) (simp (eq-eqb _ 76 (c .if1 .taken)))
-
-add-number-within : tie.Need-add-number-within
-add-number-within c = search needs
-
-number-within-requires : tie.Need-number-within-requires
-number-within-requires c κs = search needs
-
-returns-2 : tie.Need-returns-2
-unfolding organisationGood
-returns-2 c =
-    let n = c .before in
-    let e = n .before in
-    rw (e .before .before .is-given .ensures)
-    (simp (ne-eqb _ 76 (e .if1 .left), eq-eqb _ 0 (sym (n .number-within .ensures .0) ∙ c .if2 .taken)))
-
-offset-of-requires : tie.Need-offset-of-requires
-offset-of-requires c κs = search needs
-
-text-empty-requires : tie.Need-text-empty-requires
-text-empty-requires c κs = search needs
-
-returns-3 : tie.Need-returns-3
-unfolding organisationGood
-returns-3 c =
-    let o = c .before in
-    let e₂ = o .before in
-    let n = e₂ .before in
-    let e₁ = n .before in
-    let g = e₁ .before .before in
+returns c =
+    let j = c .before in
+    let o = j .before in
+    let n = o .before in
+    let g = n .before .before in
     let s = g .before .before .before in
-    let some = rw (n .number-within .ensures .0) at (e₂ .if2 .left) in
-    rw (c .text-empty .ensures, o .offset-of .ensures .0, s .pre .1, g .is-given .ensures)
-    (simp (ne-eqb _ 76 (e₁ .if1 .left), ne-eqb _ 0 some))
+    let a = s .args in
+    let pack = a .pack .now in
+    rw (c .text-empty .ensures, n .number-within .ensures .0, s .pre .1, g .is-given .ensures)
+    (organisation-test (given pack (a .rest) 7) (eqb (typeByte pack (a .rest)) 76) (eqb (organisationKey pack (a .rest)) 0)
+    (not (isEmpty (rowText (rowArea pack) (j .if1 .at) 0)))
+    (not (isEmpty (rowText (rowArea pack) (offsetOfPoint pack (a .rest) 7) 0)))
+    (λ e. ap (λ at. not (isEmpty (rowText (rowArea pack) at 0))) (own-row j e)))
 
 pub organisation-good-spec : {M : Type 1} → statement M
 organisation-good-spec =
     tie.close
     (tie.spec
-    is-given-requires
-    add-if1
-    shared-slice-read-if1
-    returns
-    add-number-within
-    number-within-requires
-    returns-2
-    offset-of-requires
+    (search needs)
+    (search needs)
+    (search needs)
+    (search needs)
+    (search needs)
+    (search needs)
     text-empty-requires
-    returns-3)
+    returns)

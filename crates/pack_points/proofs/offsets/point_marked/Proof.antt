@@ -1,4 +1,4 @@
--- `pack_points::points::offsets_good` meets its contract. The invariant: the offsets before the n-th are good, so that the
+-- `pack_points::offsets::point_marked` meets its contract. The invariant: the offsets before the n-th are good, so that the
 -- others decide. Assumes nothing.
 use borrow.Author.Needs.{needs}
 use mathlib.Core.Path.{_≡_, refl, sym, _∙_}
@@ -8,28 +8,28 @@ use Rattle.pack.specs.Opening.{rowCount, rowArea, offsetOfPoint, offsetGood, of
 use Rattle.pack_points.proofs.PointLaws.{offsets-step, offsets-stop, offsets-end}
 use Prim.Native.Nat.{_-_, _≤_}
 use lib.ListN.{drop, getD}
-use Rattle.pack_points.proofs.points.offsets_good.Statement.{statement}
-use Rattle.pack_points.proofs.points.offsets_good.Tie as tie
+use Rattle.pack_points.proofs.offsets.point_marked.Statement.{statement}
+use Rattle.pack_points.proofs.offsets.point_marked.Tie as tie
 
 abbrev Inv-loop : tie.InvT-loop
-Inv-loop pack rows width starts rest n₀ n =
+Inv-loop pack rows marks first rest n₀ n =
     (n ≤ 8) × (offsetsGood pack rest 0 offsetKinds ≡ offsetsGood pack rest n (drop n offsetKinds))
 
 abbrev μ-loop : tie.MeasureT-loop
-μ-loop pack rows width starts rest n₀ n = 8 - n
+μ-loop pack rows marks first rest n₀ n = 8 - n
 
 -- what was found of an offset is said of the pack's own rows
-judged : (c : tie.After-offset-good Inv-loop μ-loop)
+judged : (c : tie.After-offset-marked Inv-loop μ-loop)
     → let l = c .before .before .before in
     let p = l .before .before .before .before .args .pack .now in
-    c .offset-good .result
+    c .offset-marked .result
     ≡ offsetGood (rowArea p) (rowCount p) (getD offsetKinds (l .loop .n) 0)
     (offsetOfPoint p (l .before .before .before .before .args .rest) (l .loop .n))
 judged c =
     let o = c .before in
     let s = o .before .before .before .before .before .before in
     let ready = s .pre .1 in
-    rw (ready .area, o .offset-of .ensures .0) at (c .offset-good .ensures (rowCount (s .args .pack .now)) (ready .kept))
+    rw (ready .area, o .offset-of .ensures .0) at (c .offset-marked .ensures (rowCount (s .args .pack .now)) (ready .fine))
 
 loop-holds : tie.Need-loop-holds Inv-loop μ-loop
 loop-holds c = (search needs, refl)
@@ -60,18 +60,18 @@ returns-2 c =
     let a = l .before .before .before .before .args in
     sym (l .loop .inv .1 ∙ offsets-end (a .pack .now) (a .rest) (l .loop .n) offsetKinds (omega arith))
 
-pub offsets-good-spec : {M : Type 1} → statement M
-offsets-good-spec =
+pub point-marked-spec : {M : Type 1} → statement M
+point-marked-spec =
     tie.close
     (tie.spec
     Inv-loop
     μ-loop
     loop-holds
-    (λ c κs. search needs)
-    (λ c. search needs)
-    (λ c κs. search needs)
+    (search needs)
+    (search needs)
+    (search needs)
     returns
-    (λ c. search needs)
-    (λ c. search needs)
+    (search needs)
+    (search needs)
     loop-again
     returns-2)
