@@ -167,7 +167,7 @@ uint64_t ttw_code_labels(const uint8_t *table, size_t table_len, const uint8_t *
  *         answer = ttw_list(table, table_len, points, points_len, first, UINT64_MAX, out, sizeof out, &bytes);
  *         fwrite(out, 1, bytes, stdout);
  *         first += TTW_SECOND(answer);
- *     } while (TTW_REFUSAL(answer) == 10);
+ *     } while (TTW_REFUSAL(answer) == TTW_REFUSED_ROOM);
  */
 
 /* `count` views from view `first` on, counted from 1: how many items were written. */
