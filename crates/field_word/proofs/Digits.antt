@@ -1,17 +1,20 @@
--- Digits as bytes of a number: what they say.
+-- Digits as bytes of a number: what they say, and that they weigh as they say.
 -- Assumes nothing.
-use Prim.Native.Nat.{ℕ, _+_, _-_, _*_, _/_, _%_, _≤_}
-use mathlib.Core.Path.{_≡_, _∙_}
-use mathlib.Core.Bool.{true}
-use mathlib.Core.List.{List, [], _∷_}
+use Prim.Native.Nat.{ℕ, suc, _+_, _-_, _*_, _/_, _%_, _^_, _≤_}
+use mathlib.Core.Path.{_≡_, refl, sym, ap, ap₂, _∙_}
+use mathlib.Core.Bool.{Bool, true, false}
+use mathlib.Core.List.{List, [], _∷_, _++_}
 use native.Mathlib.Omega.{arith}
-use lib.ListN.{length}
+use native.Mathlib.Nat.{add-assoc, mul-assoc, add-mul, pow-zero, pow-suc}
+use borrow.Author.Tests.{lt-ltb, le-ltb, ltb-true, ltb-false}
+use lib.Dec.{ltb}
+use lib.ListN.{length, length-append}
 use Rattle.field.specs.Test.{every}
 use Rattle.field.specs.Digits.{digit, digitValue, valueFrom}
-use Rattle.field.proofs.Tests.{and-left, and-right}
-use Rattle.field.proofs.Values.{digit-to-9, digit-again}
-use Rattle.field_word.specs.Word.{word, Word}
-use Rattle.field_word.proofs.Laws.{row}
+use Rattle.field.proofs.Tests.{and-left, and-right, range-high}
+use Rattle.field.proofs.Values.{digit-to-9, digit-again, first-digit, first-less}
+use Rattle.field_word.specs.Word.{word, weight, Bytes, Word}
+use Rattle.field_word.proofs.Laws.{row, lighter}
 
 -- four pairs of digits, taken from eight bytes at once
 abbrev pub pairsOf : ℕ → ℕ
@@ -128,3 +131,65 @@ eight-value (a ∷ b ∷ c ∷ d ∷ f ∷ g ∷ h ∷ i ∷ []) w n e p =
     (digit-to-9 i)
     ∙ omega arith)
 eight-value (a ∷ b ∷ c ∷ d ∷ f ∷ g ∷ h ∷ i ∷ j ∷ s) w n e p = absurd (omega arith)
+
+-- a byte more behind others
+pub weight-more : (s : List ℕ) (x : ℕ) → weight (s ++ (x ∷ [])) ≡ weight s * 256 + x
+weight-more [] x = rw (pow-zero 256) (omega arith)
+weight-more (a ∷ s) x =
+    let power = 256 ^ length s in
+    let long : length (s ++ (x ∷ [])) ≡ suc (length s) = length-append s (x ∷ []) ∙ omega arith in
+    rw (long, pow-suc 256 (length s), weight-more s x)
+    (rw (← mul-assoc a power 256, add-mul (a * power) (weight s) 256) (sym (add-assoc (a * power * 256) (weight s * 256) x)))
+
+digits-bytes : (s : List ℕ) → every digit s ≡ true → Bytes s
+digits-bytes [] e = tt
+digits-bytes (x ∷ s) e =
+    let high = range-high 48 57 x (and-left (digit x) (every digit s) e) in
+    (omega arith, digits-bytes s (digits-rest x s e))
+
+ltb-on : (c a b : ℕ) → ltb (c + a) (c + b) ≡ ltb a b
+ltb-on c a b = by-test (ltb a b) refl
+  where
+    by-test : (t : Bool) → ltb a b ≡ t → ltb (c + a) (c + b) ≡ t
+    by-test true e = lt-ltb (c + a) (c + b) (omega (arith, ltb-true a b e))
+    by-test false e = le-ltb (c + a) (c + b) (omega (arith, ltb-false a b e))
+
+pub weigh-alike : (s t : List ℕ) → length s ≡ length t → every digit s ≡ true → every digit t ≡ true
+    → ltb (weight s) (weight t) ≡ ltb (valueFrom 0 s) (valueFrom 0 t)
+weigh-alike [] [] n p q = refl
+weigh-alike [] (y ∷ t) n p q = absurd (omega arith)
+weigh-alike (x ∷ s) [] n p q = absurd (omega arith)
+weigh-alike (x ∷ s) (y ∷ t) n p q =
+    by-tests (ltb x y) (ltb y x) refl refl (weigh-alike s t (omega arith) (digits-rest x s p) (digits-rest y t q))
+  where
+    long : length s ≡ length t
+    long = omega arith
+
+    one : 48 + digitValue x ≡ x
+    one = digit-first x s p
+
+    two : 48 + digitValue y ≡ y
+    two = digit-first y t q
+
+    by-tests : (u v : Bool) → ltb x y ≡ u → ltb y x ≡ v → ltb (weight s) (weight t) ≡ ltb (valueFrom 0 s) (valueFrom 0 t)
+        → ltb (weight (x ∷ s)) (weight (y ∷ t)) ≡ ltb (valueFrom 0 (x ∷ s)) (valueFrom 0 (y ∷ t))
+    by-tests true v h k rest =
+        let less = ltb-true x y h in
+        lt-ltb (weight (x ∷ s)) (weight (y ∷ t)) (lighter x y s t long (digits-bytes s (digits-rest x s p)) less)
+        ∙ sym (lt-ltb (valueFrom 0 (x ∷ s)) (valueFrom 0 (y ∷ t)) (first-less x y s t long (omega (arith, one, two))))
+    by-tests false true h k rest =
+        let more = ltb-true y x k in
+        let heavy = lighter y x t s (sym long) (digits-bytes t (digits-rest y t q)) more in
+        let above = first-less y x t s (sym long) (omega (arith, one, two)) in
+        le-ltb (weight (x ∷ s)) (weight (y ∷ t)) (omega (arith, heavy))
+        ∙ sym (le-ltb (valueFrom 0 (x ∷ s)) (valueFrom 0 (y ∷ t)) (omega (arith, above)))
+    by-tests false false h k rest =
+        let same : x ≡ y = omega (arith, ltb-false x y h, ltb-false y x k) in
+        let left : ltb (weight (x ∷ s)) (weight (y ∷ t)) ≡ ltb (weight s) (weight t) =
+        ap₂ (λ a n. ltb (a * 256 ^ n + weight s) (weight (y ∷ t))) same long ∙ ltb-on (y * 256 ^ length t) (weight s) (weight t) in
+        let right : ltb (valueFrom 0 (x ∷ s)) (valueFrom 0 (y ∷ t)) ≡ ltb (valueFrom 0 s) (valueFrom 0 t) =
+        ap₂ ltb
+        (first-digit x s ∙ ap₂ (λ a n. digitValue a * 10 ^ n + valueFrom 0 s) same long)
+        (first-digit y t)
+        ∙ ltb-on (digitValue y * 10 ^ length t) (valueFrom 0 s) (valueFrom 0 t) in
+        left ∙ (rest ∙ sym right)

@@ -18,7 +18,7 @@ use Rattle.field.proofs.Parts.{part-join}
 use Rattle.field_word.specs.Word.{word, weight, Bytes, Word}
 
 -- a byte and those behind it
-taken : (s : List ℕ) (i j n : ℕ) → j ≡ i + 1 → i < length s → take (suc n) (drop i s) ≡ getD s i 0 ∷ take n (drop j s)
+pub taken : (s : List ℕ) (i j n : ℕ) → j ≡ i + 1 → i < length s → take (suc n) (drop i s) ≡ getD s i 0 ∷ take n (drop j s)
 taken s i j n e h = rw (e, add-one, drop-cons s i 0 h)
 
 pub four-bytes : (s : List ℕ) (i : ℕ) → i + 4 ≤ length s

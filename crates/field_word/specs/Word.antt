@@ -1,8 +1,8 @@
 -- Bytes as one number.
 -- Assumes nothing.
-use Prim.Native.Nat.{ℕ, _+_, _*_, _^_, _<_}
+use Prim.Native.Nat.{ℕ, zero, suc, _+_, _*_, _/_, _%_, _^_, _<_}
 use mathlib.Core.Path.{_≡_}
-use mathlib.Core.List.{List, [], _∷_}
+use mathlib.Core.List.{List, [], _∷_, _++_}
 use lib.ListN.{length}
 
 -- the first byte is the least
@@ -14,6 +14,11 @@ word (x ∷ xs) = x + 256 * word xs
 abbrev pub weight : List ℕ → ℕ
 weight [] = 0
 weight (x ∷ xs) = x * 256 ^ length xs + weight xs
+
+-- the last n digits of a number, as bytes
+abbrev pub digitsOf : ℕ → ℕ → List ℕ
+digitsOf zero v = []
+digitsOf (suc n) v = digitsOf n (v / 10) ++ ((48 + v % 10) ∷ [])
 
 abbrev pub Bytes : List ℕ → Type 0
 Bytes [] = Unit {0}

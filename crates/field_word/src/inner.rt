@@ -7,7 +7,7 @@ ghost use lib.ListN.{length, getD};
 ghost use Rattle.field.specs.Test.{every, only};
 ghost use Rattle.field.specs.Digits.{digit, valueFrom};
 ghost use Rattle.field.specs.Text.{part};
-ghost use Rattle.field_word.specs.Word.{weight, Word, Weight};
+ghost use Rattle.field_word.specs.Word.{weight, digitsOf, Word, Weight};
 
 // Spaces.
 const FOUR_BLANK: usize = 538_976_288;
@@ -122,4 +122,27 @@ pub fn value_at(s: &[u8], i: usize) -> usize
     let third = second / 65_536;
     let fourth = third / 65_536;
     first % 256 * 1_000_000 + second % 256 * 10_000 + (third % 256 * 100 + fourth % 256)
+}
+
+// Two digits as the bytes that they are, the first the weightiest.
+fn two_digits(v: usize) -> usize
+    requires { ⌜ v < 100 ⌝ }
+    ensures { λ r. ⌜ (r ≡ weight (digitsOf 2 v)) × (r < 65_536) ⌝ }
+{
+    (48 + v / 10) * 256 + 48 + v % 10
+}
+
+fn four_digits(v: usize) -> usize
+    requires { ⌜ v < 10_000 ⌝ }
+    ensures { λ r. ⌜ (r ≡ weight (digitsOf 4 v)) × (r < 4_294_967_296) ⌝ }
+{
+    two_digits(v / 100) * 65_536 + two_digits(v % 100)
+}
+
+// Eight digits as the bytes that they are.
+pub fn weight_of(v: usize) -> usize
+    requires { ⌜ v < 100_000_000 ⌝ }
+    ensures { λ r. ⌜ r ≡ weight (digitsOf 8 v) ⌝ }
+{
+    four_digits(v / 10_000) * 4_294_967_296 + four_digits(v % 10_000)
 }

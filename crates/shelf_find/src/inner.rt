@@ -1,4 +1,5 @@
 // Searches on a shelf: the caller knows that the shelf's fields lie within its records.
+use crate::search::upper_bound;
 use shelf::Shelf;
 use shelf_read::inner::last_of;
 use shelf_read::inner::record_of;
@@ -10,7 +11,7 @@ ghost use Prim.Native.Nat.{_≤_};
 ghost use lib.ListN.{length, getD};
 ghost use Rattle.source.specs.Address.{present, keyKinds, askedBy, ref};
 ghost use Rattle.source.specs.Delivery.{rowsFor};
-ghost use Rattle.shelf.specs.Shelf.{Fit, lastOf, refAt, inForce};
+ghost use Rattle.shelf.specs.Shelf.{Fit, lastOf, inForce};
 ghost use Rattle.shelf.specs.Search.{upperOf, lastFound, found, Filled};
 
 // The kinds of the rows that the seven keys of a delivery point refer to.
@@ -18,24 +19,6 @@ const KINDS: [u8; 7] = [1, 2, 3, 2, 3, 4, 5];
 
 // What a kind outweighs: all keys of eight digits.
 const KIND_UNIT: usize = 100_000_000;
-
-// Behind the last record whose number is not above r.
-fn upper_bound(file: &[u8], s: Shelf, r: usize) -> usize
-    requires { ⌜ Fit s ⌝ }
-    ensures { λ q. ⌜ q ≡ upperOf (refAt s (now (file .entry))) (lastOf s (now (file .entry))) r ⌝ }
-{
-    let mut low = 1;
-    let mut high = last_of(file, s);
-    while low < high {
-        let middle = low + (high - low) / 2;
-        if r < ref_at(file, s, middle) {
-            high = middle;
-        } else {
-            low = middle + 1;
-        }
-    }
-    low
-}
 
 // The last record that stands for r; 0 where there is none.
 fn last_row(file: &[u8], s: Shelf, r: usize) -> usize
