@@ -7,8 +7,8 @@
  * memory, or opens a file. What a call writes (`out`, `*bytes`) may overlap nothing else that it is lent.
  *
  * Stack: a call on files takes less than 2,048 bytes, labels and listings from files less than 4,096, opening a pack,
- * labels or listings from a pack less than 80 KiB, building a pack or listing codes less than 192 KiB. A thread that is to
- * do either needs its stack sized for that.
+ * labels or listings from a pack less than 80 KiB, building a pack or listing codes less than 192 KiB. A thread that makes
+ * such a call needs its stack sized for that.
  *
  * Each call answers one number. Take it apart with the macros below and never compare whole words: later calls fill bits
  * that are 0 today.

@@ -1,5 +1,6 @@
 //! Every exported call, of the library and of a plain version: on files that of
-//! `plain_files`, on packs that of `plain_pack`.
+//! `plain_files`, on packs that of `plain_pack`; codes and listings those of the
+//! second program.
 
 use crate::input::Input;
 
