@@ -9,8 +9,9 @@ use paper::{
 };
 use std::time::{Duration, Instant};
 
-/// Far above what a call takes, far below what a quadratic one would.
-const LONGEST: Duration = Duration::from_millis(500);
+/// Far above what a call takes, under an emulator too; far below what a
+/// quadratic one would.
+const LONGEST: Duration = Duration::from_secs(2);
 
 /// The same for files of a Mainfile set.
 const LONGEST_MAIN: Duration = Duration::from_secs(5);
