@@ -62,7 +62,8 @@ install-arm:
 
 # On Arm it is the handset's library that is timed: that one runs there without an emulator.
 bench: $(if $(filter aarch64,$(shell uname -m)),library-arm,library)
-	@cd host && cargo --offline --quiet run --release --target-dir target/bench --package ttw-bench
+	@cd host && cargo --offline --quiet build --release --target-dir target/bench --package ttw --package ttw-bench
+	@host/target/bench/release/bench
 
 fuzz: library
 	@cd host && $(CARGO) run --release --package ttw-fuzz -- --seconds $(SECONDS) --seed $(SEED)

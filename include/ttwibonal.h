@@ -30,7 +30,7 @@ extern "C" {
 #endif
 
 /* The version of this header and of the library that it came with. */
-#define TTW_VERSION "0.1.0"
+#define TTW_VERSION "0.2.0"
 /* The longest label in bytes: its lines, each ended by byte 10. */
 #define TTW_LABEL_MAX 499
 

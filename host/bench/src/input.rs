@@ -34,6 +34,23 @@ impl Input {
             pack,
         }
     }
+
+    pub fn table(&self) -> &[u8] {
+        &self.pair.table
+    }
+
+    pub fn points(&self) -> &[u8] {
+        &self.pair.points
+    }
+
+    /// Where the last round begins, of the views and of the points.
+    pub fn first_view(&self) -> u64 {
+        self.last_view - ROUND + 1
+    }
+
+    pub fn first_point(&self) -> u64 {
+        self.last_point - ROUND + 1
+    }
 }
 
 /// A pack of that many localities and points, all of whose offsets point at the
@@ -57,16 +74,17 @@ pub fn far_pack(count: usize) -> Vec<u8> {
     draft.bytes()
 }
 
-/// A pair of 20,000 records whose views have 2,000 codes by turns: A9 to A99,
-/// B9 and so on.
-pub fn pair_of_many_codes() -> Pair {
-    let letters = b"ABCDEFGHIJKLMNOPRSTUWY";
-    let codes: Vec<String> = (0..2_000)
-        .map(|n| format!("{}{}", char::from(letters[n / 91]), 9 + n % 91))
-        .collect();
+/// A pair of 20,000 records whose views have so many codes by turns, at most
+/// 47,520: AA10 to AA99, AB10 and so on.
+pub fn pair_of_codes(count: usize) -> Pair {
+    let (first, second) = (b"ABCDEFGHIJKLMNOPRSTUWY", b"ABCDEFGHJKLMNOPQRSTUVWXY");
+    let code = |n: usize| {
+        let letters = [first[n / 90 / second.len()], second[n / 90 % second.len()]];
+        format!("{}{}", String::from_utf8_lossy(&letters), 10 + n % 90)
+    };
     let Pair { rows, views, .. } = exact_pair(&mut Rng::new(8), 20_000, 20_000);
     let coded = |(n, view): (usize, View)| View {
-        outward: codes[n % codes.len()].clone(),
+        outward: code(n % count),
         ..view
     };
     Pair::new(rows, views.into_iter().enumerate().map(coded).collect())

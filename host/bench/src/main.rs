@@ -1,18 +1,26 @@
 //! Times each exported call beside the same call of a plain version, on the same
-//! input and in the same run, and prints one table. Then runs over all labels,
-//! and the pack's size beside a database of the same rows.
+//! input and in the same run, and prints one table. Then runs and listings over
+//! whole files and packs, the command over a whole file, and the pack's size beside
+//! a database of the same rows.
 
 mod asked;
+mod chunks;
+mod command;
 mod input;
+mod plain;
 mod plain_files;
+mod plain_label;
 mod plain_pack;
+mod same;
 mod sqlite;
 
 use asked::{Call, Question};
-use input::{far_pack, pair_of_many_codes, pair_of_one_key, Input, LABEL};
+use input::{far_pack, pair_of_codes, pair_of_one_key, Input};
 use paper::make::Pair;
+use same::same;
 use std::hint::black_box;
 use std::time::Instant;
+use ttw::calls;
 
 /// Records of each file.
 const SIZES: [usize; 3] = [1_000, 5_000, 20_000];
@@ -21,9 +29,14 @@ const SIZES: [usize; 3] = [1_000, 5_000, 20_000];
 const RUNS: usize = 41;
 
 /// The bars at 20,000 records: how many times the plain version a call may
-/// take, how many times its own time at 5,000.
+/// take, how many times its own time at 5,000, and how many times the file's check
+/// its codes may take.
 const MOST_RATIO: f64 = 1.0;
 const MOST_GROWTH: f64 = 5.0;
+const MOST_CODES: f64 = 10.0;
+
+/// Bytes that hold any item of a listing.
+const ITEM: usize = 520;
 
 /// Microseconds of the library, of the plain version and of one bare pass.
 #[derive(Clone, Copy)]
@@ -41,12 +54,6 @@ fn bare_pass(bytes: &[u8]) -> u64 {
     u64::from(sum)
 }
 
-/// The median in microseconds.
-fn median(mut times: Vec<f64>) -> f64 {
-    times.sort_by(f64::total_cmp);
-    times[times.len() / 2] * 1e6
-}
-
 /// How many seconds something takes.
 fn timed(work: impl FnOnce() -> u64) -> f64 {
     let start = Instant::now();
@@ -54,24 +61,43 @@ fn timed(work: impl FnOnce() -> u64) -> f64 {
     start.elapsed().as_secs_f64()
 }
 
-/// Times both sides by turns, so that whatever else the machine does falls on
-/// both of them.
-fn times(call: &Call, input: &Input) -> Times {
-    let mut room = vec![0; input.pack.len()];
-    let mut ask = |question: Question| question(black_box(input), &mut room);
-    assert_eq!(ask(call.library), ask(call.plain), "{}", call.name);
-    let (mut library, mut plain, mut bare) = (Vec::new(), Vec::new(), Vec::new());
+/// Times these by turns: the least of each in microseconds, since whatever else the
+/// machine does only adds to it.
+fn by_turns<const N: usize>(mut all: [&mut dyn FnMut() -> u64; N]) -> [f64; N] {
+    let mut least = [f64::INFINITY; N];
     for _ in 0..RUNS {
-        library.push(timed(|| ask(call.library)));
-        plain.push(timed(|| ask(call.plain)));
-        if let Some(pass) = call.pass {
-            bare.push(timed(|| bare_pass(black_box((pass.file)(input)))));
+        for (least, work) in least.iter_mut().zip(&mut all) {
+            *least = least.min(timed(work));
         }
     }
+    least.map(|seconds| seconds * 1e6)
+}
+
+/// Times both sides of a call, and a bare pass where it is one.
+fn times(call: &Call, input: &Input) -> Times {
+    let mut room = vec![0; input.pack.len()];
+    let ask = |question: Question, room: &mut [u8], bytes: &mut u64| {
+        question(black_box(input), room, bytes)
+    };
+    same(
+        call.name,
+        room.len(),
+        |room, bytes| ask(call.library, room, bytes),
+        |room, bytes| ask(call.plain, room, bytes),
+    );
+    let mut other = room.clone();
+    let [library, plain, bare] = by_turns([
+        &mut || ask(call.library, &mut room, &mut 0),
+        &mut || ask(call.plain, &mut other, &mut 0),
+        &mut || {
+            let file = call.pass.map_or(&[][..], |pass| (pass.file)(input));
+            bare_pass(black_box(file))
+        },
+    ]);
     Times {
-        library: median(library),
-        plain: median(plain),
-        bare: call.pass.map(|_| median(bare)),
+        library,
+        plain,
+        bare: call.pass.map(|_| bare),
     }
 }
 
@@ -101,45 +127,76 @@ fn print_call(call: &Call, inputs: &[Input]) {
     );
 }
 
-/// One run over all labels of a pair: the time of both, and what a label costs
-/// beyond the check of the files.
-fn print_all_labels(what: &str, pair: &Pair) {
-    let (table, points) = (&pair.table, &pair.points);
-    let count = pair.views.len() as u64;
-    let mut room = vec![0; pair.views.len() * LABEL];
+/// One run or listing over so many labels: the time of both sides, and what a label
+/// costs beyond a run of none, which is the check.
+fn print_whole(
+    what: &str,
+    count: u64,
+    library: impl Fn(u64, &mut [u8], &mut u64) -> u64,
+    plain: impl Fn(u64, &mut [u8], &mut u64) -> u64,
+) {
+    let mut room = vec![0; count as usize * ITEM];
+    same(
+        what,
+        room.len(),
+        |room, bytes| library(count, room, bytes),
+        |room, bytes| plain(count, room, bytes),
+    );
     let mut other = room.clone();
-    let (mut library, mut plain, mut check) = (Vec::new(), Vec::new(), Vec::new());
-    for _ in 0..RUNS {
-        let mut run = |count| ttw::calls::labels(table, points, 1, count, &mut room, &mut 0);
-        library.push(timed(|| run(count)));
-        check.push(timed(|| run(0)));
-        plain.push(timed(|| {
-            let run = plain_files::labels(table, points, 1, count, &mut other);
-            paper::packed_run(run, &mut 0)
-        }));
-    }
-    assert!(room == other, "{what}: the labels differ");
-    let (library, plain, check) = (median(library), median(plain), median(check));
+    let [ours, theirs, check, other_check] = by_turns([
+        &mut || library(count, &mut room, &mut 0),
+        &mut || plain(count, &mut other, &mut 0),
+        &mut || library(0, &mut [], &mut 0),
+        &mut || plain(0, &mut [], &mut 0),
+    ]);
+    let each = |whole: f64, check: f64| (whole - check) * 1e3 / count as f64;
     println!(
-        "{what}, {count} labels: {library:.0} beside {plain:.0}, ratio {}, {:.0} ns a label beyond the check",
-        barred(library / plain, MOST_RATIO),
-        (library - check) * 1e3 / count as f64
+        "{what}, {count}: {ours:.0} beside {theirs:.0}, ratio {}; beyond the check {:.0} ns each beside {:.0}",
+        barred(ours / theirs, MOST_RATIO),
+        each(ours, check),
+        each(theirs, other_check)
     );
 }
 
-/// Times what stands outside the table, on both sides by turns.
-fn print_beside(what: &str, mut library: impl FnMut() -> u64, mut plain: impl FnMut() -> u64) {
-    assert_eq!(library(), plain(), "{what}");
-    let (mut ours, mut theirs) = (Vec::new(), Vec::new());
-    for _ in 0..RUNS {
-        ours.push(timed(&mut library));
-        theirs.push(timed(&mut plain));
+/// A run or a listing over the views of a pair, from number 1 on.
+type PairRun = fn(&[u8], &[u8], u64, u64, &mut [u8], &mut u64) -> u64;
+
+/// All labels of a pair, as one run and as one listing.
+fn print_whole_pair(what: &str, pair: &Pair) {
+    let runs: [(&str, PairRun, PairRun); 2] = [
+        ("ttw_labels", calls::labels, plain::labels),
+        ("ttw_list", calls::list, plain::list),
+    ];
+    for (name, library, plain) in runs {
+        let ask = |run: PairRun| {
+            move |count, room: &mut [u8], bytes: &mut u64| {
+                run(&pair.table, &pair.points, 1, count, room, bytes)
+            }
+        };
+        let what = format!("{name}, {what}");
+        print_whole(&what, pair.views.len() as u64, ask(library), ask(plain));
     }
-    let (ours, theirs) = (median(ours), median(theirs));
-    println!(
-        "\n{what}: {ours:.1} beside {theirs:.1}, ratio {}",
-        barred(ours / theirs, MOST_RATIO)
-    );
+}
+
+/// The same over the points of a pack.
+type PackRun = fn(&[u8], u64, u64, &mut [u8], &mut u64) -> u64;
+
+fn print_whole_pack(
+    Input {
+        pack, last_point, ..
+    }: &Input,
+) {
+    let runs: [(&str, PackRun, PackRun); 2] = [
+        ("ttw_pack_labels", calls::pack_labels, plain::pack_labels),
+        ("ttw_pack_list", calls::pack_list, plain::pack_list),
+    ];
+    for (name, library, plain) in runs {
+        let ask = |run: PackRun| {
+            move |count, room: &mut [u8], bytes: &mut u64| run(pack, 1, count, room, bytes)
+        };
+        let what = format!("{name}, its pack");
+        print_whole(&what, *last_point, ask(library), ask(plain));
+    }
 }
 
 /// Opening where every offset points at the last rows, and where the rows take
@@ -155,30 +212,42 @@ fn print_hard_packs() {
             far_pack(70_000),
         ),
     ] {
-        print_beside(
-            &format!("ttw_pack, {what}"),
-            || ttw::calls::pack(black_box(&pack)),
-            || plain_pack::open(black_box(&pack)),
-        );
+        let mut library = || calls::pack(black_box(&pack));
+        let mut plain = || plain::pack(black_box(&pack));
+        assert_eq!(library(), plain(), "{what}");
+        let [ours, theirs] = by_turns([&mut library, &mut plain]);
+        let ratio = barred(ours / theirs, MOST_RATIO);
+        println!("ttw_pack, {what}: {ours:.0} beside {theirs:.0}, ratio {ratio}");
     }
 }
 
-/// A run over every point of the largest pack.
-fn print_whole_pack(input: &Input) {
-    let (pack, points) = (&input.pack, input.last_point);
-    let (mut ours, mut theirs) = (vec![0; pack.len()], vec![0; pack.len()]);
-    print_beside(
-        &format!("ttw_pack_labels, all {points} points"),
-        || ttw::calls::pack_labels(black_box(pack), 1, points, &mut ours, &mut 0),
-        || plain_pack::labels(black_box(pack), 1, points, &mut theirs, &mut 0),
+/// The codes where every view has another one.
+fn print_many_codes() {
+    let Pair { points, views, .. } = pair_of_codes(20_000);
+    let mut room = vec![0; 8 * views.len()];
+    same(
+        "ttw_codes",
+        room.len(),
+        |room, _| calls::codes(&points, room),
+        |room, _| plain::codes(&points, room),
     );
-    assert_eq!(ours, theirs, "the labels of all points");
+    let mut other = room.clone();
+    let [ours, theirs, check] = by_turns([
+        &mut || calls::codes(black_box(&points), &mut room),
+        &mut || plain::codes(black_box(&points), &mut other),
+        &mut || calls::points(black_box(&points)),
+    ]);
+    println!(
+        "ttw_codes, every view another code: {ours:.0} beside {theirs:.0}, ratio {}; {} times the check, bar {MOST_CODES:.0}",
+        barred(ours / theirs, MOST_RATIO),
+        barred(ours / check, MOST_CODES)
+    );
 }
 
 /// What `ttw pack --all` asks of the library: which codes are live, and the
 /// pack of each.
 fn print_every_code() {
-    let pair = pair_of_many_codes();
+    let pair = pair_of_codes(2_000);
     let (mut codes, mut bytes) = (0, 0);
     let seconds = timed(|| {
         let live = ttw::ask::codes(&pair.points).expect("codes");
@@ -190,8 +259,7 @@ fn print_every_code() {
         bytes as u64
     });
     println!(
-        "\nevery code of 20,000 records of each file, on one core: {} codes, {bytes} bytes, {seconds:.1} s",
-        codes
+        "\nevery code of 20,000 records of each file, on one core: {codes} codes, {bytes} bytes, {seconds:.1} s"
     );
 }
 
@@ -221,12 +289,15 @@ fn main() {
     println!(
         "\nAt the largest size. ratio: library / plain, bar {MOST_RATIO:.1}. growth: from 5,000 to 20,000 \
          records, bar {MOST_GROWTH:.1}.\npasses: library / one sum of the file's bytes, bar 3.0 for a table file \
-         and 4.0 for a point file. A figure over its bar is marked !.\n\nmicroseconds of one run over all labels of a file:"
+         and 4.0 for a point file. A figure over its bar is marked !.\n\nmicroseconds, at 20,000 records of each file:"
     );
-    print_all_labels("20,000 records", &inputs[inputs.len() - 1].pair);
-    print_all_labels("one key that comes 19,997 times", &pair_of_one_key());
+    let largest = &inputs[inputs.len() - 1];
+    print_whole_pair("all views", &largest.pair);
+    print_whole_pair("one key that comes 19,997 times", &pair_of_one_key());
+    print_whole_pack(largest);
     print_hard_packs();
-    print_whole_pack(&inputs[inputs.len() - 1]);
+    print_many_codes();
+    command::print_labels(&largest.pair);
     print_every_code();
     print_sizes(&inputs);
 }

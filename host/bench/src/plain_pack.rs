@@ -3,7 +3,10 @@
 //! there, texts are tested eight bytes at a time, and labels are written where
 //! they are to stand.
 
-use paper::fields::{numeric_like, outward_fault, trimmed};
+use crate::chunks::chunks;
+use crate::plain_label::{from, item, label, only, run, trimmed, Sheet};
+use paper::fields::outward_fault;
+use paper::{Elements, Refusal, Run};
 
 /// Bytes of a trailer and of a point.
 const TRAILER: usize = 21;
@@ -15,9 +18,6 @@ const KINDS: [u8; 8] = [1, 2, 3, 2, 3, 4, 5, 6];
 
 const HIGHEST_KEY: u32 = 99_999_999;
 const HIGHEST_NUMBER: u16 = 9_999;
-
-/// No label of an accepted pack is longer.
-const LONGEST: usize = 499;
 
 /// The letters of an inward code.
 const INWARD: [bool; 256] = letters(b"ABDEFGHJLNPQRSTUWXYZ");
@@ -32,101 +32,58 @@ const fn letters(which: &[u8]) -> [bool; 256] {
     table
 }
 
-/// Why nothing is answered, as the calls number it.
-enum Refusal {
-    Step(u64),
-    NoSuchPoint,
-    Room(usize),
-}
-
-impl Refusal {
-    /// The refusal as one number, with so many labels before it.
-    fn packed(self, labels: u64) -> u64 {
-        let (number, detail) = match self {
-            Refusal::Step(step) => (11, step),
-            Refusal::NoSuchPoint => (7, 0),
-            Refusal::Room(needed) => (10, needed as u64),
-        };
-        number << 56 | (labels & 0xF_FFFF) << 32 | detail
-    }
-}
-
-/// How many points a pack has.
-pub fn open(pack: &[u8]) -> u64 {
-    match Pack::accept(pack) {
-        Ok(pack) => pack.points.len() as u64,
-        Err(why) => why.packed(0),
-    }
-}
-
-/// The label of the k-th point of a pack, printed into `out`.
-pub fn label(pack: &[u8], k: u64, out: &mut [u8]) -> u64 {
-    match Pack::accept(pack).and_then(|pack| pack.label(k, out)) {
-        Ok(bytes) => bytes as u64,
-        Err(why) => why.packed(0),
-    }
-}
-
-/// The labels of so many points from `first` on, printed into `out` one behind
-/// the other; `bytes` becomes the bytes that they take.
-pub fn labels(pack: &[u8], first: u64, count: u64, out: &mut [u8], bytes: &mut u64) -> u64 {
-    let pack = match Pack::accept(pack) {
-        Ok(pack) => pack,
-        Err(why) => return why.packed(0),
-    };
-    let mut at = 0;
-    let mut done = 0;
-    let mut answer = count;
-    while done < count {
-        match pack.label(first.wrapping_add(done), &mut out[at..]) {
-            Ok(written) => at += written,
-            Err(why) => {
-                answer = why.packed(done);
-                break;
-            }
-        }
-        done += 1;
-    }
-    *bytes = at as u64;
-    answer
-}
-
 /// The four bytes at a place, the most significant first.
 fn number(bytes: &[u8], at: usize) -> u32 {
     u32::from_be_bytes(bytes[at..at + 4].try_into().expect("4 bytes"))
 }
 
-/// A pack that was accepted: its rows, its points and its bytes.
-struct Pack<'a> {
+/// A pack, accepted: its points and its bytes. What is asked of a pack is asked of
+/// this.
+pub struct Pack<'a> {
     bytes: &'a [u8],
     points: &'a [[u8; POINT]],
 }
 
 impl<'a> Pack<'a> {
-    fn accept(bytes: &'a [u8]) -> Result<Pack<'a>, Refusal> {
-        let (start, points) = split(bytes).ok_or(Refusal::Step(1))?;
+    pub fn accept(bytes: &'a [u8]) -> Result<Pack<'a>, Refusal> {
+        let refused = |step| Refusal::new(11, step);
+        let (start, points) = split(bytes).ok_or(refused(1))?;
         let trailer = &bytes[bytes.len() - TRAILER..];
-        let kinds = row_kinds(bytes, start, number(trailer, 0)).ok_or(Refusal::Step(2))?;
+        let kinds = row_kinds(bytes, start, number(trailer, 0)).ok_or(refused(2))?;
         let outward = number(trailer, 12);
         let sound = |point| is_sound(bytes, &kinds, outward, point);
         if !points.iter().all(sound) {
-            return Err(Refusal::Step(3));
+            return Err(refused(3));
         }
         Ok(Pack { bytes, points })
     }
 
-    /// Writes the label of the k-th point where all of it fits.
-    fn label(&self, k: u64, out: &mut [u8]) -> Result<usize, Refusal> {
-        let place = usize::try_from(k.wrapping_sub(1)).unwrap_or(usize::MAX);
-        let point = self.points.get(place).ok_or(Refusal::NoSuchPoint)?;
-        if out.len() >= LONGEST {
-            return Ok(print(self.bytes, point, out));
-        }
-        let mut label = [0; LONGEST];
-        let length = print(self.bytes, point, &mut label);
-        let room = out.get_mut(..length).ok_or(Refusal::Room(length))?;
-        room.copy_from_slice(&label[..length]);
-        Ok(length)
+    /// How many points it has.
+    pub fn points(&self) -> usize {
+        self.points.len()
+    }
+
+    pub fn label(&self, k: u64, out: &mut [u8]) -> Result<usize, Refusal> {
+        only(self.labels(k, 1, out))
+    }
+
+    pub fn labels(&self, first: u64, count: u64, out: &mut [u8]) -> Run {
+        let points = from(first, self.points.iter());
+        run(points, count, out, |point, out| {
+            label(&elements(self.bytes, point), out)
+        })
+    }
+
+    pub fn list(&self, first: u64, count: u64, out: &mut [u8]) -> Run {
+        let points = (first..).zip(from(first, self.points.iter()));
+        run(points, count, out, |(k, point), out| {
+            let heading = |sheet: &mut Sheet| {
+                sheet.put(b"point ");
+                sheet.number(k);
+                sheet.byte(b'\n');
+            };
+            item(heading, Ok(elements(self.bytes, point)), out)
+        })
     }
 }
 
@@ -140,7 +97,7 @@ fn split(bytes: &[u8]) -> Option<(usize, &[[u8; POINT]])> {
         && number(trailer, 16) as usize == bytes.len()
         && outward_fault(&trailer[12..16]) == 0
         && start + POINT * count == body;
-    sound.then(|| (start, bytes[start..body].as_chunks().0))
+    sound.then(|| (start, chunks(&bytes[start..body]).0))
 }
 
 /// The top bit of each byte that may stand in no text: below 32, a small
@@ -311,173 +268,52 @@ fn text<'a>(bytes: &'a [u8], point: &[u8; POINT], offset: usize, n: usize) -> &'
     &bytes[at + 1..at + 1 + usize::from(bytes[at])]
 }
 
-/// A buffer that is long enough, and how far it is written.
-struct Page<'a> {
-    out: &'a mut [u8],
-    at: usize,
-}
-
-impl Page<'_> {
-    fn put(&mut self, text: &[u8]) {
-        self.out[self.at..self.at + text.len()].copy_from_slice(text);
-        self.at += text.len();
+/// What the label of a point is printed from.
+fn elements<'a>(bytes: &'a [u8], point: &'a [u8; POINT]) -> Elements<'a> {
+    let text = |offset, n| text(bytes, point, offset, n);
+    Elements {
+        organisation: text(7, 0),
+        department: text(7, 1),
+        po_box: trimmed(&point[19..25]),
+        sub_building: text(6, 0),
+        building_name: text(5, 0),
+        building_number: building_number(point).into(),
+        concatenated: point[18] == b'Y',
+        dependent_thoroughfare: text(3, 0),
+        dependent_descriptor: text(4, 0),
+        thoroughfare: text(1, 0),
+        descriptor: text(2, 0),
+        double_dependent_locality: text(0, 2),
+        dependent_locality: text(0, 1),
+        post_town: text(0, 0),
+        outward: trimmed(&point[..4]),
+        inward: &point[4..7],
     }
-
-    fn byte(&mut self, byte: u8) {
-        self.out[self.at] = byte;
-        self.at += 1;
-    }
-
-    /// A line of one text, where there is one.
-    fn line(&mut self, text: &[u8]) {
-        if !text.is_empty() {
-            self.put(text);
-            self.byte(b'\n');
-        }
-    }
-
-    /// A line of one text and another beside it, where there is the first.
-    fn pair(&mut self, text: &[u8], beside: &[u8]) {
-        if !text.is_empty() {
-            self.put(text);
-            if !beside.is_empty() {
-                self.byte(b' ');
-                self.put(beside);
-            }
-            self.byte(b'\n');
-        }
-    }
-
-    /// A number without leading zeros; nothing for 0.
-    fn number(&mut self, number: u16) {
-        for (least, unit) in [(1_000, 1_000), (100, 100), (10, 10), (1, 1)] {
-            if number >= least {
-                self.byte(b'0' + (number / unit % 10) as u8);
-            }
-        }
-    }
-}
-
-/// What goes before the first of the lines from dependent thoroughfare to post
-/// town: the number, a text at once after it, another after a space.
-struct Front<'a> {
-    number: u16,
-    text: &'a [u8],
-    beside: &'a [u8],
-}
-
-impl Front<'_> {
-    /// Writes it with a space, where the line that it goes before is there; it
-    /// is gone then.
-    fn put(&mut self, page: &mut Page, line: &[u8]) {
-        if line.is_empty() {
-            return;
-        }
-        let begin = page.at;
-        page.number(self.number);
-        page.put(self.text);
-        if !self.beside.is_empty() {
-            page.byte(b' ');
-            page.put(self.beside);
-        }
-        if page.at != begin {
-            page.byte(b' ');
-        }
-        *self = NO_FRONT;
-    }
-}
-
-const NO_FRONT: Front = Front {
-    number: 0,
-    text: &[],
-    beside: &[],
-};
-
-/// Writes the premises lines, and answers what goes before the next.
-fn premises<'a>(bytes: &'a [u8], point: &[u8; POINT], page: &mut Page) -> Front<'a> {
-    let sub = text(bytes, point, 6, 0);
-    let name = text(bytes, point, 5, 0);
-    let number = building_number(point);
-    let front = |number, text, beside| Front {
-        number,
-        text,
-        beside,
-    };
-    if sub.is_empty() && name.is_empty() {
-        return front(number, &[], &[]);
-    }
-    let in_front = number == 0 && numeric_like(name);
-    if name.is_empty() {
-        if point[18] == b'Y' {
-            return front(number, sub, &[]);
-        }
-        page.line(sub);
-    } else if numeric_like(sub) {
-        if in_front {
-            return front(0, sub, name);
-        }
-        page.pair(sub, name);
-    } else {
-        page.line(sub);
-        if in_front {
-            return front(0, name, &[]);
-        }
-        page.line(name);
-    }
-    front(number, &[], &[])
-}
-
-/// Writes the label of a point into a buffer that is long enough.
-fn print(bytes: &[u8], point: &[u8; POINT], out: &mut [u8]) -> usize {
-    let mut page = Page { out, at: 0 };
-    page.line(text(bytes, point, 7, 0));
-    page.line(text(bytes, point, 7, 1));
-    let po_box = trimmed(&point[19..25]);
-    if !po_box.is_empty() {
-        page.put(b"PO BOX ");
-        page.line(po_box);
-    }
-    let mut front = premises(bytes, point, &mut page);
-    let places = [
-        (text(bytes, point, 3, 0), text(bytes, point, 4, 0)),
-        (text(bytes, point, 1, 0), text(bytes, point, 2, 0)),
-        (text(bytes, point, 0, 2), &[] as &[u8]),
-        (text(bytes, point, 0, 1), &[]),
-        (text(bytes, point, 0, 0), &[]),
-    ];
-    for (name, beside) in places {
-        front.put(&mut page, name);
-        page.pair(name, beside);
-    }
-    page.pair(trimmed(&point[..4]), &point[4..7]);
-    page.at
 }
 
 #[cfg(test)]
 mod tests {
-    use super::{label, labels, open};
+    use crate::plain;
+    use crate::same::same_call;
     use paper::make::{damaged_packs, full_draft, pack_draft, scratch, Rng};
     use ttw::calls;
 
-    /// Asks both sides all about a pack, with buffers from none to enough: they
-    /// give the same answers and leave the same bytes.
+    /// Asks both sides all about a pack, with buffers from none to enough.
     fn compare(pack: &[u8], what: &str) {
-        let points = open(pack);
+        let points = plain::pack(pack);
         assert_eq!(calls::pack(pack), points, "{what}");
         let last = if points >> 56 == 0 { points + 1 } else { 1 };
-        for room in [0, 30, 60, 90, 498, 499, 700] {
-            let (mut ours, mut plain) = (vec![7; room], vec![7; room]);
+        for room in [0, 30, 60, 90, 498, 499, 519, 520, 700] {
             for k in 0..=last {
-                let answer = label(pack, k, &mut plain);
-                assert_eq!(calls::pack_label(pack, k, &mut ours), answer, "{what}");
-                assert_eq!(ours, plain, "{what}: label {k} into {room} bytes");
+                same_call!(what, room, |out, _| pack_label(pack, k, out));
             }
             for (first, count) in [(0, 0), (0, 1), (1, last), (2, 1), (last, 2)] {
-                let (mut bytes, mut plain_bytes) = (5, 5);
-                let answer = labels(pack, first, count, &mut plain, &mut plain_bytes);
-                let library = calls::pack_labels(pack, first, count, &mut ours, &mut bytes);
-                assert_eq!((library, bytes), (answer, plain_bytes), "{what}");
-                assert_eq!(ours, plain, "{what}: run of {count} into {room} bytes");
+                same_call!(what, room, |out, bytes| pack_labels(
+                    pack, first, count, out, bytes
+                ));
+                same_call!(what, room, |out, bytes| pack_list(
+                    pack, first, count, out, bytes
+                ));
             }
         }
     }

@@ -21,16 +21,6 @@ fn refusal(number: u8, file: u8, detail: u64) -> Refusal {
     }
 }
 
-/// Which refusals (1 to 6) can stand at which place.
-fn places_of(number: u8) -> &'static [Place] {
-    match number {
-        1 | 2 => &[Place::First],
-        3 => &[Place::Last],
-        5 => &[Place::Middle, Place::LastButOne],
-        _ => &[Place::Second, Place::Middle, Place::LastButOne],
-    }
-}
-
 #[test]
 fn damaged_table_files_give_their_refusal_at_its_place() {
     for number in 1..=6 {
@@ -47,7 +37,7 @@ fn damaged_table_files_give_their_refusal_at_its_place() {
                     reached += 1;
                 }
             }
-            let possible = number < 6 && places_of(number).contains(&place);
+            let possible = number < 6 && Place::of(number).contains(&place);
             assert_eq!(reached > 0, possible, "{number} {place:?}");
         }
     }
@@ -69,7 +59,7 @@ fn damaged_point_files_give_their_refusal_at_its_place() {
                     reached += 1;
                 }
             }
-            let possible = number < 7 && places_of(number).contains(&place);
+            let possible = number < 7 && Place::of(number).contains(&place);
             assert_eq!(reached > 0, possible, "{number} {place:?}");
         }
     }

@@ -2,6 +2,7 @@
 
 pub mod agree;
 pub mod annotated;
+pub mod around;
 pub mod c;
 pub mod leaves;
 pub mod packs;

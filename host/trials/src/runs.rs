@@ -104,7 +104,7 @@ pub fn code_list(table: &[u8], points: &[u8], code: &[u8], asked: Asked) -> u64 
         })
     };
     let plain = |out: &mut [u8]| paper::code_list(table, points, code, first, count, out);
-    same_twice(asked, library, plain)
+    same_twice(asked, library, plain).answer
 }
 
 /// A listing of the points of a pack: its answer.
@@ -168,11 +168,9 @@ fn same_thrice(
     one: impl Fn(u64, &mut [u8]) -> u64,
     plain: impl FnOnce(&mut [u8]) -> Result<Run, Refusal>,
 ) -> u64 {
-    let ours = left(asked.room, library);
+    let ours = same_twice(asked, library, plain);
     let turned = left(asked.room, |out, bytes| in_turn(asked, one, out, bytes));
-    let plain = left(asked.room, |out, bytes| packed_run(plain(out), bytes));
     same(asked, &ours, "in turn", &turned);
-    same(asked, &ours, "the second program", &plain);
     ours.answer
 }
 
@@ -181,11 +179,11 @@ fn same_twice(
     asked: Asked,
     library: impl FnOnce(&mut [u8], &mut u64) -> u64,
     plain: impl FnOnce(&mut [u8]) -> Result<Run, Refusal>,
-) -> u64 {
+) -> Left {
     let ours = left(asked.room, library);
     let plain = left(asked.room, |out, bytes| packed_run(plain(out), bytes));
     same(asked, &ours, "the second program", &plain);
-    ours.answer
+    ours
 }
 
 #[track_caller]

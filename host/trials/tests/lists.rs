@@ -2,6 +2,7 @@
 
 use paper::make::{self, Pair, Rng};
 use paper::{packed, Refusal};
+use trials::around::Around;
 use trials::packs::{built, codes};
 use trials::rooms::refusal;
 use trials::runs::{code_list, list, pack_list, Asked};
@@ -11,72 +12,33 @@ use ttw::{ask, calls};
 /// Room for any item.
 const ITEM: usize = 512;
 
-/// Numbers that no file has, also where only some of their bits are read.
-const HUGE: [u64; 4] = [1 << 20, (1 << 32) + 1, u64::MAX - 1, u64::MAX];
-
-/// How often each refusal was answered, 0 for a value.
-type Reached = [usize; 13];
-
-/// Asks for every listing around so many numbers, with room for all, for none and for some.
-#[track_caller]
-fn ask_around(rng: &mut Rng, numbers: u64, reached: &mut Reached, ask: impl Fn(Asked) -> u64) {
-    let all: Vec<u64> = (0..=numbers + 2).chain(HUGE).collect();
-    let whole = ITEM * numbers as usize;
-    for first in &all {
-        for count in &all {
-            for room in [0, rng.below(whole.clamp(1, 1_000)), whole] {
-                reached[refusal(ask(Asked::new(*first, *count, room))) as usize] += 1;
-            }
-        }
-    }
-}
-
-#[track_caller]
-fn assert_reached(reached: &Reached, numbers: &[usize]) {
-    let all: Vec<usize> = (0..13).filter(|number| reached[*number] > 0).collect();
-    assert_eq!(all, numbers, "{reached:?}");
-}
-
 /// No label stops a listing: of accepted files it is 7 or 10.
 #[test]
 fn every_listing_of_random_pairs() {
     let mut rng = Rng::new(301);
-    let mut reached = Reached::default();
+    let mut around = Around::new(ITEM);
     for _ in 0..60 {
         let pair = make::pair(&mut rng, 20);
-        let numbers = pair.views.len() as u64;
-        ask_around(&mut rng, numbers, &mut reached, |asked| {
+        around.ask(&mut rng, pair.views.len() as u64, |asked| {
             list(&pair.table, &pair.points, asked)
         });
     }
-    assert_reached(&reached, &[0, 7, 10]);
+    around.reached(&[0, 7, 10]);
 }
 
 #[test]
 fn every_listing_of_every_code() {
-    let mut rng = Rng::new(303);
-    let mut reached = Reached::default();
-    for _ in 0..40 {
-        let pair = make::pair(&mut rng, 24);
-        let others = [
-            make::outward(&mut rng),
-            make::bad_outward(&mut rng),
-            Vec::new(),
-        ];
-        for code in codes(&pair).into_iter().chain(others) {
-            let live = ask::live(&pair.points, &code).unwrap_or(1);
-            ask_around(&mut rng, live, &mut reached, |asked| {
-                code_list(&pair.table, &pair.points, &code, asked)
-            });
-        }
-    }
-    assert_reached(&reached, &[0, 7, 10, 12]);
+    let mut around = Around::new(ITEM);
+    around.ask_in_codes(&mut Rng::new(303), 40, |pair, code, asked| {
+        code_list(&pair.table, &pair.points, code, asked)
+    });
+    around.reached(&[0, 7, 10, 12]);
 }
 
 #[test]
 fn every_listing_of_every_pack() {
     let mut rng = Rng::new(305);
-    let mut reached = Reached::default();
+    let mut around = Around::new(ITEM);
     for _ in 0..40 {
         let pair = make::pair(&mut rng, 24);
         for code in codes(&pair) {
@@ -84,14 +46,12 @@ fn every_listing_of_every_pack() {
                 continue;
             };
             let points = ask::pack(&pack).expect("a pack");
-            ask_around(&mut rng, points, &mut reached, |asked| {
-                pack_list(&pack, asked)
-            });
+            around.ask(&mut rng, points, |asked| pack_list(&pack, asked));
             pack.pop();
-            ask_around(&mut rng, 1, &mut reached, |asked| pack_list(&pack, asked));
+            around.ask(&mut rng, 1, |asked| pack_list(&pack, asked));
         }
     }
-    assert_reached(&reached, &[0, 7, 10, 11]);
+    around.reached(&[0, 7, 10, 11]);
 }
 
 /// Files that are refused are refused as a whole, whatever is asked.

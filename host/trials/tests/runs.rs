@@ -2,8 +2,8 @@
 
 use paper::make::{self, Pair, Rng};
 use paper::{packed, Refusal};
+use trials::around::{around, Around};
 use trials::packs::{built, codes, draft, mend, resident, row, POINT, TRAILER};
-use trials::rooms::refusal;
 use trials::runs::{code_labels, labels, pack_labels, Asked};
 use trials::samples;
 use ttw::{ask, calls};
@@ -11,83 +11,26 @@ use ttw::{ask, calls};
 /// Room for any label.
 const LABEL: usize = 499;
 
-/// Numbers that no file has, also where only some of their bits are read.
-const HUGE: [u64; 6] = [
-    1 << 20,
-    1 << 32,
-    (1 << 32) + 1,
-    1 << 63,
-    u64::MAX - 1,
-    u64::MAX,
-];
-
-/// Every first number and every count around so many, and huge ones.
-fn around(numbers: u64) -> Vec<(u64, u64)> {
-    let all: Vec<u64> = (0..=numbers + 2).chain(HUGE).collect();
-    let pairs = all
-        .iter()
-        .flat_map(|first| all.iter().map(move |count| (*first, *count)));
-    pairs.collect()
-}
-
-/// How often each refusal was answered, 0 for a value.
-type Reached = [usize; 13];
-
-/// Asks for every run around so many numbers, with room for all, for none and for some.
-#[track_caller]
-fn ask_around(rng: &mut Rng, numbers: u64, reached: &mut Reached, ask: impl Fn(Asked) -> u64) {
-    let all = LABEL * numbers as usize;
-    for (first, count) in around(numbers) {
-        for room in [0, rng.below(all.min(1_000)), all] {
-            reached[refusal(ask(Asked::new(first, count, room))) as usize] += 1;
-        }
-    }
-}
-
-#[track_caller]
-fn assert_reached(reached: &Reached, numbers: &[usize]) {
-    let missed = numbers.iter().find(|number| reached[**number] == 0);
-    assert_eq!(missed, None, "{reached:?}");
-}
-
 #[test]
 fn every_run_of_random_pairs() {
     let mut rng = Rng::new(201);
-    let mut reached = Reached::default();
+    let mut around = Around::new(LABEL);
     for _ in 0..120 {
-        let Pair {
-            table,
-            points,
-            views,
-            ..
-        } = make::pair(&mut rng, 20);
-        let numbers = views.len() as u64;
-        ask_around(&mut rng, numbers, &mut reached, |asked| {
-            labels(&table, &points, asked)
+        let pair = make::pair(&mut rng, 20);
+        around.ask(&mut rng, pair.views.len() as u64, |asked| {
+            labels(&pair.table, &pair.points, asked)
         });
     }
-    assert_reached(&reached, &[0, 7, 8, 9, 10]);
+    around.reached(&[0, 7, 8, 9, 10]);
 }
 
 #[test]
 fn every_run_of_every_code() {
-    let mut rng = Rng::new(203);
-    let mut reached = Reached::default();
-    for _ in 0..60 {
-        let pair = make::pair(&mut rng, 24);
-        let others = [
-            make::outward(&mut rng),
-            make::bad_outward(&mut rng),
-            Vec::new(),
-        ];
-        for code in codes(&pair).into_iter().chain(others) {
-            let live = ask::live(&pair.points, &code).unwrap_or(1);
-            ask_around(&mut rng, live, &mut reached, |asked| {
-                code_labels(&pair.table, &pair.points, &code, asked)
-            });
-        }
-    }
-    assert_reached(&reached, &[0, 7, 8, 9, 10, 12]);
+    let mut around = Around::new(LABEL);
+    around.ask_in_codes(&mut Rng::new(203), 60, |pair, code, asked| {
+        code_labels(&pair.table, &pair.points, code, asked)
+    });
+    around.reached(&[0, 7, 8, 9, 10, 12]);
 }
 
 /// The answer of a run that stopped.
@@ -222,15 +165,13 @@ fn a_malformed_code_refuses_the_whole_behind_the_files() {
 #[test]
 fn every_run_of_random_packs() {
     let mut rng = Rng::new(209);
-    let mut reached = Reached::default();
+    let mut around = Around::new(LABEL);
     for _ in 0..150 {
         let draft = make::pack_draft(&mut rng, 10);
         let (pack, numbers) = (draft.bytes(), draft.points.len() as u64);
-        ask_around(&mut rng, numbers, &mut reached, |asked| {
-            pack_labels(&pack, asked)
-        });
+        around.ask(&mut rng, numbers, |asked| pack_labels(&pack, asked));
     }
-    assert_reached(&reached, &[0, 7, 10]);
+    around.reached(&[0, 7, 10]);
 }
 
 #[test]

@@ -102,52 +102,6 @@ pub fn code_label(table: &[u8], points: &[u8], code: &[u8], k: u64) -> Result<Ve
     printed(|out| calls::code_label(table, points, code, k, out))
 }
 
-/// The labels of so many views from `first` on, one behind the other in `out`.
-pub fn labels(
-    table: &[u8],
-    points: &[u8],
-    first: u64,
-    count: u64,
-    out: &mut [u8],
-) -> Result<Run, Refusal> {
-    run(|bytes| calls::labels(table, points, first, count, out, bytes))
-}
-
-/// The same for the live views in a code.
-pub fn code_labels(
-    table: &[u8],
-    points: &[u8],
-    code: &[u8],
-    first: u64,
-    count: u64,
-    out: &mut [u8],
-) -> Result<Run, Refusal> {
-    run(|bytes| calls::code_labels(table, points, code, first, count, out, bytes))
-}
-
-/// So many views from `first` on, listed in `out`.
-pub fn list(
-    table: &[u8],
-    points: &[u8],
-    first: u64,
-    count: u64,
-    out: &mut [u8],
-) -> Result<Run, Refusal> {
-    run(|bytes| calls::list(table, points, first, count, out, bytes))
-}
-
-/// The same for the live views in a code.
-pub fn code_list(
-    table: &[u8],
-    points: &[u8],
-    code: &[u8],
-    first: u64,
-    count: u64,
-    out: &mut [u8],
-) -> Result<Run, Refusal> {
-    run(|bytes| calls::code_list(table, points, code, first, count, out, bytes))
-}
-
 /// The pack of a code. Its length is learnt from the refusal of a buffer that
 /// is too short, so that no bound has to be known here; `likely` spares that
 /// round where it is long enough.
@@ -177,14 +131,44 @@ pub fn pack_label(pack: &[u8], k: u64) -> Result<Vec<u8>, Refusal> {
     printed(|out| calls::pack_label(pack, k, out))
 }
 
-/// The labels of so many points from `first` on, one behind the other in `out`.
-pub fn pack_labels(pack: &[u8], first: u64, count: u64, out: &mut [u8]) -> Result<Run, Refusal> {
-    run(|bytes| calls::pack_labels(pack, first, count, out, bytes))
+/// Runs and listings: so many from `first` on, written into `out`.
+macro_rules! runs {
+    ($(
+        $(#[$doc:meta])*
+        $name:ident($($read:ident),*);
+    )*) => {
+        $(
+            $(#[$doc])*
+            pub fn $name(
+                $($read: &[u8],)*
+                first: u64,
+                count: u64,
+                out: &mut [u8],
+            ) -> Result<Run, Refusal> {
+                run(|bytes| calls::$name($($read,)* first, count, out, bytes))
+            }
+        )*
+    };
 }
 
-/// So many points from `first` on, listed in `out`.
-pub fn pack_list(pack: &[u8], first: u64, count: u64, out: &mut [u8]) -> Result<Run, Refusal> {
-    run(|bytes| calls::pack_list(pack, first, count, out, bytes))
+runs! {
+    /// The labels of so many views from `first` on, one behind the other in `out`.
+    labels(table, points);
+
+    /// The same for the live views in a code.
+    code_labels(table, points, code);
+
+    /// So many views from `first` on, listed in `out`.
+    list(table, points);
+
+    /// The same for the live views in a code.
+    code_list(table, points, code);
+
+    /// The labels of so many points from `first` on, one behind the other in `out`.
+    pack_labels(pack);
+
+    /// So many points from `first` on, listed in `out`.
+    pack_list(pack);
 }
 
 /// What a run's answer says, or a listing's: a label's own refusal stops it, any other refuses

@@ -194,11 +194,7 @@ fn packs_are_the_second_programs_and_show_their_labels() {
 #[test]
 fn a_pack_longer_than_the_first_room_is_whole() {
     let pair = exact_pair(&mut Rng::new(63), 4_000, 4_000);
-    let folder = Folder::with_pair(&pair);
-    let arguments = [
-        "pack", "changes1", "changes2", "--code", "AB1", "--out", ".",
-    ];
-    assert_eq!(folder.ttw(&arguments).status, Some(0));
+    let folder = Folder::with_pack(&pair);
     let pack = folder.read("AB1.pack");
     assert!(pack.len() > 1 << 16, "{}", pack.len());
     assert!(pack == plain_pack(&pair, b"AB1 "));

@@ -131,11 +131,7 @@ fn a_file_of_one_record_too_many() {
 
 #[test]
 fn the_wrong_files() {
-    let folder = worked();
-    let pack = [
-        "pack", "changes1", "changes2", "--code", "AB1", "--out", ".",
-    ];
-    assert_eq!(folder.ttw(&pack).status, Some(0));
+    let folder = Folder::with_pack(&worked_pair());
     let length = "the length is not that of 2 to 20,000 whole records (refusal 1)";
     let run = folder.ttw(&["check", "AB1.pack", "changes2"]);
     run.only_tells(1, &format!("table: {length}"));
@@ -260,11 +256,7 @@ fn numbers_and_codes_that_do_not_exist() {
 
 #[test]
 fn point_0_of_a_pack() {
-    let folder = worked();
-    let pack = [
-        "pack", "changes1", "changes2", "--code", "AB1", "--out", ".",
-    ];
-    assert_eq!(folder.ttw(&pack).status, Some(0));
+    let folder = Folder::with_pack(&worked_pair());
     for k in ["0", "2"] {
         let told = format!("point {k}: there is none of that number (refusal 7)");
         folder

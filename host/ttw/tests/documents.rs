@@ -279,6 +279,15 @@ fn the_header_has_the_version_and_the_longest_label() {
     }
 }
 
+/// The header, the pkg-config file, the man page and `ttw --version` are held to the
+/// same version where each of them is tested.
+#[test]
+fn the_changes_begin_with_the_version() {
+    let changes = text_of("CHANGELOG.md");
+    let newest = changes.lines().find_map(|line| line.strip_prefix("## "));
+    assert_eq!(newest, Some(env!("CARGO_PKG_VERSION")));
+}
+
 #[test]
 fn the_page_for_trainers_has_every_sample() {
     let labels = text_of("samples/labels.txt");

@@ -13,11 +13,7 @@ const LABEL: &str = "ATTIC FLAT\n110-114 QUARRY LANE\nHARTWELL BAY\nAB1 9ZZ\n";
 
 /// A folder with the packs that are tried.
 fn packs() -> Folder {
-    let folder = Folder::with_pair(&worked_pair());
-    let pack = [
-        "pack", "changes1", "changes2", "--code", "AB1", "--out", ".",
-    ];
-    assert_eq!(folder.ttw(&pack).status, Some(0));
+    let folder = Folder::with_pack(&worked_pair());
     for step in 1..=3 {
         let packs = damaged_packs();
         let damaged = packs.iter().find(|damaged| damaged.step == step);

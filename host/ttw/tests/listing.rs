@@ -5,7 +5,7 @@ mod support;
 
 use paper::make::{Pair, TableRow, View};
 use std::time::{Duration, Instant};
-use support::Folder;
+use support::{is_emulated, Folder};
 use ttw::ask::{Refusal, Run};
 use ttw::listing::{each_item, Item, PAGE};
 
@@ -116,11 +116,7 @@ fn plain_pack(pair: &Pair, length: usize) -> Vec<u8> {
 fn a_pack_of_15_999_points_is_shown_at_once() {
     let views = 15_999;
     let pair = long_pair(views);
-    let folder = Folder::with_pair(&pair);
-    let cut = [
-        "pack", "changes1", "changes2", "--code", "AB1", "--out", ".",
-    ];
-    assert_eq!(folder.ttw(&cut).status, Some(0));
+    let folder = Folder::with_pack(&pair);
     assert!(folder.read("AB1.pack") == plain_pack(&pair, 1 << 20));
     let mut labels = vec![0; 499 * views as usize];
     let run = paper::labels(&pair.table, &pair.points, 1, u64::from(views), &mut labels);
@@ -160,4 +156,50 @@ fn all_views_are_listed_at_once() {
     assert_eq!(all.told, "labels printed: 15999, refused: 0\n");
     // Asked for view by view this takes half a minute and more.
     assert!(taken < Duration::from_secs(10), "{taken:?}");
+}
+
+/// So many views with labels of more than 300 bytes, all of the same few rows.
+fn wordy_pair(views: u32) -> Pair {
+    let long = |width: usize| "WORDS ".repeat(10)[..width].trim_end().to_string();
+    let rows = vec![
+        TableRow::locality(1, &long(30), &long(35), &long(35)),
+        TableRow::thoroughfare(1, &long(60)),
+        TableRow::building(1, &long(50)),
+        TableRow::sub_building(1, &long(30)),
+    ];
+    let view = |n: u32| View {
+        address_key: n,
+        locality: 1,
+        thoroughfare: 1,
+        dependent_thoroughfare: 1,
+        building: 1,
+        sub_building: 1,
+        ..View::default()
+    };
+    Pair::new(rows, (1..=views).map(view).collect())
+}
+
+/// Beyond what a check takes a listing takes a page and little more, and not its own length. An emulator takes address
+/// space of its own.
+#[test]
+fn a_long_listing_takes_bounded_memory() {
+    if is_emulated() {
+        return;
+    }
+    let folder = Folder::with_pair(&wordy_pair(15_999));
+    let runs = |command: &str, kib: usize| {
+        let line = format!("ulimit -v {kib}; exec \"$TTW\" {command} changes1 changes2 >printed");
+        folder.shell(&line).status == Some(0)
+    };
+    let (mut least, mut enough) = (0, 1 << 20);
+    while enough - least > 16 {
+        let kib = (least + enough) / 2;
+        if runs("check", kib) {
+            enough = kib;
+        } else {
+            least = kib;
+        }
+    }
+    assert!(runs("labels", enough + 2 * PAGE / 1024), "{enough} KiB");
+    assert!(folder.read("printed").len() > 4 * PAGE);
 }

@@ -9,30 +9,12 @@ use std::fs;
 use std::os::unix::ffi::OsStrExt;
 use std::os::unix::fs::{symlink, MetadataExt, PermissionsExt};
 use support::faults::{Faults, Seen};
-use support::{is_emulated, Folder, Run};
+use support::{is_emulated, Folder, Run, PRINTING_LABELS};
 
 /// The worked pair beside the pack of its one code. View 2 is refused with 9.
 fn desk() -> Folder {
-    let folder = Folder::with_pair(&worked_pair());
-    let cut = [
-        "pack", "changes1", "changes2", "--code", "AB1", "--out", ".",
-    ];
-    assert_eq!(folder.ttw(&cut).status, Some(0));
-    folder
+    Folder::with_pack(&worked_pair())
 }
-
-/// Everything that prints labels to their end, each way once.
-const PRINTING: [&str; 9] = [
-    "labels changes1 changes2",
-    "labels changes1 changes2 --code AB1",
-    "labels changes1 changes2 --view 1",
-    "labels changes1 changes2 --view 1 --count 1",
-    "labels changes1 changes2 --code AB1 --nth 1",
-    "labels changes1 changes2 --code AB1 --nth 1 --count 1",
-    "show AB1.pack",
-    "show AB1.pack --nth 1",
-    "show AB1.pack --nth 1 --count 1",
-];
 
 const SHOW: [&str; 4] = ["show", "AB1.pack", "--out", "labels"];
 const NAMES: [&str; 4] = ["AB1.pack", "changes1", "changes2", "labels"];
@@ -40,7 +22,7 @@ const NAMES: [&str; 4] = ["AB1.pack", "changes1", "changes2", "labels"];
 #[test]
 fn a_file_holds_what_would_be_printed() {
     let folder = desk();
-    for arguments in PRINTING {
+    for arguments in PRINTING_LABELS {
         let printed = folder.shell(&format!("\"$TTW\" {arguments}"));
         assert!(!printed.out.is_empty(), "{arguments} prints");
         for output in ["", ">&-", ">/dev/full"] {

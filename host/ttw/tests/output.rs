@@ -6,21 +6,12 @@ mod support;
 use paper::make::{exact_pair, worked_pair, Rng};
 use std::process::Command;
 use support::faults::Faults;
-use support::{compiled_handset, run, Folder};
+use support::{compiled_handset, run, Folder, PRINTING_LABELS};
 
-/// Everything that prints, each way once.
-const PRINTING: [&str; 20] = [
+/// What prints no labels, each way once.
+const PRINTING_OTHERS: [&str; 11] = [
     "check changes1 changes2",
     "codes changes1 changes2",
-    "labels changes1 changes2",
-    "labels changes1 changes2 --code AB1",
-    "labels changes1 changes2 --view 1",
-    "labels changes1 changes2 --view 1 --count 1",
-    "labels changes1 changes2 --code AB1 --nth 1",
-    "labels changes1 changes2 --code AB1 --nth 1 --count 1",
-    "show AB1.pack",
-    "show AB1.pack --nth 1",
-    "show AB1.pack --nth 1 --count 1",
     "help",
     "help pack",
     "help files",
@@ -32,13 +23,13 @@ const PRINTING: [&str; 20] = [
     "show --version",
 ];
 
+/// Everything that prints.
+fn printing() -> impl Iterator<Item = &'static str> {
+    PRINTING_LABELS.into_iter().chain(PRINTING_OTHERS)
+}
+
 fn desk() -> Folder {
-    let folder = Folder::with_pair(&worked_pair());
-    let cut = [
-        "pack", "changes1", "changes2", "--code", "AB1", "--out", ".",
-    ];
-    assert_eq!(folder.ttw(&cut).status, Some(0));
-    folder
+    Folder::with_pack(&worked_pair())
 }
 
 #[test]
@@ -49,7 +40,7 @@ fn everything_that_prints_tells_that_it_cannot() {
         ("1</dev/null", "Bad file descriptor (os error 9)"),
         (">/dev/full", "No space left on device (os error 28)"),
     ];
-    for arguments in PRINTING {
+    for arguments in printing() {
         let printed = folder.shell(&format!("\"$TTW\" {arguments}"));
         assert!(!printed.out.is_empty(), "{arguments} prints");
         for (output, why) in failures {
@@ -78,7 +69,7 @@ fn a_system_that_tells_of_a_lost_byte_only_at_the_end_is_heard() {
     let faults = Faults::new(&folder);
     // Error 122: the disk's quota is exceeded.
     let settings = [("FAULTS_FAIL", "close 1 1 122"), ("FAULTS_FILE", "pipe:")];
-    for arguments in PRINTING {
+    for arguments in printing() {
         let words: Vec<&str> = arguments.split(' ').collect();
         let lost = faults.ttw(&settings, &words).run;
         assert_eq!(lost.status, Some(2), "{arguments}");

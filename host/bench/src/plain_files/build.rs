@@ -1,10 +1,9 @@
 //! A pack cut from files.
 
-use super::check::{
-    check_code, live_in, needed, number, point_records, table_records, views_in, Point, Row, MOST,
-};
-use super::rows::{in_force, number_in, rows_by, trimmed};
-use super::sheet::Sheet;
+use super::check::{check_code, live_in, needed, number, views_in, Point, Row, MOST};
+use super::rows::{in_force, number_in, rows_by};
+use super::Files;
+use crate::plain_label::{trimmed, Sheet};
 use paper::Refusal;
 
 /// The offset that means absent, and what marks a row as used.
@@ -36,10 +35,6 @@ fn row_len(record: &[u8], texts: &[(usize, usize)]) -> usize {
 }
 
 impl Sheet<'_> {
-    fn four(&mut self, number: u32) {
-        self.put(&number.to_be_bytes());
-    }
-
     fn row(&mut self, kind: u8, record: &[u8], texts: &[(usize, usize)]) {
         self.byte(kind);
         for (start, end) in texts {
@@ -180,18 +175,20 @@ fn write(
     Ok(())
 }
 
-pub fn build(table: &[u8], points: &[u8], code: &[u8], out: &mut [u8]) -> Result<usize, Refusal> {
-    let rows = table_records(table)?;
-    let points = point_records(points)?;
-    check_code(code)?;
-    let mut index = Index::new(rows);
-    let mut area = mark(&mut index, rows, points, code)?;
-    place(&mut index, rows, &mut area);
-    let length = area.bytes + POINT * area.points + TRAILER;
-    if out.len() < length {
-        return Err(Refusal::new(10, length as u64));
+impl Files<'_> {
+    /// The pack of a code.
+    pub fn build(&self, code: &[u8], out: &mut [u8]) -> Result<usize, Refusal> {
+        check_code(code)?;
+        let Files { rows, points } = self;
+        let mut index = Index::new(rows);
+        let mut area = mark(&mut index, rows, points, code)?;
+        place(&mut index, rows, &mut area);
+        let length = area.bytes + POINT * area.points + TRAILER;
+        if out.len() < length {
+            return Err(Refusal::new(10, length as u64));
+        }
+        let mut sheet = Sheet { out, at: 0 };
+        write(&index, rows, points, code, &area, &mut sheet)?;
+        Ok(length)
     }
-    let mut sheet = Sheet { out, at: 0 };
-    write(&index, rows, points, code, &area, &mut sheet)?;
-    Ok(length)
 }

@@ -1,5 +1,7 @@
 //! Whether a file is accepted, in one pass over its records.
 
+use crate::chunks::chunks;
+use crate::plain_label::from;
 use paper::fields::outward_fault;
 use paper::Refusal;
 
@@ -73,7 +75,7 @@ fn framed<'a, const WIDTH: usize>(
     front: usize,
     name: &[u8],
 ) -> Option<&'a [[u8; WIDTH]]> {
-    let (records, rest) = file.as_chunks::<WIDTH>();
+    let (records, rest) = chunks(file);
     let [first, .., last] = records else {
         return None;
     };
@@ -227,11 +229,17 @@ pub fn views_in(records: &[Point]) -> impl Iterator<Item = usize> + '_ {
 
 /// The places of the live views of a code.
 pub fn live_in<'a>(records: &'a [Point], code: &'a [u8]) -> impl Iterator<Item = usize> + 'a {
-    views_in(records).filter(|place| is_live(&records[*place], code))
+    views_in(records).filter(|place| is_live_of(&records[*place], code))
 }
 
-fn is_live(view: &Point, code: &[u8]) -> bool {
-    (view[14..18] == *code) & ((view[40] == b'I') | (view[40] == b'C'))
+/// Whether a view is live.
+pub fn is_live(view: &Point) -> bool {
+    (view[40] == b'I') | (view[40] == b'C')
+}
+
+/// Whether a view is live and of that code.
+pub fn is_live_of(view: &Point, code: &[u8]) -> bool {
+    (view[14..18] == *code) & is_live(view)
 }
 
 /// A malformed code is refused with 12.
@@ -248,7 +256,7 @@ pub fn views(points: &[u8]) -> Result<usize, Refusal> {
 
 pub fn letter(points: &[u8], view: u64) -> Result<u8, Refusal> {
     let records = point_records(points)?;
-    let mut views = from(views_in(records), view);
+    let mut views = from(view, views_in(records));
     Ok(records[views.next().ok_or(Refusal::new(7, 0))?][40])
 }
 
@@ -256,9 +264,4 @@ pub fn live(points: &[u8], code: &[u8]) -> Result<usize, Refusal> {
     let records = point_records(points)?;
     check_code(code)?;
     Ok(live_in(records, code).count())
-}
-
-/// All of them from that number on, 1 being the first; none from 0.
-pub fn from(places: impl Iterator<Item = usize>, first: u64) -> impl Iterator<Item = usize> {
-    places.skip(first.wrapping_sub(1).min(MOST as u64) as usize)
 }

@@ -9,12 +9,28 @@
 
 mod build;
 mod check;
+mod codes;
 mod label;
 mod rows;
-mod sheet;
 #[cfg(test)]
 mod tests;
 
-pub use build::build;
 pub use check::{check_points, check_table, letter, live, views};
-pub use label::{code_label, code_labels, label, labels};
+pub use codes::codes;
+
+use check::{point_records, table_records, Point, Row};
+use paper::Refusal;
+
+/// Both files, accepted: what is asked of the pair is asked of this.
+pub struct Files<'a> {
+    rows: &'a [Row],
+    points: &'a [Point],
+}
+
+impl<'a> Files<'a> {
+    pub fn accept(table: &'a [u8], points: &'a [u8]) -> Result<Files<'a>, Refusal> {
+        let rows = table_records(table)?;
+        let points = point_records(points)?;
+        Ok(Files { rows, points })
+    }
+}

@@ -82,19 +82,3 @@ pub fn rows_of<'a>(records: &'a [Row], view: &Point) -> Result<Found<'a>, Refusa
         (name_of(last) == name && in_force(last)).then_some(last)
     })
 }
-
-/// A text without its padding, eight bytes at a time.
-pub fn trimmed(field: &[u8]) -> &[u8] {
-    let mut end = field.len();
-    while let Some(last) = field[..end].last_chunk::<8>() {
-        let other = u64::from_le_bytes(*last) ^ u64::from_le_bytes([b' '; 8]);
-        end -= other.leading_zeros() as usize / 8;
-        if other != 0 {
-            return &field[..end];
-        }
-    }
-    while end > 0 && field[end - 1] == b' ' {
-        end -= 1;
-    }
-    &field[..end]
-}

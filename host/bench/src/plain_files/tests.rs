@@ -1,74 +1,52 @@
 //! The plain version answers as the library does, on good files and damaged
 //! ones.
 
-use super::*;
+use crate::plain;
+use crate::same::same_call;
 use paper::make::{damaged_points, damaged_table, pair, scratch, Pair, Place, Rng};
-use paper::{packed, packed_run, Refusal, Run};
 use ttw::calls;
 
 /// How many random pairs, and how many files of each kind of damage.
 const PAIRS: u64 = 60;
 const DAMAGED: u64 = 20;
 
-fn answer(answer: Result<usize, Refusal>) -> u64 {
-    packed(answer.map(|value| value as u64))
-}
-
 fn same_checks(table: &[u8], points: &[u8]) {
-    assert_eq!(calls::table(table), answer(check_table(table)));
-    assert_eq!(calls::points(points), answer(check_points(points)));
-    assert_eq!(calls::views(points), answer(views(points)));
-}
-
-/// A run of the library and one of the plain version, with what they wrote.
-fn same_run(
-    room: usize,
-    library: impl Fn(&mut [u8], &mut u64) -> u64,
-    plain: impl Fn(&mut [u8]) -> Result<Run, Refusal>,
-) {
-    let (mut ours, mut theirs) = (vec![7; room], vec![7; room]);
-    let (mut bytes, mut others) = (9, 9);
-    let answer = library(&mut ours, &mut bytes);
-    let other = packed_run(plain(&mut theirs), &mut others);
-    assert_eq!((answer, bytes, ours), (other, others, theirs));
+    assert_eq!(calls::table(table), plain::table(table));
+    assert_eq!(calls::points(points), plain::points(points));
+    assert_eq!(calls::views(points), plain::views(points));
+    for room in [0, 8, 15, 4_000] {
+        same_call!("all", room, |out, _| codes(points, out));
+    }
 }
 
 fn same_views(table: &[u8], points: &[u8], count: u64) {
     for view in 0..count + 2 {
-        let told = answer(letter(points, view).map(usize::from));
-        assert_eq!(calls::letter(points, view), told);
-        for room in [0, 40, 499, 9_000] {
-            let (mut ours, mut theirs) = (vec![7; room], vec![7; room]);
-            let told = answer(label(table, points, view, &mut theirs));
-            assert_eq!(calls::label(table, points, view, &mut ours), told);
-            assert_eq!(ours, theirs);
-            same_run(
-                room,
-                |out, bytes| calls::labels(table, points, view, 3, out, bytes),
-                |out| labels(table, points, view, 3, out),
-            );
+        assert_eq!(calls::letter(points, view), plain::letter(points, view));
+        for room in [0, 40, 499, 519, 9_000] {
+            same_call!(view, room, |out, _| label(table, points, view, out));
+            same_call!(view, room, |out, bytes| labels(
+                table, points, view, 3, out, bytes
+            ));
+            same_call!(view, room, |out, bytes| list(
+                table, points, view, 3, out, bytes
+            ));
         }
     }
 }
 
 fn same_in_code(table: &[u8], points: &[u8], code: &[u8]) {
-    assert_eq!(calls::live(points, code), answer(live(points, code)));
+    assert_eq!(calls::live(points, code), plain::live(points, code));
     for k in 0..4 {
-        let (mut ours, mut theirs) = ([7; 499], [7; 499]);
-        let told = answer(code_label(table, points, code, k, &mut theirs));
-        assert_eq!(calls::code_label(table, points, code, k, &mut ours), told);
-        assert_eq!(ours, theirs);
-        same_run(
-            2_000,
-            |out, bytes| calls::code_labels(table, points, code, k, 9, out, bytes),
-            |out| code_labels(table, points, code, k, 9, out),
-        );
+        same_call!(k, 499, |out, _| code_label(table, points, code, k, out));
+        same_call!(k, 2_000, |out, bytes| code_labels(
+            table, points, code, k, 9, out, bytes
+        ));
+        same_call!(k, 2_000, |out, bytes| code_list(
+            table, points, code, k, 9, out, bytes
+        ));
     }
     for room in [0, 21, 20_000] {
-        let (mut ours, mut theirs) = (vec![7; room], vec![7; room]);
-        let told = answer(build(table, points, code, &mut theirs));
-        assert_eq!(calls::build(table, points, code, &mut ours), told);
-        assert_eq!(ours, theirs);
+        same_call!("all", room, |out, _| build(table, points, code, out));
     }
 }
 

@@ -24,6 +24,16 @@ impl Place {
         Place::Last,
     ];
 
+    /// Where a refusal of a file, 1 to 6, can stand.
+    pub fn of(number: u8) -> &'static [Place] {
+        match number {
+            1 | 2 => &[Place::First],
+            3 => &[Place::Last],
+            5 => &[Place::Middle, Place::LastButOne],
+            _ => &[Place::Second, Place::Middle, Place::LastButOne],
+        }
+    }
+
     /// The number of the record, in a file of so many records.
     fn record(self, rng: &mut Rng, records: usize) -> usize {
         match self {

@@ -10,16 +10,6 @@ use paper::make::{
 /// Files for each refusal and place.
 const ROUNDS: u64 = 100;
 
-/// Which refusals (1 to 6) can stand at which place.
-fn places_of(number: u8) -> &'static [Place] {
-    match number {
-        1 | 2 => &[Place::First],
-        3 => &[Place::Last],
-        5 => &[Place::Middle, Place::LastButOne],
-        _ => &[Place::Second, Place::Middle, Place::LastButOne],
-    }
-}
-
 /// Makes files for every refusal and place, and fails where one isn't refused
 /// so, or where a refusal that can stand at a place was never reached there.
 fn reach_every_place(kind: &Kind, highest: u8, make: fn(&mut Rng, u8, Place) -> Option<Damaged>) {
@@ -35,7 +25,7 @@ fn reach_every_place(kind: &Kind, highest: u8, make: fn(&mut Rng, u8, Place) -> 
                 }
             }
             println!("refusal {number}, {place:?}: {reached}");
-            let possible = places_of(number).contains(&place);
+            let possible = Place::of(number).contains(&place);
             assert_eq!(reached > 0, possible, "{number} {place:?}");
         }
     }

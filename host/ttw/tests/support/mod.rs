@@ -25,6 +25,19 @@ pub const TTW: &str = env!("CARGO_BIN_EXE_ttw");
 /// How a run ends in which the one pack could not be written.
 pub const NOT_WRITTEN: &str = "packs written: 0, codes refused: 0, packs not written: 1";
 
+/// Everything that prints labels to their end, each way once, in a folder with a pair and its pack.
+pub const PRINTING_LABELS: [&str; 9] = [
+    "labels changes1 changes2",
+    "labels changes1 changes2 --code AB1",
+    "labels changes1 changes2 --view 1",
+    "labels changes1 changes2 --view 1 --count 1",
+    "labels changes1 changes2 --code AB1 --nth 1",
+    "labels changes1 changes2 --code AB1 --nth 1 --count 1",
+    "show AB1.pack",
+    "show AB1.pack --nth 1",
+    "show AB1.pack --nth 1 --count 1",
+];
+
 /// A folder of its own for one test, removed with all it holds.
 pub struct Folder(pub PathBuf);
 
@@ -49,6 +62,14 @@ impl Folder {
         let folder = Folder::new();
         folder.put("changes1", &pair.table);
         folder.put("changes2", &pair.points);
+        folder
+    }
+
+    /// The same with the pack of AB1, as `AB1.pack`.
+    pub fn with_pack(pair: &Pair) -> Folder {
+        let folder = Folder::with_pair(pair);
+        let cut = folder.shell("\"$TTW\" pack changes1 changes2 --code AB1 --out .");
+        cut.only_tells(0, "packs written: 1, codes refused: 0");
         folder
     }
 
