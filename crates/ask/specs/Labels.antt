@@ -1,4 +1,4 @@
--- Labels asked of a source: "table file, point file, 12 where a code is given, then 7, 8, 9, 10".
+-- Labels asked of a source. Of a pair of files: "table file, point file, 12 where a code is given, then 7, 8, 9, 10".
 -- Assumes nothing.
 use Prim.Native.Nat.{ℕ, zero, suc}
 use mathlib.Core.Bool.{cond}

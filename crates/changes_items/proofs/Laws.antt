@@ -1,12 +1,12 @@
 -- Laws of listings over a pair of files: the item at a place, and asking by place.
 -- Assumes nothing.
-use Prim.Native.Nat.{ℕ, _+_, _≤_, _<_}
+use Prim.Native.Nat.{ℕ, _+_, _≤_}
 use mathlib.Core.Path.{_≡_, refl, sym, ap, _∙_}
-use mathlib.Core.Bool.{Bool, true, false, cond}
+use mathlib.Core.Bool.{Bool, true, false}
 use mathlib.Core.List.{List, [], _++_}
 use mathlib.Core.Option.{Option}
 use native.Mathlib.Omega.{arith}
-use borrow.Author.Tests.{eq-eqb, ne-eqb, eqb-true, eqb-false, ltb-true, ltb-false}
+use borrow.Author.Tests.{eq-eqb, ne-eqb, eqb-true, eqb-false}
 use lib.Dec.{eqb, ltb}
 use lib.ListN.{length, take, drop}
 use Rattle.file_record.specs.Parts.{recordAt}
@@ -21,14 +21,13 @@ use Rattle.source.specs.Address.{Address}
 use Rattle.source.specs.Resolve.{Resolved, resolve}
 use Rattle.label.specs.Label.{roomOutcome}
 use Rattle.label.proofs.Room.{room-within}
-use Rattle.item.specs.Lines.{viewLine}
-use Rattle.item.specs.Item.{Heading, resolvedText, itemOutcome}
+use Rattle.item.specs.Item.{resolvedText, itemOutcome}
 use Rattle.item_write.specs.Headed.{before, headed, Small}
 use Rattle.item_write.proofs.Headed.{item-over, none-over, item-small, none-small, telling, bounded}
 use Rattle.run.specs.declared.Series.the-variants.{Unasked}
 use Rattle.run.specs.Series.{runFrom}
 use Rattle.run.proofs.Same.{same-run}
-use Rattle.changes_views.specs.Views.{lastOf, isView, wanted, wantedIn, wantedAt, nextWanted, viewNumber}
+use Rattle.changes_views.specs.Views.{lastOf, wanted, wantedIn, wantedAt, nextWanted, viewNumber}
 use Rattle.changes_views.proofs.Laws.{next-range}
 use Rattle.ask.specs.Source.{inCode}
 use Rattle.ask.specs.Labels.{kth}

@@ -1,17 +1,25 @@
--- A pair of files is a source that a pack can be cut from; and what demand 2 says of its labels.
+-- A pair of files is a source that a pack can be cut from; and what demand 2 says of its labels and of its lists.
 -- Assumes nothing.
-use Prim.Native.Nat.{ℕ}
-use mathlib.Core.List.{List}
+use Prim.Native.Nat.{ℕ, zero, suc, _+_}
+use mathlib.Core.List.{List, [], _∷_}
+use mathlib.Core.Option.{some}
 use mathlib.Core.Path.{_≡_, refl, sym, ap}
+use native.Mathlib.Omega.{arith}
 use borrow.Author.Tests.{eq-eqb}
 use lib.ListN.{length}
 use Rattle.field_outward.specs.Outward.{outwardFault}
 use Rattle.refusal.specs.declared.Answer.{Answer}
 use Rattle.refusal.specs.declared.Answer.the-variants.{Value, Refused}
+use Rattle.source.specs.Address.{Address}
 use Rattle.file.specs.Check.{records}
 use Rattle.file.specs.Formats.{tableFormat, pointFormat}
 use Rattle.file.specs.Accepted.{Accepted}
 use Rattle.file.proofs.Accepted.{accepts}
+use Rattle.item.specs.Lines.{viewLine}
+use Rattle.ask.specs.Labels.{kth}
+use Rattle.ask.proofs.Kth.{kth-within}
+use Rattle.changes_views.specs.Views.{wantedIn}
+use Rattle.changes_source.specs.Addresses.{addressOf, addressAt, numbered, addressesIn}
 use Rattle.changes_list.specs.Listing.{liveAt, liveAnswer}
 use Rattle.changes_pair.specs.Pair.{pairOf}
 use Rattle.changes_pair.proofs.Live.{live-length}
@@ -56,6 +64,25 @@ module _ (table points out : List ℕ) where
   pub pair-code : (code : List ℕ) (k : ℕ) → CodeExactly (BothAccepted table points) (pairOf table points) code k out
   pair-code code k =
       exactly-where (taken-both table points) (both-taken table points) (code-exactly (pairOf table points) out code k)
+
+-- the line before a view in a listing: "the line `view N L` (N the view's number in the file)"
+numbered-on : (points : List ℕ) (n : ℕ) (places : List ℕ) (k : ℕ) (a : Address) → kth (numbered points n places) k ≡ some a
+    → a .view + 1 ≡ n + k
+unfolding addressOf
+numbered-on points n [] k a e = absurd (omega (arith, kth-within [] k a e .0, kth-within [] k a e .1))
+numbered-on points n (place ∷ places) zero a e =
+    absurd (omega (arith, kth-within (numbered points n (place ∷ places)) 0 a e .0))
+numbered-on points n (place ∷ places) (suc zero) a e =
+    let same : addressAt points n place ≡ a = cc in
+    ap (λ (b : Address). b .view + 1) (sym same)
+numbered-on points n (place ∷ places) (suc (suc k)) a e = omega (arith, numbered-on points (suc n) places (suc k) a e)
+
+pub pair-headed : (table points : List ℕ) (k : ℕ) (a : Address) → kth (pairOf table points .views) k ≡ some a
+    → pairOf table points .heading a ≡ viewLine k (a .letter)
+unfolding addressesIn
+pair-headed table points k a e =
+    let number : a .view ≡ k = omega (arith, numbered-on points 1 (wantedIn [] points) k a e) in
+    ap (λ (n : ℕ). viewLine n (a .letter)) number
 
 -- a pack has as many points as `ttw_live` says
 pub live-counted : (table points code : List ℕ) {n : ℕ} → pairOf table points .judged ≡ Value n → outwardFault code ≡ 0

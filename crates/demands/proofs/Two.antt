@@ -1,46 +1,58 @@
 -- Demand 2: a file or a pack is answered with a value exactly where document 01's reading accepts it, a label exactly where
--- there is one and it fits; and no label is longer than document 01 says.
+-- there is one and it fits; what an item of a listing holds and what the list of codes says; and no label is longer than
+-- document 01 says.
 -- Assumes nothing.
-use Prim.Native.Nat.{ℕ, _≤_}
+use Prim.Native.Nat.{ℕ, _*_, _≤_, _<_}
 use mathlib.Core.Path.{_≡_, refl, sym, ap, subst, _∙_}
 use mathlib.Core.Bool.{Bool, true, false}
-use mathlib.Core.List.{List, [], _∷_}
-use mathlib.Core.Logic.{inl, inr}
+use mathlib.Core.List.{List, [], _∷_, _++_}
+use mathlib.Core.Logic.{_⊎_, inl, inr}
 use mathlib.Core.Option.{Option, none, some}
 use native.Mathlib.Omega.{arith}
 use borrow.Author.Tests.{eqb-true, eqb-false, leb-true, leb-false}
 use lib.Dec.{eqb, leb}
+use lib.ListN.{length}
 use Rattle.field_outward.specs.Outward.{outwardFault}
 use Rattle.refusal.specs.declared.Reason.{Reason}
+use Rattle.refusal.specs.declared.Reason.the-variants.{Combination, MissingKey}
 use Rattle.refusal.specs.declared.Answer.{Answer}
 use Rattle.refusal.specs.declared.Answer.the-variants.{Value, Refused}
 use Rattle.refusal.specs.Outcome.{Outcome, said}
 use Rattle.refusal.proofs.Answers.{refused-value}
 use Rattle.refusal.proofs.Outcomes.{answer-of, afterwards-value, afterwards-refused}
 use Rattle.source.specs.Address.{Lookup, Address, Elements}
-use Rattle.source.specs.Resolve.{Resolved, elementsOf, resolve}
+use Rattle.source.specs.Resolve.{Resolved, forbidden, missing, elementsOf, resolve}
 use Rattle.source.specs.Same.{AllOf}
 use Rattle.source.proofs.Cases.{Resolving, mixed, lacking, fine, resolving}
 use Rattle.file.specs.Check.{Format, records, checked}
-use Rattle.file.specs.Formats.{tableFormat}
+use Rattle.file.specs.Formats.{tableFormat, pointFormat}
 use Rattle.file.specs.Accepted.{Accepted}
 use Rattle.file.proofs.Accepted.{accepted, accepts}
-use Rattle.label.specs.Label.{resolvedOutcome}
+use Rattle.label.specs.Label.{roomOutcome, resolvedOutcome}
 use Rattle.label.specs.Widths.{Fits}
 use Rattle.label.proofs.Room.{Fitting, fits, short, fitting}
 use Rattle.label.proofs.Bounds.{at-most-11-lines, at-most-499, each-line}
+use Rattle.item.specs.Lines.{pointLine, byteText, refusedText, refusedLine}
+use Rattle.item.specs.Item.{resolvedText, itemOutcome}
+use Rattle.run.specs.declared.Series.the-variants.{Unasked}
 use Rattle.ask.specs.Source.{Source, inCode}
 use Rattle.ask.specs.Labels.{kth, labelOutcome, kthLabel, viewLabel, codeLabel}
+use Rattle.ask.specs.Lists.{resolvedOf, kthItem, viewItem, codeItem, viewsListed, codeListed, headingOr, headings, viewsList, codeList}
 use Rattle.ask.proofs.Laws.{by-good-code, by-bad-code, by-refused}
 use Rattle.pack.specs.Opening.{pointCount, trailerGood, allRowsGood, allPointsGood, opened}
-use Rattle.pack.specs.Points.{isPoint, pointLabel, packLabel}
+use Rattle.pack.specs.Points.{isPoint, pointLabel, packLabel, pointItem, packItem}
+use Rattle.pack_items.specs.Lists.{packListed, packList}
 use Rattle.pack_open.specs.Opened.{Opened}
 use Rattle.pack_open.proofs.Opened.{opened-all}
 use Rattle.pack_open.proofs.Fits.{point-fits}
 use Rattle.changes_source.specs.Rows.{tableLookup}
 use Rattle.changes_source.specs.Addresses.{addressesIn}
 use Rattle.changes_label.proofs.Fits.{views-fit}
-use Rattle.demands.specs.Two.{labelFor, Printing, no-number, forbidden-mix, key-missing, no-room, printed, ViewAsked, CodeAsked, labelAt, PointAsked, files-refused, code-refused, pack-refused, taken, Exactly, Taken, Prints, textFor, ViewExactly, CodeExactly, PointExactly, Bounded, AllBounded, PointsBounded}
+use Rattle.changes_codes.specs.Codes.{codesIn, entryBytes, codesOutcome}
+use Rattle.changes_codes.proofs.Pairs.{fits as entries-fit, falls-short}
+use Rattle.changes_codes.proofs.Told.{codes-told}
+use Rattle.changes_codes.proofs.Answered.{entries-long}
+use Rattle.demands.specs.Two.{labelFor, Printing, no-number, forbidden-mix, key-missing, no-room, printed, ViewAsked, CodeAsked, labelAt, PointAsked, refusedAs, Under, a-label, a-rule, a-field, ItemAsked, PointListed, listed, InTurn, CodesAsked, file-refused, files-refused, code-refused, pack-refused, taken, Exactly, Taken, Prints, textFor, ViewExactly, CodeExactly, PointExactly, Bounded, AllBounded, PointsBounded}
 
 -- ---- files and packs
 
@@ -116,6 +128,20 @@ module _ (s : Source) (out : List ℕ) where
 
 -- ---- labels of a pack
 
+-- whether a pack that opens has a point of that number
+data There (pack : List ℕ) (n k : ℕ) : Type 0 where
+  a-point : 1 ≤ k → k ≤ n → isPoint pack k ≡ true → There pack n k
+  no-point : (k < 1) ⊎ (n < k) → isPoint pack k ≡ false → There pack n k
+
+point-there : (pack : List ℕ) {n : ℕ} (k : ℕ) → opened pack ≡ Value n → There pack n k
+point-there pack {n} k e = by-tests (opened-all pack n e .counted) (leb 1 k) (leb k (pointCount pack)) refl refl
+  where
+    by-tests : n ≡ pointCount pack → (t u : Bool) → leb 1 k ≡ t → leb k (pointCount pack) ≡ u → There pack n k
+    by-tests c true true p q =
+        a-point (leb-true 1 k p) (omega (arith, leb-true k (pointCount pack) q)) (rw (p, q))
+    by-tests c true false p q = no-point (inr (omega (arith, leb-false k (pointCount pack) q))) (rw (p, q))
+    by-tests c false u p q = no-point (inl (leb-false 1 k p)) (rw p)
+
 module _ (pack : List ℕ) (k : ℕ) (out : List ℕ) where
   pub point-asked : PointAsked pack k out
   unfolding packLabel pointLabel
@@ -129,20 +155,139 @@ module _ (pack : List ℕ) (k : ℕ) (out : List ℕ) where
       by-room e low high t (fits h is) = printed e low high h (point e ∙ (rw t is))
       by-room e low high t (short h is) = no-room e low high h (point e ∙ (rw t is))
 
-      by-tests : {n : ℕ} → opened pack ≡ Value n → n ≡ pointCount pack → (t u : Bool) → leb 1 k ≡ t
-          → leb k (pointCount pack) ≡ u
-          → PointAsked pack k out
-      by-tests e c true true p q =
-          by-room e (leb-true 1 k p) (omega (arith, leb-true k (pointCount pack) q)) (rw (p, q))
-          (fitting (labelAt pack k) out)
-      by-tests e c true false p q =
-          no-number e (inr (omega (arith, leb-false k (pointCount pack) q))) (point e ∙ rw (p, q))
-      by-tests e c false u p q = no-number e (inl (leb-false 1 k p)) (point e ∙ rw p)
+      by-point : {n : ℕ} → opened pack ≡ Value n → There pack n k → PointAsked pack k out
+      by-point e (a-point low high t) = by-room e low high t (fitting (labelAt pack k) out)
+      by-point e (no-point h t) = no-number e h (point e ∙ rw t)
 
       by-opened : (o : Answer) → opened pack ≡ o → PointAsked pack k out
-      by-opened (Value n) e =
-          by-tests e (opened-all pack n e .counted) (leb 1 k) (leb k (pointCount pack)) refl refl
+      by-opened (Value n) e = by-point e (point-there pack k e)
       by-opened (Refused file why) e = pack-refused e (afterwards-refused Refused out _ e)
+
+-- ---- items of a listing
+
+-- the lines of 8 and 9
+rule-line : (rule : ℕ) → refusedLine (Combination rule 0) ≡ refusedAs 8 rule
+unfolding refusedText byteText
+rule-line rule = refl
+
+field-line : (field : ℕ) → refusedLine (MissingKey field 0) ≡ refusedAs 9 field
+unfolding refusedText byteText
+field-line field = refl
+
+module _ (heading : Address → List ℕ) (look : Lookup) (views : List Address) (k : ℕ) (out : List ℕ) where
+  abbrev asked : Outcome Answer
+  asked = kthItem (headings heading views) look views k out
+
+  item-asked : ItemAsked heading look views k out asked
+  unfolding kthItem
+  item-asked = by-found (kth views k) refl
+    where
+      by-room : (a : Address) (text : List ℕ) → kth views k ≡ some a → Under look a text
+          → asked ≡ roomOutcome (heading a ++ text) out
+          → Fitting (heading a ++ text) out
+          → ItemAsked heading look views k out asked
+      by-room a text e u is (fits h at) = listed a text e u h (is ∙ at)
+      by-room a text e u is (short h at) = no-room a text e u h (is ∙ at)
+
+      -- what the address that was found comes to
+      found : (a : Address) {r : Resolved} (text : List ℕ) → kth views k ≡ some a → resolve look a ≡ r
+          → resolvedText r ≡ text
+          → Under look a text
+          → ItemAsked heading look views k out asked
+      found a text e is says u =
+          by-room a text e u
+          (ap (λ (f : Option Address). itemOutcome (headingOr heading f) (resolvedOf look f) out) e
+          ∙ ap (λ (l : List ℕ). roomOutcome (heading a ++ l) out) (ap resolvedText is ∙ says))
+          (fitting (heading a ++ text) out)
+
+      by-address : (a : Address) → kth views k ≡ some a → Resolving look a → ItemAsked heading look views k out asked
+      by-address a e (mixed p is) = found a _ e is (rule-line (forbidden a)) (a-rule p refl)
+      by-address a e (lacking p q is) = found a _ e is (field-line (missing look a)) (a-field p q refl)
+      by-address a e (fine p q is) = found a _ e is refl (a-label (p, q) refl)
+
+      by-found : (f : Option Address) → kth views k ≡ f → ItemAsked heading look views k out asked
+      by-found none e =
+          no-number e (ap (λ (f : Option Address). itemOutcome (headingOr heading f) (resolvedOf look f) out) e)
+      by-found (some a) e = by-address a e (resolving look a)
+
+-- under the source's own headings, files and code being accepted
+module _ (s : Source) {n : ℕ} (taken : s .judged ≡ Value n) where
+  pub views-listed : InTurn (ItemAsked (s .heading) (s .look) (s .views)) (viewsList s)
+  unfolding viewsList viewsListed viewItem
+  views-listed =
+      record {
+        item = viewItem (headings (s .heading) (s .views)) s;
+        each = λ k out.
+            subst (ItemAsked (s .heading) (s .look) (s .views) k out) (sym (afterwards-value Refused out _ taken))
+            (item-asked (s .heading) (s .look) (s .views) k out);
+        in-turn = λ first count out. afterwards-value Unasked out _ taken;
+      }
+
+  pub code-listed : (code : List ℕ) → outwardFault code ≡ 0
+      → InTurn (ItemAsked (s .heading) (s .look) (inCode code (s .live))) (codeList s code)
+  unfolding codeList codeListed codeItem
+  code-listed code clean =
+      let views = inCode code (s .live) in
+      record {
+        item = codeItem (headings (s .heading) views) s code;
+        each = λ k out.
+            subst (ItemAsked (s .heading) (s .look) views k out) (sym (by-good-code Refused code out _ s taken clean))
+            (item-asked (s .heading) (s .look) views k out);
+        in-turn = λ first count out. by-good-code Unasked code out _ s taken clean;
+      }
+
+module _ (pack : List ℕ) {n : ℕ} (opens : opened pack ≡ Value n) where
+  point-listed : (k : ℕ) (out : List ℕ) → PointListed pack n k out (packItem pointLine pack k out)
+  unfolding packItem pointItem
+  point-listed k out = by-point (point-there pack k opens)
+    where
+      point : packItem pointLine pack k out ≡ pointItem pointLine pack k out
+      point = afterwards-value Refused out _ opens
+
+      by-room : 1 ≤ k → k ≤ n → isPoint pack k ≡ true → Fitting (pointLine k ++ labelAt pack k) out
+          → PointListed pack n k out (packItem pointLine pack k out)
+      by-room low high t (fits h is) = listed low high h (point ∙ (rw t is))
+      by-room low high t (short h is) = no-room low high h (point ∙ (rw t is))
+
+      by-point : There pack n k → PointListed pack n k out (packItem pointLine pack k out)
+      by-point (a-point low high t) = by-room low high t (fitting (pointLine k ++ labelAt pack k) out)
+      by-point (no-point h t) = no-number h (point ∙ rw t)
+
+  pub points-listed : InTurn (PointListed pack n) (packList pack)
+  unfolding packList packListed
+  points-listed =
+      record {
+        item = packItem pointLine pack;
+        each = point-listed;
+        in-turn = λ first count out. afterwards-value Unasked out _ opens;
+      }
+
+-- ---- the list of codes
+
+module _ (points out : List ℕ) where
+  pub codes-asked : CodesAsked points out
+  unfolding codesOutcome
+  codes-asked = by-checked (checked pointFormat points) refl
+    where
+      by-checked : (o : Answer) → checked pointFormat points ≡ o → CodesAsked points out
+      by-checked (Value n) e = by-room (accepted pointFormat points n e) (leb bytes (length out)) refl
+        where
+          bytes : ℕ
+          bytes = 8 * length (codesIn points)
+
+          long : length (entryBytes (codesIn points)) ≡ bytes
+          long = entries-long (codesIn points)
+
+          by-room : Accepted pointFormat points → (t : Bool) → leb bytes (length out) ≡ t → CodesAsked points out
+          by-room a true h =
+              let room = leb-true bytes (length out) h in
+              listed a (codes-told points a) room
+              (afterwards-value Refused out _ e ∙ (entries-fit _ _ out (omega (arith, long)) ∙ rw long))
+          by-room a false h =
+              let none = leb-false bytes (length out) h in
+              no-room a (codes-told points a) none
+              (afterwards-value Refused out _ e ∙ (falls-short _ _ out (omega (arith, long)) ∙ rw long))
+      by-checked (Refused file why) e = file-refused e (afterwards-refused Refused out _ e)
 
 -- ---- exactly where there is a label
 

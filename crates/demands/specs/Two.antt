@@ -1,11 +1,14 @@
--- Demand 2 for labels: what printing one comes to, case by case, over any source and of a pack; and how long a label is.
+-- Demand 2 for labels: what printing one comes to, case by case, over any source and of a pack; what an item of a listing
+-- holds; what the list of codes says; how long a label is, and how no line of it begins.
 -- Assumes nothing.
-use Prim.Native.Nat.{ℕ, _≤_, _<_}
+use Prim.Native.Nat.{ℕ, _*_, _≤_, _<_}
 use mathlib.Core.Path.{_≡_}
-use mathlib.Core.List.{List, [], _++_}
+use mathlib.Core.Bool.{Bool, false}
+use mathlib.Core.List.{List, [], _∷_, _++_}
 use mathlib.Core.Logic.{_⊎_}
 use mathlib.Core.Option.{Option, none, some}
 use lib.ListN.{length, drop}
+use Rattle.field.specs.Test.{within}
 use Rattle.field_outward.specs.Outward.{outwardFault}
 use Rattle.refusal.specs.declared.Reason.{Reason}
 use Rattle.refusal.specs.declared.Reason.the-variants.{NoSuchNumber, Combination, MissingKey, Room, BadCode}
@@ -15,15 +18,21 @@ use Rattle.refusal.specs.Outcome.{Outcome, said}
 use Rattle.source.specs.Address.{Lookup, Address, Elements}
 use Rattle.source.specs.Resolve.{forbidden, missing, elementsOf}
 use Rattle.source.specs.Same.{AllOf}
+use Rattle.file.specs.Check.{checked}
 use Rattle.file.specs.Formats.{tableFormat, pointFormat}
 use Rattle.file.specs.Accepted.{Accepted}
 use Rattle.label.specs.Lines.{linesOf}
 use Rattle.label.specs.Label.{labelOf}
 use Rattle.label.specs.Widths.{NoneAbove}
+use Rattle.item.specs.Lines.{refusedWord, spacedNumber, pointLine}
+use Rattle.run.specs.declared.Series.{Series}
+use Rattle.run.specs.Series.{Asking, runFrom}
 use Rattle.ask.specs.Source.{Source, inCode}
 use Rattle.ask.specs.Labels.{kth, viewLabel, codeLabel}
 use Rattle.pack.specs.Opening.{opened}
 use Rattle.pack.specs.Points.{elementsAt, pointPlace, packLabel}
+use Rattle.changes_codes.specs.Codes.{codesIn, entryBytes, codesOutcome}
+use Rattle.changes_codes.specs.Told.{Told}
 
 -- ---- what is written
 
@@ -103,6 +112,67 @@ pub data PointAsked (pack : List ℕ) (k : ℕ) (out : List ℕ) : Type 0 where
       → packLabel pack k out ≡ written (labelAt pack k) out
       → PointAsked pack k out
 
+-- ---- an item of a listing
+
+-- "the line `refused n d`"
+abbrev pub refusedAs : (n d : ℕ) → List ℕ
+refusedAs n d = refusedWord ++ (spacedNumber n ++ (spacedNumber d ++ (10 ∷ [])))
+
+-- what stands under the heading: "the label or the line `refused n d`", 8 with its rule or 9 with its field
+pub data Under (look : Lookup) (a : Address) (text : List ℕ) : Type 0 where
+  a-label : Printed look a → text ≡ labelFor look a → Under look a text
+  a-rule : (forbidden a ≡ 0 → ⊥) → text ≡ refusedAs 8 (forbidden a) → Under look a text
+  a-field : forbidden a ≡ 0 → (missing look a ≡ 0 → ⊥) → text ≡ refusedAs 9 (missing look a) → Under look a text
+
+-- the item of the k-th of some delivery points: "It stops with 7 where no such view is left and with 10 before the first
+-- that does not fit in what is left (its own bytes needed)"
+pub data ItemAsked (heading : Address → List ℕ) (look : Lookup) (views : List Address) (k : ℕ) (out : List ℕ) (o : Outcome Answer) : Type 0 where
+  no-number : kth views k ≡ none
+      → o ≡ said (Refused 0 NoSuchNumber) out
+      → ItemAsked heading look views k out o
+  no-room : (a : Address) (text : List ℕ) → kth views k ≡ some a → Under look a text
+      → length out < length (heading a ++ text)
+      → o ≡ tooShort (heading a ++ text) out
+      → ItemAsked heading look views k out o
+  listed : (a : Address) (text : List ℕ) → kth views k ≡ some a → Under look a text
+      → length (heading a ++ text) ≤ length out
+      → o ≡ written (heading a ++ text) out
+      → ItemAsked heading look views k out o
+
+-- of a pack that opens with n points, which has no refused label: "the line `point K` and the label"
+pub data PointListed (pack : List ℕ) (n k : ℕ) (out : List ℕ) (o : Outcome Answer) : Type 0 where
+  no-number : (k < 1) ⊎ (n < k)
+      → o ≡ said (Refused 0 NoSuchNumber) out
+      → PointListed pack n k out o
+  no-room : 1 ≤ k → k ≤ n → length out < length (pointLine k ++ labelAt pack k)
+      → o ≡ tooShort (pointLine k ++ labelAt pack k) out
+      → PointListed pack n k out o
+  listed : 1 ≤ k → k ≤ n → length (pointLine k ++ labelAt pack k) ≤ length out
+      → o ≡ written (pointLine k ++ labelAt pack k) out
+      → PointListed pack n k out o
+
+-- "answer, `*bytes` and memory as for runs": a listing asks for its items in turn, each in what is left of the buffer
+pub record InTurn (Asked : ℕ → List ℕ → Outcome Answer → Type 0) (listing : ℕ → ℕ → List ℕ → Outcome Series) : Type 0 where
+  pub item : Asking
+  pub each : (k : ℕ) (out : List ℕ) → Asked k out (item k out)
+  pub in-turn : (first count : ℕ) (out : List ℕ) → listing first count out ≡ runFrom item first count out
+
+-- ---- the list of codes
+
+-- "the outward codes with live views, rising, each 4 bytes and its count in 4 bytes, most significant first; value: how
+-- many codes; refusals 1 to 6, then 10": `Told` says that these are the codes, each once with its live views, and no other
+pub data CodesAsked (points out : List ℕ) : Type 0 where
+  file-refused : {file : ℕ} {why : Reason} → checked pointFormat points ≡ Refused file why
+      → codesOutcome points out ≡ said (Refused file why) out
+      → CodesAsked points out
+  no-room : Accepted pointFormat points → Told points (codesIn points) → length out < 8 * length (codesIn points)
+      → codesOutcome points out ≡ said (Refused 0 (Room (8 * length (codesIn points)))) out
+      → CodesAsked points out
+  listed : Accepted pointFormat points → Told points (codesIn points) → 8 * length (codesIn points) ≤ length out
+      → codesOutcome points out
+      ≡ said (Value (length (codesIn points))) (entryBytes (codesIn points) ++ drop (8 * length (codesIn points)) out)
+      → CodesAsked points out
+
 -- ---- exactly where there is a label
 
 -- there is a value exactly where something holds, and then this text is written
@@ -170,3 +240,22 @@ AllBounded look = AllOf (λ a. Bounded (elementsOf look a))
 -- each point of a pack that opens
 abbrev pub PointsBounded : (pack : List ℕ) → Type 0
 PointsBounded pack = (n k : ℕ) → opened pack ≡ Value n → 1 ≤ k → k ≤ n → Bounded (elementsAt pack (pointPlace pack k))
+
+-- ---- how no line begins
+
+-- "Text has bytes 32 to 126 without small letters"
+abbrev pub beginsSmall : List ℕ → Bool
+beginsSmall [] = false
+beginsSmall (x ∷ xs) = within 97 122 x
+
+abbrev pub NoneSmall : List (List ℕ) → Type 0
+NoneSmall [] = Unit {0}
+NoneSmall (l ∷ ls) = (beginsSmall l ≡ false) × NoneSmall ls
+
+-- no line of a label of a source, or of a pack that opens, begins with a small letter
+abbrev pub ViewsCapital : Lookup → List Address → Type 0
+ViewsCapital look = AllOf (λ a. NoneSmall (linesOf (elementsOf look a)))
+
+abbrev pub PointsCapital : (pack : List ℕ) → Type 0
+PointsCapital pack =
+    (n k : ℕ) → opened pack ≡ Value n → 1 ≤ k → k ≤ n → NoneSmall (linesOf (elementsAt pack (pointPlace pack k)))

@@ -43,7 +43,7 @@ decimal-more (suc m) h =
     (ap (λ (l : List ℕ). l ++ ((48 + suc m % 10) ∷ [])) (enough m (suc m / 10) (suc m / 10) (omega arith) (omega arith)))
 
 -- a number below ten to the k has at most k digits
-decimal-size : (k n : ℕ) → n < 10 ^ suc k → length (decimal n) ≤ suc k
+pub decimal-size : (k n : ℕ) → n < 10 ^ suc k → length (decimal n) ≤ suc k
 decimal-size zero n h = rw (decimal-one n h) (omega arith)
 decimal-size (suc k) n h = by-test (ltb n 10) refl (decimal-size k (n / 10) below)
   where

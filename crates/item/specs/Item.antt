@@ -1,4 +1,4 @@
--- An item of a listing: "the line `view N L`, then the label or the line `refused n d`".
+-- An item of a listing: "the line `view N L` .., then the label or the line `refused n d`".
 -- Assumes nothing.
 use mathlib.Core.List.{List, _++_}
 use mathlib.Core.Option.{Option, none, some}

@@ -17,7 +17,10 @@ use Rattle.source.specs.Address.{Elements}
 use Rattle.label.specs.Lines.{line, boxLine, spaced, street, streetLine, numberText, Premises, premises, table, fronted, places, premisesOf, linesOf}
 use Rattle.label.specs.Label.{ended, labelOf}
 use Rattle.label.specs.Widths.{Fits, NoneAbove}
+use Rattle.label.specs.declared.Spans.{Spans}
+use Rattle.label.specs.Spans.{elementsIn}
 use Rattle.label.proofs.Places.{ended-append}
+use Rattle.label.proofs.Texts.{text-short}
 
 -- bytes of lines after lines
 size-append : (a b : List (List ℕ)) → length (ended (a ++ b)) ≡ length (ended a) + length (ended b)
@@ -213,6 +216,14 @@ front-above m n (f ∷ fs) [] g h = tt
 front-above m n (f ∷ fs) (l ∷ ls) g h =
     (simp length-append (omega (arith, h .0)), above-more m n ls (omega arith) (h .1))
 
+-- how many bytes all the texts of a label have
+abbrev allTexts : Elements → ℕ
+allTexts e =
+    length (e .organisation) + length (e .department) + length (e .box) + length (e .sub-building) + length (e .building)
+    + length (e .dependent) + length (e .dependent-descriptor) + length (e .thoroughfare) + length (e .descriptor)
+    + length (e .double-locality) + length (e .dependent-locality) + length (e .town) + length (e .outward)
+    + length (e .inward)
+
 module _ (e : Elements) where
   abbrev number : List ℕ
   number = numberText (e .number)
@@ -246,33 +257,39 @@ module _ (e : Elements) where
         places-count,
       ))
 
-  module _ (fits : Fits e) where
-    places-size : length (ended (places e)) ≤ 267
-    places-size =
-        simp size-append
-        (omega (
-          arith,
-          street-size (e .dependent) (e .dependent-descriptor),
-          street-size (e .thoroughfare) (e .descriptor),
-          line-size (e .double-locality),
-          line-size (e .dependent-locality),
-          line-size (e .town),
-        ))
+  places-size : length (ended (places e))
+      ≤ length (e .dependent) + length (e .dependent-descriptor) + length (e .thoroughfare) + length (e .descriptor)
+      + length (e .double-locality) + length (e .dependent-locality) + length (e .town) + 7
+  places-size =
+      simp size-append
+      (omega (
+        arith,
+        street-size (e .dependent) (e .dependent-descriptor),
+        street-size (e .thoroughfare) (e .descriptor),
+        line-size (e .double-locality),
+        line-size (e .dependent-locality),
+        line-size (e .town),
+      ))
 
+  -- of any elements: all their texts, the number, `PO BOX `, spaces and ends
+  at-most-texts : length (labelOf e) ≤ allTexts e + 26
+  unfolding labelOf linesOf
+  at-most-texts =
+      simp (size-append, length-append)
+      (omega (
+        arith,
+        line-size (e .organisation),
+        line-size (e .department),
+        box-size (e .box),
+        premises-sized .size,
+        number-length (e .number),
+        front-size (premisesOf e .front) (places e),
+        places-size,
+      ))
+
+  module _ (fits : Fits e) where
     pub at-most-499 : length (labelOf e) ≤ 499
-    unfolding labelOf linesOf
-    at-most-499 =
-        simp (size-append, length-append)
-        (omega (
-          arith,
-          line-size (e .organisation),
-          line-size (e .department),
-          box-size (e .box),
-          premises-sized .size,
-          number-length (e .number),
-          front-size (premisesOf e .front) (places e),
-          places-size,
-        ))
+    at-most-499 = omega (arith, at-most-texts)
 
     places-above : NoneAbove 81 (places e)
     places-above =
@@ -302,3 +319,33 @@ module _ (e : Elements) where
         (above-append 163 placed (spaced (e .outward) (e .inward) ∷ [])
         (front-above 81 163 (premisesOf e .front) (places e) (omega (arith, front-length)) places-above)
         (simp length-append (omega arith), tt))
+
+-- how many bytes the spans of a label say
+abbrev pub spanned : Spans → ℕ
+spanned e =
+    e .organisation .len + e .department .len + e .«po_box» .len + e .«sub_building» .len + e .building .len
+    + e .dependent .len + e .«dependent_descriptor» .len + e .thoroughfare .len + e .descriptor .len
+    + e .«double_locality» .len + e .«dependent_locality» .len + e .town .len + e .outward .len + e .inward .len
+
+-- of any spans, since no text is longer than its span says
+pub at-most-spans : (a b : List ℕ) (e : Spans) → length (labelOf (elementsIn a b e)) ≤ spanned e + 26
+unfolding elementsIn
+at-most-spans a b e =
+    omega (
+      arith,
+      at-most-texts (elementsIn a b e),
+      text-short a b (e .organisation),
+      text-short a b (e .department),
+      text-short a b (e .«po_box»),
+      text-short a b (e .«sub_building»),
+      text-short a b (e .building),
+      text-short a b (e .dependent),
+      text-short a b (e .«dependent_descriptor»),
+      text-short a b (e .thoroughfare),
+      text-short a b (e .descriptor),
+      text-short a b (e .«double_locality»),
+      text-short a b (e .«dependent_locality»),
+      text-short a b (e .town),
+      text-short a b (e .outward),
+      text-short a b (e .inward),
+    )

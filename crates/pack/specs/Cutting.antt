@@ -1,4 +1,4 @@
--- Building the pack of a code from a source: "table file, point file, 12, then the label's 8 or 9 of the first live view in
+-- Building the pack of a code from a source. Of a pair of files: "table file, point file, 12, then the label's 8 or 9 of the first live view in
 -- that code that has one, together with its view number, then 10."
 -- Assumes nothing.
 use Prim.Native.Nat.{ℕ}

@@ -43,7 +43,8 @@ abbrev pub tableEntries : Lookup → List ℕ → List Entry
 tableEntries look [] = []
 tableEntries look (r ∷ rs) = entry r (textsOr (look (kindOf r) (keyOf r))) ∷ tableEntries look rs
 
--- "one row of type 6 (organisation, department) for each packed view with a follower, in view order"
+-- "one row of type 6 (organisation, department) for each packed view with a follower, in view order"; "for each packed address
+-- with an organisation"
 abbrev pub organisationEntry : ℕ → Organisation → List Entry
 organisationEntry view none-needed = []
 organisationEntry view (named name department) = entry (ref 6 view) (name ∷ department ∷ []) ∷ []

@@ -9,13 +9,14 @@ use native.Mathlib.Omega.{arith}
 use borrow.Author.Tests.{eq-eqb, ne-eqb, eqb-true, eqb-false}
 use lib.Dec.{eqb}
 use Rattle.field.specs.Test.{elem}
+use Rattle.field.proofs.Tests.{or-true}
 use Rattle.source.specs.Address.{Lookup, Organisation, none-needed, named, lacking, Address, present, Asked, keysOf, ref, kindOf, keyOf}
 use Rattle.pack.specs.Layout.{Entry, entry, usedBy, textsOr, tableEntries, organisationEntry, organisationEntries, entriesOf}
 use Rattle.pack.specs.Sound.{RowSound, OrganisationSound, KeysFit, AddressesSound, Sound}
 use Rattle.pack_carries.specs.Used.{refersIn, refers, Rises, RowFound}
 use Rattle.pack_carries.proofs.Used.{used-exactly, used-rises, used-each, used-found, Each}
 use Rattle.source.proofs.Refs.{ref-kind, ref-key}
-use Rattle.pack_carries.proofs.Rows.{EntrySound, EntriesSound, and-both, or-true}
+use Rattle.pack_carries.proofs.Rows.{EntrySound, EntriesSound, and-both}
 use Rattle.pack_carries.proofs.Found.{textsFor}
 
 -- ---- each is sound

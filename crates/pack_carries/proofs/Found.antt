@@ -9,10 +9,11 @@ use native.Mathlib.Omega.{arith}
 use borrow.Author.Tests.{eq-eqb, eqb-true}
 use lib.Dec.{eqb}
 use lib.ListN.{length, length-append}
+use Rattle.field.proofs.Tests.{or-true}
 use Rattle.pack.specs.Layout.{Entry, entry, entryBytes, entriesBytes, offsetOf}
 use Rattle.pack.specs.Opening.{rowEnd, isStart}
 use Rattle.pack_carries.proofs.Stands.{Stands}
-use Rattle.pack_carries.proofs.Rows.{EntrySound, EntriesSound, or-true, row-end, first-stands, others-stand}
+use Rattle.pack_carries.proofs.Rows.{EntrySound, EntriesSound, row-end, first-stands, others-stand}
 
 -- the texts of the row that a number stands for
 abbrev pub textsFor : List Entry → ℕ → Option (List (List ℕ))

@@ -30,10 +30,6 @@ EntriesSound low (e ∷ es) =
 pub and-both : {s t : Bool} → s ≡ true → t ≡ true → s && t ≡ true
 and-both p q = ap₂ _&&_ p q
 
-pub or-true : (t : Bool) → t || true ≡ true
-or-true true = refl
-or-true false = refl
-
 pub slots-long : (ss : List Slot) (ts : List (List ℕ)) → slotsGood ss ts ≡ true → length ts ≡ length ss
 slots-long [] [] e = refl
 slots-long [] (t ∷ ts) e = let z : _≡_ {A = ℕ} 0 1 = cc in absurd (omega arith)

@@ -8,7 +8,7 @@ use native.Mathlib.Omega.{arith}
 use borrow.Author.Tests.{eq-eqb, eqb-true}
 use lib.Dec.{eqb}
 use Rattle.field.specs.Test.{elem}
-use Rattle.field.proofs.Tests.{and-left, and-right}
+use Rattle.field.proofs.Tests.{and-left, and-right, or-true}
 use Rattle.source.specs.Address.{Lookup, Address, present, Asked, keysOf, ref, kindOf, keyOf}
 use Rattle.source.specs.Same.{AllOf, Agree, AllAgree}
 use Rattle.pack.specs.Layout.{usedBy, textsOr, entry, tableEntries, organisationEntries, entriesOf, packBytes, packOf}
@@ -17,7 +17,6 @@ use Rattle.pack.specs.Sound.{KeysFit, AddressesSound}
 use Rattle.pack_carries.specs.Used.{refersIn, refers}
 use Rattle.pack_carries.proofs.Used.{used-exactly}
 use Rattle.source.proofs.Refs.{ref-kind, ref-key}
-use Rattle.pack_carries.proofs.Rows.{or-true}
 
 -- each key of each address has eight digits
 abbrev pub AllFit : List Address → Type 0

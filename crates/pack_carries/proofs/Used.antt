@@ -9,6 +9,7 @@ use native.Mathlib.Omega.{arith}
 use borrow.Author.Tests.{eqb-true, eqb-false, ltb-true, ltb-false}
 use lib.Dec.{eqb, ltb}
 use Rattle.field.specs.Test.{elem}
+use Rattle.field.proofs.Tests.{or-assoc}
 use Rattle.source.specs.Address.{Lookup, Address, present, Asked, keysOf, ref, kindOf, keyOf}
 use Rattle.source.proofs.Refs.{ref-kind, ref-key}
 use Rattle.source.specs.Resolve.{lacks, missingFrom, lacksOrganisation, missing}
@@ -26,10 +27,6 @@ or-swap : (r s t : Bool) → r || (s || t) ≡ s || (r || t)
 or-swap true true t = refl
 or-swap true false t = refl
 or-swap false s t = refl
-
-or-assoc : (r s t : Bool) → r || (s || t) ≡ (r || s) || t
-or-assoc true s t = refl
-or-assoc false s t = refl
 
 elem-insert : (r x : ℕ) (xs : List ℕ) → elem r (insert x xs) ≡ eqb r x || elem r xs
 elem-insert r x [] = refl

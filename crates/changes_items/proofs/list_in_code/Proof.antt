@@ -1,6 +1,6 @@
 -- `changes_items::list_in_code` meets its contract. Assumes nothing.
 use borrow.Author.Needs.{needs}
-use mathlib.Core.Path.{_≡_, sym, _∙_}
+use mathlib.Core.Path.{sym, _∙_}
 use Rattle.run.specs.declared.Series.the-variants.{Unasked}
 use Rattle.ask.specs.Lists.{codeList, codeListed}
 use Rattle.ask.proofs.Laws.{by-bad-code, by-refused}

@@ -1,12 +1,9 @@
 -- `item_write::refused_line` meets its contract. Assumes nothing.
 use borrow.Author.Needs.{needs}
-use mathlib.Core.Path.{_≡_, subst}
-use mathlib.Core.List.{List}
+use mathlib.Core.Path.{_≡_}
 use native.Mathlib.Omega.{arith}
 use Rattle.item.specs.Lines.{refusedText, refusedLine}
 use Rattle.item.proofs.Lines.{refused-short}
-use Rattle.item_write.specs.declared.Line.{Line}
-use Rattle.item_write.specs.Line.{Holds}
 use Rattle.item_write.proofs.Laws.{line-holds, holds-as}
 use Rattle.item_write.proofs.refused_line.Statement.{statement}
 use Rattle.item_write.proofs.refused_line.Tie as tie

@@ -1,13 +1,8 @@
 -- `item_write::inner::over_refusal` meets its contract. Assumes nothing.
 use borrow.Author.Needs.{needs}
-use mathlib.Core.Path.{_≡_, refl, sym, ap, _∙_}
-use mathlib.Core.List.{_++_}
+use mathlib.Core.Path.{sym, _∙_}
 use native.Mathlib.Omega.{arith}
-use lib.ListN.{length}
 use lib.Seq.{length-take-le}
-use Rattle.refusal.specs.Outcome.{said}
-use Rattle.refusal.specs.Refusal.{number, detail}
-use Rattle.label.specs.Label.{roomOutcome}
 use Rattle.item_write.proofs.Headed.{refusal-room, refusal-none, refusal-line}
 use Rattle.item_write.proofs.inner.over_refusal.Statement.{statement}
 use Rattle.item_write.proofs.inner.over_refusal.Tie as tie

@@ -1,8 +1,5 @@
 -- `item_write::inner::room_before` meets its contract. Assumes nothing.
-use mathlib.Core.Path.{_≡_}
-use native.Mathlib.Omega.{arith}
 use borrow.Author.Tests.{le-leb, lt-leb}
-use lib.ListN.{length}
 use Rattle.item_write.specs.Headed.{before}
 use Rattle.item_write.proofs.inner.room_before.Statement.{statement}
 use Rattle.item_write.proofs.inner.room_before.Tie as tie

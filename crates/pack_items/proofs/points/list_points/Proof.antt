@@ -11,7 +11,7 @@ use Rattle.refusal.specs.Outcome.{said}
 use Rattle.refusal.proofs.Outcomes.{answer-of}
 use Rattle.pack.specs.Points.{pointItem}
 use Rattle.item.specs.Lines.{pointLine}
-use Rattle.pack_open.proofs.Opened.{opened-sized, opened-all}
+use Rattle.pack_open.proofs.Opened.{opened-sized}
 use Rattle.pack_items.proofs.Laws.{item-bound, item-fits}
 use Rattle.run.specs.Series.{askedBehind}
 use Rattle.run.proofs.Going.{Fitting, Going, going-start, going-fits, going-step, going-stop, going-end}
