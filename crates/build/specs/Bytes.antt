@@ -26,11 +26,16 @@ twoTexts rec start middle end = textIn rec start middle ∷ textIn rec middle en
 abbrev pub keyOffset : List ℕ → (key row : ℕ) → ℕ
 keyOffset starts key row = cond (present key) (getD starts row 0 - 1) absent
 
+-- the offsets of the rows that the keys find
+abbrev pub offsetsFor : List ℕ → (keys rows : List ℕ) → List ℕ
+offsetsFor starts [] rows = []
+offsetsFor starts (k ∷ ks) [] = []
+offsetsFor starts (k ∷ ks) (r ∷ rs) = keyOffset starts k r ∷ offsetsFor starts ks rs
+
 -- "eight row offsets of 4", those of the keys
-abbrev pub keyOffsets : List ℕ → (keys rows : List ℕ) → List ℕ
-keyOffsets starts [] rows = []
-keyOffsets starts (k ∷ ks) [] = []
-keyOffsets starts (k ∷ ks) (r ∷ rs) = bytesOf 4 (keyOffset starts k r) ++ keyOffsets starts ks rs
+abbrev pub offsetBytes : List ℕ → List ℕ
+offsetBytes [] = []
+offsetBytes (o ∷ more) = bytesOf 4 o ++ offsetBytes more
 
 -- and the organisation's, whose row would stand at `at`
 abbrev pub organisationOffset : DeliveryPoint → ℕ → ℕ
@@ -44,11 +49,15 @@ numbersIn p =
 abbrev pub plainIn : List ℕ → DeliveryPoint → List ℕ
 plainIn own p = numbersIn p ++ (markOf (p .concatenation) ∷ part own (p .«po_box») (p .«po_box» + 6))
 
--- a point, behind "postcode 7": its organisation's row stands at `at` if it has one
-unfoldable pub pointIn : (own starts : List ℕ) → DeliveryPoint → (rows : List ℕ) → ℕ → List ℕ
-pointIn own starts p rows at =
+-- a point, behind "postcode 7": the offsets of its keys' rows, and its organisation's row, which stands at `at` if it has one
+unfoldable pub pointWith : (own : List ℕ) → DeliveryPoint → (offsets : List ℕ) → ℕ → List ℕ
+pointWith own p offsets at =
     part own (p .postcode) (p .postcode + 7)
-    ++ (plainIn own p ++ (keyOffsets starts (p .keys) rows ++ bytesOf 4 (organisationOffset p at)))
+    ++ (plainIn own p ++ (offsetBytes offsets ++ bytesOf 4 (organisationOffset p at)))
+
+-- the same by the starts of the rows
+abbrev pub pointIn : (own starts : List ℕ) → DeliveryPoint → (rows : List ℕ) → ℕ → List ℕ
+pointIn own starts p rows at = pointWith own p (offsetsFor starts (p .keys) rows) at
 
 -- the points of these, the organisations' rows standing from `at` on
 abbrev pub pointsIn : Stock → (own others starts : List ℕ) → ℕ → List Packed → List ℕ

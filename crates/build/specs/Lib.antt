@@ -3,3 +3,4 @@ pub mod Rows
 pub mod Placed
 pub mod Bytes
 pub mod Ready
+pub mod Within

@@ -8,8 +8,8 @@ use native.Mathlib.Omega.{arith}
 use borrow.Author.Tests.{eq-eqb, ne-eqb, eqb-true}
 use lib.Dec.{eqb}
 use Rattle.field.specs.Test.{elem}
+use Rattle.field.proofs.Tests.{or-true}
 use Rattle.pack_carries.specs.Used.{Rises}
-use Rattle.pack_carries.proofs.Rows.{or-true}
 
 rises-above : (low r : ℕ) (xs : List ℕ) → Rises low xs → elem r xs ≡ true → low < r
 rises-above low r [] h e = let z : _≡_ {A = ℕ} 0 1 = cc in absurd (omega arith)

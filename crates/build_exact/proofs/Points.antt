@@ -21,7 +21,7 @@ use Rattle.pack.specs.Layout.{Entry, organisationEntries, keyRefs, organisation
 use Rattle.pack_carries.specs.Used.{refersIn, refers}
 use Rattle.pack_carries.proofs.Rows.{and-both}
 use Rattle.build.specs.Plan.{Packed, rowsOf, organisationRow}
-use Rattle.build.specs.Bytes.{keyOffsets, plainIn, pointIn, pointsIn}
+use Rattle.build.specs.Bytes.{offsetsFor, offsetBytes, plainIn, pointWith, pointsIn}
 use Rattle.build_exact.specs.Started.{AllSay, none-says, one-says, Rising}
 use Rattle.build_exact.proofs.Orders.{or-left, or-right}
 use Rattle.build_exact.proofs.Organisations.{Standing, organisation-ref, stand-on}
@@ -56,7 +56,7 @@ module _ (st : Stock) (starts : List ℕ) (es : List Entry) where
 
   -- "eight row offsets of 4", those of the keys
   keys-are : (kinds keys : List ℕ) → ((r : ℕ) → refersIn r (askedBy kinds keys) ≡ true → Placed r)
-      → refsBytes es (keyRefs (askedBy kinds keys)) ≡ keyOffsets starts keys (rowsFor (st .row) (askedBy kinds keys))
+      → refsBytes es (keyRefs (askedBy kinds keys)) ≡ offsetBytes (offsetsFor starts keys (rowsFor (st .row) (askedBy kinds keys)))
   keys-are [] [] placed = refl
   keys-are [] (key ∷ keys) placed = refl
   keys-are (kind ∷ kinds) [] placed = refl
@@ -81,10 +81,10 @@ module _ (st : Stock) (starts : List ℕ) (es : List Entry) where
         → Standing es at low as′
         → ((r : ℕ) → refers r as′ ≡ true → offsetOf es r ≡ getD starts (st .row r) 0 - 1)
         → pointsBytes newest es as′ ≡ pointsIn st own others starts at ds
-    unfolding pointIn
+    unfolding pointWith
     points-are at low none-says rise stand placed = refl
     points-are {ds = d ∷ ds} {as′ = a ∷ as′} at low (one-says s rest) rise stand placed =
-        let keys : refsBytes es (keyRefs (keysOf a)) ≡ keyOffsets starts (d .point .keys) (rowsOf st (d .point)) =
+        let keys : refsBytes es (keyRefs (keysOf a)) ≡ offsetBytes (offsetsFor starts (d .point .keys) (rowsOf st (d .point))) =
         rw (s .says .keys)
         (keys-are keyKinds (keyNumbers a) (λ r e. placed r (or-left (refersIn r (keysOf a)) (refers r as′) e))) in
         let organisation =

@@ -19,7 +19,7 @@ use Rattle.pack_carries.proofs.Trailer.{trailer-long}
 use Rattle.build.specs.Plan.{Packed, rowsOf, organisationRow, organisationRows, organisationCount}
 use Rattle.build.specs.Rows.{rowBytesAt, isMarked, bytesTo, countTo, rowsFrom}
 use Rattle.build.specs.Placed.{Placed}
-use Rattle.build.specs.Bytes.{keyOffsets, pointIn, pointsIn, usedRows, packIn}
+use Rattle.build.specs.Bytes.{offsetsFor, offsetBytes, pointWith, pointIn, pointsIn, usedRows, packIn}
 use Rattle.build_exact.specs.Started.{AllSay, none-says, one-says}
 use Rattle.build_exact.specs.Within.{AllWithin}
 use Rattle.build_exact.proofs.Marked.{bytes-same}
@@ -81,7 +81,7 @@ part-long own at n h = simp (length-take, length-drop) (omega arith)
 
 module _ (starts : List ℕ) (row : ℕ → ℕ) where
   keys-long : (kinds keys : List ℕ) → length kinds ≡ length keys
-      → length (keyOffsets starts keys (rowsFor row (askedBy kinds keys))) ≡ 4 * length keys
+      → length (offsetBytes (offsetsFor starts keys (rowsFor row (askedBy kinds keys)))) ≡ 4 * length keys
   keys-long [] [] e = refl
   keys-long [] (key ∷ keys) e = absurd (omega arith)
   keys-long (kind ∷ kinds) [] e = absurd (omega arith)
@@ -93,9 +93,9 @@ point-long : (st : Stock) {own others : List ℕ} {p : DeliveryPoint} {a : Addre
     → p .postcode + 7 ≤ length own
     → p .«po_box» + 6 ≤ length own
     → length (pointIn own starts p (rowsOf st p) at) ≡ pointWidth newest
-unfolding pointIn
+unfolding pointWith
 point-long st {own} {others} {p} {a} starts at s h k =
-    let keys : length (keyOffsets starts (p .keys) (rowsOf st p)) ≡ 28 =
+    let keys : length (offsetBytes (offsetsFor starts (p .keys) (rowsOf st p))) ≡ 28 =
     rw (s .keys) (keys-long starts (st .row) keyKinds (keyNumbers a) refl) in
     simp (length-append, bytes-long, keys)
     (omega (arith, part-long own (p .postcode) 7 h, part-long own (p .«po_box») 6 k))
@@ -110,7 +110,7 @@ points-long st {own} {others} {ds = d ∷ ds} starts at (one-says s rest) w =
     omega (
       arith,
       length-append (pointIn own starts (d .point) (rowsOf st (d .point)) at) (pointsIn st own others starts next ds),
-      point-long st starts at (s .says) (w .0 .0) (w .0 .1),
+      point-long st starts at (s .says) (w .0 .postcode) (w .0 .box),
       points-long st starts next rest (w .1),
     )
 

@@ -38,7 +38,7 @@ fn text_len(rec: &[u8], from: usize, to: usize) -> usize
 }
 
 // The bytes of row `i`.
-fn row_len(file: &[u8], s: Shelf, i: usize) -> usize
+pub fn row_len(file: &[u8], s: Shelf, i: usize) -> usize
     requires { ⌜ Fit s ⌝ }
     ensures { λ r. ⌜ (r ≡ length (rowBytesAt (stockOf s (now (file .entry))) i)) × (r ≤ 104) ⌝ }
 {

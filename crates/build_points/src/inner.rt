@@ -1,4 +1,4 @@
-// The point of a delivery point whose texts lie within the slice that holds it.
+// The point of a delivery point whose fields lie within the slice that holds it.
 use build_bytes::inner::above;
 use build_bytes::inner::part_at;
 use build_bytes::inner::short_at;
@@ -7,14 +7,18 @@ use build_bytes::inner::word_at;
 use label_pieces::inner::byte_at;
 use pack_read::PackPoint;
 use source::DeliveryPoint;
-use source::Found;
 ghost use mathlib.Core.Path.{_≡_};
 ghost use Prim.Native.Nat.{_+_, _≤_};
 ghost use lib.ListN.{length};
 ghost use Rattle.label.specs.Put.{Put};
 ghost use Rattle.pack.specs.Layout.{markOf};
-ghost use Rattle.source.specs.Delivery.{Within};
-ghost use Rattle.build.specs.Bytes.{keyOffset, keyOffsets, organisationOffset, numbersIn, plainIn, pointIn};
+ghost use Rattle.build.specs.Bytes.{keyOffset, offsetsFor, offsetBytes, organisationOffset, numbersIn, plainIn, pointWith};
+ghost use Rattle.build.specs.Within.{FieldsWithin};
+
+// Where the rows of the seven keys of a delivery point stand, in offset order; `PackPoint::ABSENT` where a key is zero.
+pub struct Offsets {
+    pub of_keys: [usize; 7],
+}
 
 // Where the row of a key stands.
 fn key_offset(starts: &[u32], key: u32, row: usize) -> usize
@@ -26,15 +30,28 @@ fn key_offset(starts: &[u32], key: u32, row: usize) -> usize
     above(start_of(starts, row), 1)
 }
 
+// Where the rows of the seven keys stand, by the starts of all rows.
+pub fn key_offsets(starts: &[u32], keys: [u32; 7], rows: [usize; 7]) -> Offsets
+    ensures { λ r. ⌜ r .«of_keys» ≡ offsetsFor (now (starts .entry)) keys rows ⌝ }
+{
+    let mut of_keys = [0usize; 7];
+    let mut i = 0;
+    while i < 7 {
+        of_keys[i] = key_offset(starts, keys[i], rows[i]);
+        i += 1;
+    }
+    Offsets { of_keys }
+}
+
 // The offsets of the seven keys.
-fn keys_at(starts: &[u32], keys: [u32; 7], rows: [usize; 7], at: usize, out: &mut [u8]) -> usize
-    requires { ⌜ at + length (keyOffsets (now starts) keys rows) ≤ length (now out) ⌝ }
-    ensures { λ r. ⌜ Put (keyOffsets (now (starts .entry)) keys rows) (now (out .entry)) at r (now (out .exit)) ⌝ }
+fn keys_at(offsets: [usize; 7], at: usize, out: &mut [u8]) -> usize
+    requires { ⌜ at + length (offsetBytes offsets) ≤ length (now out) ⌝ }
+    ensures { λ r. ⌜ Put (offsetBytes offsets) (now (out .entry)) at r (now (out .exit)) ⌝ }
 {
     let mut end = at;
     let mut i = 0;
     while i < 7 {
-        end = word_at(key_offset(starts, keys[i], rows[i]), end, out);
+        end = word_at(offsets[i], end, out);
         i += 1;
     }
     end
@@ -67,7 +84,7 @@ fn numbers_at(p: DeliveryPoint, at: usize, out: &mut [u8]) -> usize
 
 // The same, concatenation and PO box.
 fn plain_at(own: &[u8], p: DeliveryPoint, at: usize, out: &mut [u8]) -> usize
-    requires { ⌜ Within (now own) p × (at + length (plainIn (now own) p) ≤ length (now out)) ⌝ }
+    requires { ⌜ FieldsWithin (now own) p × (at + length (plainIn (now own) p) ≤ length (now out)) ⌝ }
     ensures { λ r. ⌜ Put (plainIn (now (own .entry)) p) (now (out .entry)) at r (now (out .exit)) ⌝ }
 {
     let i = numbers_at(p, at, out);
@@ -78,22 +95,20 @@ fn plain_at(own: &[u8], p: DeliveryPoint, at: usize, out: &mut [u8]) -> usize
 // The point of a delivery point, its organisation's row standing at `row` if it has one.
 pub fn point_at(
     own: &[u8],
-    starts: &[u32],
     p: DeliveryPoint,
-    found: Found,
+    offsets: Offsets,
     row: usize,
     at: usize,
     out: &mut [u8],
 ) -> usize
-    requires { ⌜ Within (now own) p ⌝ }
-    requires { ⌜ at + length (pointIn (now own) (now starts) p (found .rows) row) ≤ length (now out) ⌝ }
-    ensures { λ r. ⌜ Put (pointIn (now (own .entry)) (now (starts .entry)) p (found .rows) row)
+    requires { ⌜ FieldsWithin (now own) p ⌝ }
+    requires { ⌜ at + length (pointWith (now own) p (offsets .«of_keys») row) ≤ length (now out) ⌝ }
+    ensures { λ r. ⌜ Put (pointWith (now (own .entry)) p (offsets .«of_keys») row)
         (now (out .entry)) at r (now (out .exit)) ⌝ }
 {
     let i = part_at(own, p.postcode, p.postcode + 7, at, out);
     let j = plain_at(own, p, i, out);
-    let keys = p.keys;
-    let rows = found.rows;
-    let k = keys_at(starts, keys, rows, j, out);
+    let of_keys = offsets.of_keys;
+    let k = keys_at(of_keys, j, out);
     word_at(organisation_offset(p, row), k, out)
 }

@@ -33,7 +33,7 @@ fn texts_at(rec: &[u8], s: Shelf, kind: usize, at: usize, out: &mut [u8]) -> usi
 }
 
 // Row `i`.
-fn row_at(file: &[u8], s: Shelf, i: usize, at: usize, out: &mut [u8]) -> usize
+pub fn row_at(file: &[u8], s: Shelf, i: usize, at: usize, out: &mut [u8]) -> usize
     requires { ⌜ Fit s × (at + length (rowBytesAt (stockOf s (now file)) i) ≤ length (now out)) ⌝ }
     ensures { λ r. ⌜ Put (rowBytesAt (stockOf s (now (file .entry))) i) (now (out .entry)) at r (now (out .exit)) ⌝ }
 {

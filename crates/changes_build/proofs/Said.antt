@@ -36,7 +36,8 @@ module _ (points code : List ℕ) where
   within-all : (places : List ℕ) → WantedPlaces code points places → AllWithin points (packedAll points places)
   within-all [] w = tt
   within-all (place ∷ places) w =
-      let at = view-within points place (w .0 .high) in ((at .postcode, at .box), within-all places (w .1))
+      let at = view-within points place (w .0 .high) in
+      (record { postcode = at .postcode; box = at .box }, within-all places (w .1))
 
   pub all-say : outwardFault code ≡ 0 → AllSay points points (packedIn points code) (liveIn points code)
   all-say e =

@@ -2,6 +2,8 @@
 use build_place::inner::Sums;
 use build_place::inner::one_if;
 use build_place::inner::organisation_len;
+use build_points::inner::key_offsets;
+use build_points::inner::point_at;
 use changes_source::delivery_at;
 use changes_source::organisation_place;
 use changes_source::organised_at;
@@ -116,7 +118,9 @@ pub fn points_at(
         let p = delivery_at(points, place);
         let keys = p.keys;
         let found = rows_by(table, s, refs, keys);
-        end = build_points::inner::point_at(points, starts, p, found, row, end, out);
+        let rows = found.rows;
+        let offsets = key_offsets(starts, keys, rows);
+        end = point_at(points, p, offsets, row, end, out);
         row += organisation_len(points, p.organised, p.organisation);
         place = next_wanted(points, code, place + 1);
     }

@@ -2,29 +2,19 @@
 -- Assumes nothing.
 use Prim.Native.Nat.{ℕ, zero, suc}
 use mathlib.Core.Path.{_≡_, refl, sym, ap, _∙_}
-use mathlib.Core.Bool.{Bool, true, false, cond, not, true≢false, _&&_, _||_}
+use mathlib.Core.Bool.{Bool, true, false, cond}
 use mathlib.Core.List.{List, [], _∷_}
 use native.Mathlib.Omega.{arith}
 use borrow.Author.Tests.{ne-eqb}
 use lib.Dec.{eqb, lit≤}
 use lib.ListN.{getD, drop}
-use Rattle.field.specs.Test.{every}
-use Rattle.field.specs.Digits.{digit, digitsFault}
-use Rattle.field.specs.Text.{textByte, blank, startsBlank, textFault, filledFault, part}
-use Rattle.field.proofs.Tests.{and-left, and-right}
-use Rattle.field.proofs.Faults.{no-fault}
-use Rattle.field.proofs.Parts.{every-append, every-front, every-back, part-join}
-use Rattle.field_test.proofs.Laws.{begun-text, begun-filled, blank-text}
+use Rattle.field.specs.Digits.{digitsFault}
+use Rattle.field.specs.Text.{textFault, filledFault, part}
 use Rattle.field_outward.specs.Outward.{outwardFault}
 use Rattle.field_outward.specs.Inward.{inwardFault, suffixFault}
 use Rattle.file_fault.specs.Fields.{field, place, first, faultIn, oneOf}
 use Rattle.file_fault.specs.Point.{pointHead, viewFields, pointRest, pointFault}
 use Rattle.file_fault.proofs.Laws.{digits-join, view-digits}
-
-pub three : (a b c : Bool) → a && (b && c) ≡ true → (a ≡ true) × (b ≡ true) × (c ≡ true)
-three a b c e =
-    let more = and-right a (b && c) e in
-    (and-left a (b && c) e, and-left b c more, and-right b c more)
 
 first-left : (a b : ℕ) → first a b ≡ 0 → a ≡ 0
 first-left zero b e = refl
@@ -37,28 +27,6 @@ first-right (suc a) b e = absurd (omega arith)
 place-none : (start fault : ℕ) → place start fault ≡ 0 → fault ≡ 0
 place-none start zero e = refl
 place-none start (suc fault) e = absurd (omega arith)
-
--- a text that begins, or is known to be blank
-pub begun-or-known : (t r : Bool) (s : List ℕ) → startsBlank s ≡ t → (r ≡ true → blank s ≡ true) → not t || r ≡ true
-    → every textByte s ≡ true
-    → textFault s ≡ 0
-begun-or-known true r s start known e p = blank-text s (known e)
-begun-or-known false r s start known e p = begun-text s start p
-
--- a name that begins, whether or not it may be blank
-pub begun-name : (small : Bool) (s : List ℕ) → startsBlank s ≡ false → every textByte s ≡ true
-    → cond small (filledFault s) (textFault s) ≡ 0
-begun-name true s start p = begun-filled s start p
-begun-name false s start p = begun-text s start p
-
-pub digits-none : (s : List ℕ) → every digit s ≡ true → digitsFault s ≡ 0
-unfolding digitsFault
-digits-none s e = no-fault digit s 1 e
-
--- what was refused together was refused apart
-pub neither : (a b : Bool) → a || b ≡ false → (a ≡ false) × (b ≡ false)
-neither true b e = absurd (true≢false e)
-neither false b e = (refl, e)
 
 module _ (rec : List ℕ) where
   -- a record without a fault has a good outward code
@@ -96,25 +64,6 @@ module _ (rec : List ℕ) where
       → faultIn 42 viewFields rec ≡ 0
   view-fine concatenation box indicator keys reason =
       view-digits rec _ ∙ rw (keys, concatenation, box, indicator, reason) refl
-
-  -- the PO box among sixteen bytes
-  pub box-text : every textByte (part rec 98 114) ≡ true → every textByte (part rec 107 113) ≡ true
-  box-text all =
-      let behind = every-back textByte (part rec 98 107) (part rec 107 114) (rw (part-join rec 98 107 114 (lit≤ tt) (lit≤ tt)) at all) in
-      every-front textByte (part rec 107 113) (part rec 113 114) (rw (part-join rec 107 113 114 (lit≤ tt) (lit≤ tt)) at behind)
-
-  -- name and department from two parts that overlap
-  pub names-text : every textByte (part rec 42 154) ≡ true → every textByte (part rec 146 162) ≡ true
-      → (every textByte (part rec 42 102) ≡ true) × (every textByte (part rec 102 162) ≡ true)
-  names-text most rest =
-      let front = rw (part-join rec 42 102 154 (lit≤ tt) (lit≤ tt)) at most in
-      let back = rw (part-join rec 146 154 162 (lit≤ tt) (lit≤ tt)) at rest in (
-        every-front textByte (part rec 42 102) (part rec 102 154) front,
-        rw (part-join rec 102 154 162 (lit≤ tt) (lit≤ tt))
-            (every-append textByte (part rec 102 154) (part rec 154 162)
-            (every-back textByte (part rec 42 102) (part rec 102 154) front)
-            (every-back textByte (part rec 146 154) (part rec 154 162) back)),
-      )
 
   -- each type's record
   pub view-record : getD rec 41 0 ≡ 49 → faultIn 0 pointHead rec ≡ 0 → faultIn 42 viewFields rec ≡ 0 → pointFault rec ≡ 0

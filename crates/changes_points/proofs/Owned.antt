@@ -1,38 +1,21 @@
--- Laws of a follower, whose front is its owner's, and of bytes that are blank part by part.
+-- Laws of a follower, whose front is its owner's.
 -- Assumes nothing.
-use Prim.Native.Nat.{ℕ, _+_, _≤_}
+use Prim.Native.Nat.{ℕ, _≤_}
 use mathlib.Core.Path.{_≡_, refl, sym, ap, _∙_}
 use mathlib.Core.Bool.{Bool, true, false, cond, false≢true, _||_}
 use mathlib.Core.List.{List, [], _∷_}
-use native.Mathlib.Omega.{arith}
 use native.Mathlib.Nat.{zero-add}
 use borrow.Author.Tests.{eqb-true, eq-eqb}
 use lib.Dec.{eqb, lit≤}
 use lib.ListN.{getD}
 use Rattle.field.specs.Test.{elem}
-use Rattle.field.specs.Text.{blank, part}
-use Rattle.field.proofs.Parts.{every-append, every-back, part-join}
+use Rattle.field.specs.Text.{part}
 use Rattle.file_record.proofs.Records.{part-part}
 use Rattle.file_fault.specs.Fields.{place, faultIn, oneOf}
 use Rattle.file_fault.specs.Point.{pointHead}
 use Rattle.file_fault.proofs.Laws.{one-byte}
 use Rattle.file_fault.proofs.Passing.{point-passes}
 use Rattle.changes_points.specs.Owned.{Owned}
-
-module _ (rec : List ℕ) where
-  -- spaces behind spaces
-  pub blank-on : (i j k e : ℕ) → e ≡ j → i ≤ j → j ≤ k → blank (part rec i e) ≡ true → blank (part rec j k) ≡ true
-      → blank (part rec i k) ≡ true
-  blank-on i j k e is p q front back =
-      rw (part-join rec i j k p q)
-      (every-append (λ x. eqb x 32) (part rec i j) (part rec j k) (rw is at front) back)
-
-  -- the PO box, by two parts that overlap
-  pub box-blank : blank (part rec 107 111) ≡ true → blank (part rec 109 113) ≡ true → blank (part rec 107 113) ≡ true
-  box-blank front back =
-      blank-on 107 111 113 111 refl (lit≤ tt) (lit≤ tt) front
-      (every-back (λ x. eqb x 32) (part rec 109 111) (part rec 111 113)
-      (rw (part-join rec 109 111 113 (lit≤ tt) (lit≤ tt)) at back))
 
 -- a type that is one of two is one of three
 one-of-three : (b : ℕ) → elem b (50 ∷ 51 ∷ []) ≡ true → elem b (49 ∷ 50 ∷ 51 ∷ []) ≡ true

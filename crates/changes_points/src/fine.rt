@@ -1,9 +1,10 @@
 // Whether a view has no fault at all: asked of many bytes at once, without a place, since most records have none.
 use crate::letter_at;
-use crate::postcode_type_at;
 use crate::type_at;
-use crate::yes_at;
-use field_word::inner::four_blank;
+use file_fault::inner::is_fine_box;
+use file_fault::inner::is_fine_outward;
+use file_fault::inner::postcode_type_at;
+use file_fault::inner::yes_at;
 use file_record::Point;
 use file_record::View;
 use file_record::byte_of;
@@ -13,8 +14,7 @@ ghost use mathlib.Core.Bool.{true};
 ghost use Prim.Native.Nat.{_≤_};
 ghost use lib.ListN.{length};
 ghost use Rattle.field.specs.Digits.{digitsFault};
-ghost use Rattle.field.specs.Text.{blank, textFault, part};
-ghost use Rattle.field_outward.specs.Outward.{outwardFault};
+ghost use Rattle.field.specs.Text.{part};
 ghost use Rattle.file_fault.specs.Fields.{faultIn};
 ghost use Rattle.file_fault.specs.Point.{pointHead, viewFields, pointFault};
 
@@ -38,53 +38,19 @@ fn view_digits(rec: &[u8]) -> bool
     head & (keys & reason)
 }
 
-// Whether the outward code is well formed: that of the record before is, where that is `known`, and most are the same.
-fn is_fine_outward(before: &[u8], rec: &[u8], known: bool) -> bool
-    requires { ⌜ (known ≡ true → pointFault (now before) ≡ 0) ⌝ }
-    ensures { λ r. ⌜ (r ≡ true → outwardFault (part (now (rec .entry)) 14 18) ≡ 0) ⌝ }
-{
-    let code = part_of(rec, Point::OUTWARD, Point::INWARD);
-    let last = part_of(before, Point::OUTWARD, Point::INWARD);
-    if known & file_compare::same_bytes(last, code) {
-        true
-    } else {
-        field_outward::outward_fault(code) == 0
-    }
-}
-
 // Whether the other fields that all types begin with are well formed.
 fn is_fine_head(before: &[u8], rec: &[u8], known: bool) -> bool
     requires { ⌜ (known ≡ true → pointFault (now before) ≡ 0) ⌝ }
     ensures { λ r. ⌜ (r ≡ true → digitsFault (part (now (rec .entry)) 0 14) ≡ 0
         → digitsFault (part (now (rec .entry)) 24 40) ≡ 0 → faultIn 0 pointHead (now (rec .entry)) ≡ 0) ⌝ }
 {
-    let outward = is_fine_outward(before, rec, known);
+    let outward = is_fine_outward(before, rec, Point::OUTWARD, known);
     let inward = field_inward::is_inward(part_of(rec, Point::INWARD, Point::SUFFIX));
     let suffix = field_inward::is_suffix(part_of(rec, Point::SUFFIX, Point::POSTCODE_TYPE));
-    let user = postcode_type_at(rec) == 0;
+    let user = postcode_type_at(rec, Point::POSTCODE_TYPE) == 0;
     let letter = letter_at(rec) == 0;
     let kind = type_at(rec) == 0;
     (outward & (inward & suffix)) & (user & (letter & kind))
-}
-
-// Whether the PO box is blank.
-fn is_blank_box(rec: &[u8]) -> bool
-    requires { ⌜ 168 ≤ length (now rec) ⌝ }
-    ensures { λ r. ⌜ (r ≡ true → blank (part (now (rec .entry)) 107 113) ≡ true) ⌝ }
-{
-    four_blank(rec, View::PO_BOX) & four_blank(rec, View::PO_BOX + 2)
-}
-
-// Whether the PO box is well formed. Sixteen bytes are taken at once: what else is among them may stand in a text too.
-fn is_fine_box(rec: &[u8]) -> bool
-    requires { ⌜ 168 ≤ length (now rec) ⌝ }
-    ensures { λ r. ⌜ (r ≡ true → textFault (part (now (rec .entry)) 107 113) ≡ 0) ⌝ }
-{
-    if !field_test::are_text(part_of(rec, 98, View::REASON)) {
-        return false;
-    }
-    let begins = !field_test::starts_blank(part_of(rec, View::PO_BOX, View::INDICATOR));
-    begins | is_blank_box(rec)
 }
 
 // Whether the other fields of a view are well formed.
@@ -93,7 +59,7 @@ fn is_fine_view(rec: &[u8]) -> bool
     ensures { λ r. ⌜ (r ≡ true → digitsFault (part (now (rec .entry)) 42 106) ≡ 0
         → digitsFault (part (now (rec .entry)) 114 116) ≡ 0 → faultIn 42 viewFields (now (rec .entry)) ≡ 0) ⌝ }
 {
-    if !is_fine_box(rec) {
+    if !is_fine_box(rec, 98, View::PO_BOX) {
         return false;
     }
     let concatenation = yes_at(rec, View::CONCATENATION) == 0;

@@ -9,8 +9,10 @@ use file_fault::inner::filled_at;
 use file_fault::inner::first_of;
 use file_fault::inner::inward_at;
 use file_fault::inner::outward_at;
+use file_fault::inner::postcode_type_at;
 use file_fault::inner::suffix_at;
 use file_fault::inner::text_at;
+use file_fault::inner::yes_at;
 use file_record::Organisation;
 use file_record::Point;
 use file_record::View;
@@ -19,16 +21,9 @@ ghost use mathlib.Core.Path.{_≡_};
 ghost use mathlib.Core.List.{[], _∷_};
 ghost use lib.ListN.{getD};
 ghost use Rattle.field.specs.Test.{elem};
-ghost use Prim.Native.Nat.{_+_, _≤_};
 ghost use Rattle.field.specs.Text.{textFault, part};
 ghost use Rattle.file_fault.specs.Fields.{place, first, faultIn, oneOf};
 ghost use Rattle.file_fault.specs.Point.{pointHead, viewFields, pointRest, pointFault};
-
-fn is_postcode_type(b: u8) -> bool
-    ensures { λ r. ⌜ r ≡ elem b (83 ∷ 76 ∷ []) ⌝ }
-{
-    (b == b'S') | (b == b'L')
-}
 
 fn is_point_letter(b: u8) -> bool
     ensures { λ r. ⌜ r ≡ elem b (66 ∷ 67 ∷ 68 ∷ 73 ∷ []) ⌝ }
@@ -40,21 +35,6 @@ fn is_point_type(b: u8) -> bool
     ensures { λ r. ⌜ r ≡ elem b (49 ∷ 50 ∷ 51 ∷ []) ⌝ }
 {
     (b == b'1') | ((b == b'2') | (b == b'3'))
-}
-
-fn is_yes_or_space(b: u8) -> bool
-    ensures { λ r. ⌜ r ≡ elem b (89 ∷ 32 ∷ []) ⌝ }
-{
-    (b == b'Y') | (b == b' ')
-}
-
-fn postcode_type_at(rec: &[u8]) -> usize
-    ensures { λ r. ⌜ r ≡ place 23 (oneOf (83 ∷ 76 ∷ []) (part (now (rec .entry)) 23 24)) ⌝ }
-{
-    byte_fault(
-        is_postcode_type(byte_of(rec, Point::POSTCODE_TYPE)),
-        Point::POSTCODE_TYPE,
-    )
 }
 
 fn letter_at(rec: &[u8]) -> usize
@@ -69,13 +49,6 @@ fn type_at(rec: &[u8]) -> usize
     byte_fault(is_point_type(byte_of(rec, Point::TYPE)), Point::TYPE)
 }
 
-fn yes_at(rec: &[u8], at: usize) -> usize
-    requires { ⌜ at ≤ 255 ⌝ }
-    ensures { λ r. ⌜ r ≡ place at (oneOf (89 ∷ 32 ∷ []) (part (now (rec .entry)) at (at + 1))) ⌝ }
-{
-    byte_fault(is_yes_or_space(byte_of(rec, at)), at)
-}
-
 // What all types begin with. Neighbouring numeric fields are read as one: their first fault is the same.
 fn point_head_fault(rec: &[u8]) -> usize
     ensures { λ r. ⌜ r ≡ faultIn 0 pointHead (now (rec .entry)) ⌝ }
@@ -83,7 +56,7 @@ fn point_head_fault(rec: &[u8]) -> usize
     let kind = first_of(type_at(rec), 0);
     let letter = first_of(letter_at(rec), kind);
     let both_keys = first_of(digits_at(rec, Point::ADDRESS_KEY, Point::LETTER), letter);
-    let user = first_of(postcode_type_at(rec), both_keys);
+    let user = first_of(postcode_type_at(rec, Point::POSTCODE_TYPE), both_keys);
     let suffix = first_of(suffix_at(rec, Point::SUFFIX, Point::POSTCODE_TYPE), user);
     let inward = first_of(inward_at(rec, Point::INWARD, Point::SUFFIX), suffix);
     let outward = first_of(outward_at(rec, Point::OUTWARD, Point::INWARD), inward);

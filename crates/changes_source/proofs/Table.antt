@@ -2,15 +2,15 @@
 -- Assumes nothing.
 use Prim.Native.Nat.{ℕ, zero, suc, _+_, _-_, _*_, _^_, _≤_, _<_}
 use mathlib.Core.Path.{_≡_, refl, sym, ap, _∙_}
-use mathlib.Core.Bool.{Bool, true, false, cond, _||_}
+use mathlib.Core.Bool.{Bool, true, false, _||_}
 use mathlib.Core.List.{List, [], _∷_}
 use native.Mathlib.Omega.{arith}
 use native.Mathlib.Nat.{zero-add}
 use borrow.Author.Tests.{ne-eqb, eqb-true, le-leb}
 use lib.Dec.{eqb}
 use lib.ListN.{length, getD}
-use Rattle.field.specs.Test.{within, elem, every, only}
-use Rattle.field.specs.Digits.{digit, digitsFault, digitValue, value}
+use Rattle.field.specs.Test.{within, elem, every}
+use Rattle.field.specs.Digits.{digit, digitValue, value}
 use Rattle.field.specs.Text.{part}
 use Rattle.field.proofs.Tests.{and-left, and-right, range-low, range-high}
 use Rattle.field.proofs.Texts.{part-bound}
@@ -21,9 +21,8 @@ use Rattle.file_record.proofs.Records.{part-length, record-length}
 use Rattle.file_compare.specs.Order.{order}
 use Rattle.file_compare.proofs.Order.{above-below, front-below, order-equal, order-bound, below-above}
 use Rattle.file_compare.proofs.Digits.{digits-rise}
-use Rattle.file_fault.specs.Fields.{keyFault}
 use Rattle.file_fault.specs.Table.{tableFault}
-use Rattle.file_fault.proofs.Passing.{digits-pass, table-passes, one-passes}
+use Rattle.file_fault.proofs.Passing.{key-pass, table-passes, one-passes}
 use Rattle.file.specs.Formats.{tableFormat}
 use Rattle.file.specs.Accepted.{Accepted}
 use Rattle.source.specs.Address.{ref, kindOf}
@@ -48,15 +47,6 @@ elem-within low high b (x ∷ xs) all e =
         ap (within low high) (eqb-true b x q) ∙ and-left (within low high x) (every (within low high) xs) all
     by-test false q e later = later e
 
--- a table key is of digits
-key-digits : (s : List ℕ) → keyFault s ≡ 0 → every digit s ≡ true
-unfolding keyFault
-key-digits s e = by-test (only 48 s) e
-  where
-    by-test : (t : Bool) → cond t 1 (digitsFault s) ≡ 0 → every digit s ≡ true
-    by-test true e = absurd (omega arith)
-    by-test false e = digits-pass s e
-
 nine-first : (rec : List ℕ) → (length rec ≡ 0 → ⊥) → part rec 0 9 ≡ getD rec 0 0 ∷ part rec 1 9
 nine-first [] n = absurd (n refl)
 nine-first (x ∷ xs) n = refl
@@ -76,7 +66,7 @@ headed rec long e =
     let type = elem-within 49 53 (getD rec 0 0) bytes refl (one-passes bytes rec 0 (head .0)) in
     let low = range-low 49 53 (getD rec 0 0) type in
     let high = range-high 49 53 (getD rec 0 0) type in
-    let key = key-digits (part rec 1 9) (head .1 .0) in
+    let key = key-pass (part rec 1 9) (head .1 .0) in
     let whole = nine-first rec (λ z. omega arith) in
     let eight : length (part rec 1 9) ≡ 8 = omega (arith, part-length rec 1 9 (omega arith) (omega arith)) in
     let digit-type : digit (getD rec 0 0) ≡ true =

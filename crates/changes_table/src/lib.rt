@@ -4,6 +4,7 @@ pub mod inner;
 
 use file_fault::inner::byte_fault;
 use file_fault::inner::digits_at;
+use file_fault::inner::double_at;
 use file_fault::inner::filled_at;
 use file_fault::inner::first_of;
 use file_fault::inner::key_at;
@@ -11,14 +12,13 @@ use file_fault::inner::text_at;
 use file_record::Locality;
 use file_record::Table;
 use file_record::byte_of;
-use file_record::part_of;
 ghost use mathlib.Core.Path.{_≡_};
 ghost use mathlib.Core.List.{[], _∷_};
 ghost use lib.ListN.{getD};
 ghost use Rattle.field.specs.Test.{elem};
 ghost use Prim.Native.Nat.{_-_, _≤_};
 ghost use Rattle.file_fault.specs.Fields.{field, place, faultIn, oneOf};
-ghost use Rattle.file_fault.specs.Table.{tableHead, tableRest, localityFields, doubleFault, tableFault};
+ghost use Rattle.file_fault.specs.Table.{tableHead, tableRest, localityFields, tableFault};
 ghost use Rattle.field.specs.Text.{filledFault, part};
 
 fn is_table_type(b: u8) -> bool
@@ -55,23 +55,13 @@ fn table_head_fault(rec: &[u8]) -> usize
     first_of(type_at(rec), key)
 }
 
-// A double dependent locality needs a dependent one.
-fn double_at(rec: &[u8]) -> usize
-    ensures { λ r. ⌜ r ≡ place 134 (doubleFault (part (now (rec .entry)) 99 134) (part (now (rec .entry)) 134 169)) ⌝ }
-{
-    let dependent = part_of(rec, Locality::DEPENDENT, Locality::DOUBLE);
-    let double = part_of(rec, Locality::DOUBLE, Locality::END);
-    if field_test::all_are(dependent, b' ') & !field_test::all_are(double, b' ') {
-        Locality::DOUBLE + 1
-    } else {
-        text_at(rec, Locality::DOUBLE, Locality::END)
-    }
-}
-
 fn locality_fault(rec: &[u8]) -> usize
     ensures { λ r. ⌜ r ≡ faultIn 24 (localityFields (now (rec .entry))) (now (rec .entry)) ⌝ }
 {
-    let double = first_of(double_at(rec), 0);
+    let double = first_of(
+        double_at(rec, Locality::DEPENDENT, Locality::DOUBLE, Locality::END),
+        0,
+    );
     let dependent = first_of(text_at(rec, Locality::DEPENDENT, Locality::DOUBLE), double);
     first_of(
         filled_at(rec, Locality::TOWN, Locality::DEPENDENT),

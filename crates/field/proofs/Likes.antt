@@ -10,7 +10,7 @@ use lib.Dec.{eqb}
 use lib.ListN.{length, getD}
 use Rattle.field.specs.Digits.{digit}
 use Rattle.field.specs.Text.{letter, fromEnd, numericLike}
-use Rattle.field.proofs.Tests.{and-false}
+use Rattle.field.proofs.Tests.{and-false, or-false}
 
 -- fewer than two bytes: one
 pub like-short : (s : List ℕ) → length s < 2 → numericLike s ≡ eqb (length s) 1
@@ -34,7 +34,3 @@ module _ (s : List ℕ) (long : 2 ≤ length s) where
   like-long f =
       simp (le-leb 2 (length s) long, f, ne-eqb (length s) 1 (λ e. omega arith))
       (or-false (digit (fromEnd s 1) || (digit (fromEnd s 2) && letter (fromEnd s 1))))
-    where
-      or-false : (t : Bool) → t || false ≡ t
-      or-false true = refl
-      or-false false = refl

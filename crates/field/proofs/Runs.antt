@@ -2,7 +2,7 @@
 -- Assumes nothing.
 use Prim.Native.Nat.{ℕ, zero, suc, _+_, _≤_, _<_}
 use mathlib.Core.Path.{_≡_, refl, sym, ap, _∙_}
-use mathlib.Core.Bool.{Bool, true, false, cond, _||_}
+use mathlib.Core.Bool.{true, false, cond}
 use mathlib.Core.List.{List, [], _∷_, map}
 use mathlib.Core.Logic.{inl, inr, ⊎-elim}
 use native.Mathlib.Omega.{arith}
@@ -12,6 +12,7 @@ use types.Run.{OneOf}
 use lib.Dec.{eqb}
 use lib.ListN.{replicate}
 use Rattle.field.specs.Test.{elem}
+use Rattle.field.proofs.Tests.{or-true}
 
 -- n numbers from lo
 abbrev pub numbers : ℕ → ℕ → List ℕ
@@ -47,11 +48,7 @@ pub one-of : (keys : List ℕ) (b : ℕ) → OneOf keys b → elem b keys ≡ tr
 one-of [] b h = absurd h
 one-of (k ∷ []) b h = simp (eq-eqb b k h)
 one-of (k ∷ k′ ∷ ks) b (inl e) = simp (eq-eqb b k e)
-one-of (k ∷ k′ ∷ ks) b (inr later) = rw (one-of (k′ ∷ ks) b later) (either (eqb b k))
-  where
-    either : (t : Bool) → t || true ≡ true
-    either true = refl
-    either false = refl
+one-of (k ∷ k′ ∷ ks) b (inr later) = rw (one-of (k′ ∷ ks) b later) (or-true (eqb b k))
 
 -- and one that is none of them
 pub none-of : (keys : List ℕ) (b : ℕ) → (OneOf keys b → ⊥) → elem b keys ≡ false

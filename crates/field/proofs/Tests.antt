@@ -75,6 +75,14 @@ one-byte b x = one-range b b x ∙ by-test (eqb x b) refl
         simp (le-leb b x (omega arith), le-leb x b (omega arith))
     by-test false e = above (leb b x) (eqb-false x b e) refl
 
+pub or-true : (a : Bool) → a || true ≡ true
+or-true true = refl
+or-true false = refl
+
 pub or-false : (a : Bool) → a || false ≡ a
 or-false true = refl
 or-false false = refl
+
+pub or-assoc : (a b c : Bool) → a || (b || c) ≡ (a || b) || c
+or-assoc true b c = refl
+or-assoc false b c = refl

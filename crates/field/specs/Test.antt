@@ -30,6 +30,6 @@ abbrev pub faultFrom : (ℕ → Bool) → ℕ → List ℕ → ℕ
 faultFrom ok at [] = 0
 faultFrom ok at (x ∷ xs) = cond (ok x) (faultFrom ok (suc at) xs) at
 
--- "at which byte of its field the first fault stands (1 is the first byte)"
+-- "at which byte of its field the first fault stands (1 is the first byte; .."
 abbrev pub firstFault : (ℕ → Bool) → List ℕ → ℕ
 firstFault ok s = faultFrom ok 1 s

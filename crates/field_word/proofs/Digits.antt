@@ -104,26 +104,26 @@ eight-value (a ∷ b ∷ c ∷ d ∷ f ∷ []) w n e p = absurd (omega arith)
 eight-value (a ∷ b ∷ c ∷ d ∷ f ∷ g ∷ []) w n e p = absurd (omega arith)
 eight-value (a ∷ b ∷ c ∷ d ∷ f ∷ g ∷ h ∷ []) w n e p = absurd (omega arith)
 eight-value (a ∷ b ∷ c ∷ d ∷ f ∷ g ∷ h ∷ i ∷ []) w n e p =
-    let e₁ = digits-rest a (b ∷ c ∷ d ∷ f ∷ g ∷ h ∷ i ∷ []) e in
-    let e₂ = digits-rest b (c ∷ d ∷ f ∷ g ∷ h ∷ i ∷ []) e₁ in
-    let e₃ = digits-rest c (d ∷ f ∷ g ∷ h ∷ i ∷ []) e₂ in
-    let e₄ = digits-rest d (f ∷ g ∷ h ∷ i ∷ []) e₃ in
-    let e₅ = digits-rest f (g ∷ h ∷ i ∷ []) e₄ in
-    let e₆ = digits-rest g (h ∷ i ∷ []) e₅ in
-    let e₇ = digits-rest h (i ∷ []) e₆ in
+    let behind-first = digits-rest a (b ∷ c ∷ d ∷ f ∷ g ∷ h ∷ i ∷ []) e in
+    let behind-second = digits-rest b (c ∷ d ∷ f ∷ g ∷ h ∷ i ∷ []) behind-first in
+    let behind-third = digits-rest c (d ∷ f ∷ g ∷ h ∷ i ∷ []) behind-second in
+    let behind-fourth = digits-rest d (f ∷ g ∷ h ∷ i ∷ []) behind-third in
+    let behind-fifth = digits-rest f (g ∷ h ∷ i ∷ []) behind-fourth in
+    let behind-sixth = digits-rest g (h ∷ i ∷ []) behind-fifth in
+    let behind-seventh = digits-rest h (i ∷ []) behind-sixth in
     let is : w - row 48 8
     ≡ eight (digitValue a) (digitValue b) (digitValue c) (digitValue d) (digitValue f) (digitValue g) (digitValue h) (digitValue i) =
     omega (
       arith,
       p .is,
       digit-first a (b ∷ c ∷ d ∷ f ∷ g ∷ h ∷ i ∷ []) e,
-      digit-first b (c ∷ d ∷ f ∷ g ∷ h ∷ i ∷ []) e₁,
-      digit-first c (d ∷ f ∷ g ∷ h ∷ i ∷ []) e₂,
-      digit-first d (f ∷ g ∷ h ∷ i ∷ []) e₃,
-      digit-first f (g ∷ h ∷ i ∷ []) e₄,
-      digit-first g (h ∷ i ∷ []) e₅,
-      digit-first h (i ∷ []) e₆,
-      digit-first i [] e₇,
+      digit-first b (c ∷ d ∷ f ∷ g ∷ h ∷ i ∷ []) behind-first,
+      digit-first c (d ∷ f ∷ g ∷ h ∷ i ∷ []) behind-second,
+      digit-first d (f ∷ g ∷ h ∷ i ∷ []) behind-third,
+      digit-first f (g ∷ h ∷ i ∷ []) behind-fourth,
+      digit-first g (h ∷ i ∷ []) behind-fifth,
+      digit-first h (i ∷ []) behind-sixth,
+      digit-first i [] behind-seventh,
     ) in
     rw is
     (pairs-say (digitValue a) (digitValue b) (digitValue c) (digitValue d) (digitValue f) (digitValue g) (digitValue h)

@@ -17,16 +17,54 @@ use Rattle.refusal.specs.declared.Verdict.the-variants.{Fine, Bad}
 use Rattle.file.specs.Check.{Format, records, whole, at, rises, inPlace, judged, scan, verdict}
 use Rattle.file.specs.Formats.{formatOf}
 use Rattle.file.specs.declared.Kind.{Kind}
-use Rattle.file.specs.declared.Kind.the-variants.{Table, Points}
+use Rattle.file.specs.declared.Kind.the-variants.{Table, Points, Main}
+use Rattle.file.specs.declared.MainKind.{MainKind}
+use Rattle.file.specs.declared.MainKind.the-variants.{
+  Localities,
+  Thoroughfares,
+  Descriptors,
+  Buildings,
+  SubBuildings,
+  Organisations,
+  Addresses,
+}
+use Rattle.file.specs.Mainfile.{mainLimit, mainFormat}
+
+-- what the files of a set have in common: "at most 1,000,000 records each", "6 doesn't occur"
+pub main-limit : (file : MainKind) → mainFormat file .limit ≡ mainLimit
+main-limit Localities = refl
+main-limit Thoroughfares = refl
+main-limit Descriptors = refl
+main-limit Buildings = refl
+main-limit SubBuildings = refl
+main-limit Organisations = refl
+main-limit Addresses = refl
+
+pub main-between : (file : MainKind) (before rec next : List ℕ) → mainFormat file .between before rec next ≡ true
+main-between Localities before rec next = refl
+main-between Thoroughfares before rec next = refl
+main-between Descriptors before rec next = refl
+main-between Buildings before rec next = refl
+main-between SubBuildings before rec next = refl
+main-between Organisations before rec next = refl
+main-between Addresses before rec next = refl
 
 -- no format has more records than a refusal can name
 pub limit-few : (kind : Kind) → formatOf kind .limit ≤ 1_000_000
 limit-few Table = lit≤ tt
 limit-few Points = lit≤ tt
+limit-few (Main file) = rw (main-limit file) (lit≤ tt)
 
 pub width-some : (kind : Kind) → 1 ≤ formatOf kind .width
 width-some Table = lit≤ tt
 width-some Points = lit≤ tt
+width-some (Main Localities) = lit≤ tt
+width-some (Main Thoroughfares) = lit≤ tt
+width-some (Main Descriptors) = lit≤ tt
+width-some (Main Buildings) = lit≤ tt
+width-some (Main SubBuildings) = lit≤ tt
+width-some (Main Organisations) = lit≤ tt
+width-some (Main Addresses) = lit≤ tt
 
 -- a whole file has from 2 up to the limit's records
 module _ (f : Format) (file : List ℕ) (is-whole : whole f file ≡ true) where

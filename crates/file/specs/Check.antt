@@ -48,7 +48,7 @@ module _ (f : Format) (file : List ℕ) where
   abbrev pub records : ℕ
   records = length file / f .width
 
-  -- "A file is 2 to 20,000 records end to end"
+  -- "A file is 2 to 20,000 records end to end", or to the limit of its format
   abbrev pub whole : Bool
   whole = eqb (records * f .width) (length file) && (leb 2 records && leb records (f .limit))
 

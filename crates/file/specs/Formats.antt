@@ -16,7 +16,8 @@ use Rattle.file_fault.specs.Table.{tableFault}
 use Rattle.file_fault.specs.Point.{pointFault}
 use Rattle.file.specs.Check.{Format}
 use Rattle.file.specs.declared.Kind.{Kind}
-use Rattle.file.specs.declared.Kind.the-variants.{Table, Points}
+use Rattle.file.specs.declared.Kind.the-variants.{Table, Points, Main}
+use Rattle.file.specs.Mainfile.{mainFormat}
 
 -- `CHANGES` and a digit
 abbrev pub changes : ℕ → List ℕ
@@ -82,3 +83,4 @@ pointFormat =
 abbrev pub formatOf : Kind → Format
 formatOf Table = tableFormat
 formatOf Points = pointFormat
+formatOf (Main file) = mainFormat file

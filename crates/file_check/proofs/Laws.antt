@@ -7,7 +7,7 @@ use native.Mathlib.Omega.{arith}
 use Rattle.refusal.specs.declared.Verdict.the-variants.{Fine}
 use Rattle.file.specs.Check.{Format, records, judged}
 use Rattle.file.proofs.Laws.{scan-step}
-use Rattle.file_formats.specs.Walk.{Walk}
+use Rattle.file.specs.Walk.{Walk}
 use Rattle.file_check.specs.Scanning.{Scanning, Onward}
 
 module _ (f : Format) (file : List ℕ) (n : ℕ) where

@@ -11,6 +11,7 @@
 //   6 Follower   a record that may not stand between its neighbours
 // A refusal counts records and bytes from 1; the code counts records from 0. `file_formats` has what differs by kind.
 use file::Kind;
+use file::MainKind;
 use file_formats::inner::fault_in;
 use file_formats::inner::is_above;
 use file_formats::inner::is_between;
@@ -30,6 +31,7 @@ ghost use Prim.Native.Nat.{_+_, _-_, _≤_, _<_};
 ghost use Rattle.file.specs.Check.{records, judged, scan, verdict, answered, checked};
 ghost use Rattle.file_check.specs.Scanning.{Scanning, Onward};
 ghost use Rattle.file.specs.Formats.{formatOf, tableFormat, pointFormat};
+ghost use Rattle.file.specs.Mainfile.{mainFormat};
 
 // Record `i`, counted from 0, between header and trailer: 4, then 5, then 6.
 fn judge(kind: Kind, file: &[u8], i: usize) -> Verdict
@@ -127,4 +129,11 @@ pub fn check_points(file: &[u8]) -> Answer
     ensures { λ r. ⌜ r ≡ checked pointFormat (now (file .entry)) ⌝ }
 {
     check(Kind::Points, file)
+}
+
+// A file of a Mainfile set.
+pub fn check_main(kind: MainKind, file: &[u8]) -> Answer
+    ensures { λ r. ⌜ r ≡ checked (mainFormat kind) (now (file .entry)) ⌝ }
+{
+    check(Kind::Main(kind), file)
 }

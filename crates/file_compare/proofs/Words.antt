@@ -2,7 +2,7 @@
 -- Assumes nothing.
 use Prim.Native.Nat.{ℕ, _+_, _-_, _≤_, _<_}
 use mathlib.Core.Path.{_≡_, refl, sym, ap, ap₂, _∙_}
-use mathlib.Core.Bool.{true}
+use mathlib.Core.Bool.{true, cond}
 use mathlib.Core.List.{List, [], _∷_, _++_}
 use native.Mathlib.Omega.{arith}
 use borrow.Author.Tests.{lt-ltb, le-ltb, eq-eqb}
@@ -14,7 +14,7 @@ use Rattle.field_word.specs.Word.{weight, Bytes, Word, Weight}
 use Rattle.field_word.proofs.Laws.{part-eight, same-words, lighter}
 use Rattle.file_compare.specs.Order.{order, same, above}
 use Rattle.file_compare.proofs.Laws.{order-step, order-end-same}
-use Rattle.file_compare.proofs.Order.{by-bytes, first-below, first-same, below-above}
+use Rattle.file_compare.proofs.Order.{by-bytes, first-below, first-above, first-same, below-above}
 
 -- what both begin with decides nothing
 pub order-behind : (p x y : List ℕ) → order (p ++ x) (p ++ y) ≡ order x y
@@ -38,7 +38,22 @@ weight-below (a ∷ p) (b ∷ q) x y e s t h =
     lighter-rest : (c d : ℕ) (u v : List ℕ) → length u ≡ length v → c ≡ d → weight (c ∷ u) < weight (d ∷ v) → weight u < weight v
     lighter-rest c d u v k m l = omega (arith, rw (k, m) at l)
 
-weight-same : (p q : List ℕ) → length p ≡ length q → Bytes p → Bytes q → weight p ≡ weight q → p ≡ q
+-- and the heavier one above
+pub weight-above : (p q x y : List ℕ) → length p ≡ length q → Bytes p → Bytes q → weight q < weight p → order (p ++ x) (q ++ y) ≡ 2
+weight-above p q x y e s t h = below-above (q ++ y) (p ++ x) (weight-below q p y x (sym e) t s h)
+
+-- of fronts as long as each other the first that differ decide
+pub order-join : (p q x y : List ℕ) → length p ≡ length q → order (p ++ x) (q ++ y) ≡ cond (eqb (order p q) 0) (order x y) (order p q)
+order-join [] [] x y e = refl
+order-join [] (b ∷ q) x y e = absurd (omega arith)
+order-join (a ∷ p) [] x y e = absurd (omega arith)
+order-join (a ∷ p) (b ∷ q) x y e =
+    by-bytes a b
+    (λ l. rw (first-below a b (p ++ x) (q ++ y) l, first-below a b p q l) refl)
+    (λ m. rw (first-same a b (p ++ x) (q ++ y) m, first-same a b p q m) (order-join p q x y (omega arith)))
+    (λ g. rw (first-above a b (p ++ x) (q ++ y) g, first-above a b p q g) refl)
+
+pub weight-same : (p q : List ℕ) → length p ≡ length q → Bytes p → Bytes q → weight p ≡ weight q → p ≡ q
 weight-same [] [] e s t h = refl
 weight-same [] (b ∷ q) e s t h = absurd (omega arith)
 weight-same (a ∷ p) [] e s t h = absurd (omega arith)

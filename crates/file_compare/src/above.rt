@@ -44,6 +44,14 @@ pub fn is_above_42(a: &[u8], b: &[u8]) -> bool
     is_above_behind(a, b, same_forty(a, b))
 }
 
+// Whether the first is known to be above the second: its first eight bytes are.
+pub fn is_above_8(a: &[u8], b: &[u8]) -> bool
+    requires { ⌜ (8 ≤ length (now a)) × (8 ≤ length (now b)) ⌝ }
+    ensures { λ r. ⌜ (r ≡ true → above (now (a .entry)) (now (b .entry)) ≡ true) ⌝ }
+{
+    weight_at(b, 0) < weight_at(a, 0)
+}
+
 // Whether two slices of 41 bytes are known to be the same, eight bytes at a time.
 pub fn is_same_41(a: &[u8], b: &[u8]) -> bool
     requires { ⌜ (length (now a) ≡ 41) × (length (now b) ≡ 41) ⌝ }

@@ -34,7 +34,7 @@ unfolding oneOf
 one-byte bytes rec at = rw (part-byte rec at)
 
 -- a field's fault stays within the record
-module _ (rec : List ℕ) (start end : ℕ) (ordered : start ≤ end) (small : end ≤ 255) where
+module _ (rec : List ℕ) (start end : ℕ) (ordered : start ≤ end) (small : end ≤ 1000) where
   pub in-record : (fault : ℕ) → fault ≤ 1 + length (part rec start end) → start + fault ≤ 4096
   in-record fault h = omega (arith, part-bound rec start end)
 

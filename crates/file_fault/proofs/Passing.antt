@@ -6,11 +6,11 @@ use mathlib.Core.Bool.{Bool, true, false, cond}
 use mathlib.Core.List.{List, [], _∷_}
 use native.Mathlib.Omega.{arith}
 use lib.ListN.{getD}
-use Rattle.field.specs.Test.{elem, every}
+use Rattle.field.specs.Test.{elem, every, only}
 use Rattle.field.specs.Digits.{digit, digitsFault}
 use Rattle.field.specs.Text.{part}
 use Rattle.field.proofs.Faults.{no-fault-every}
-use Rattle.file_fault.specs.Fields.{Field, place, first, faultIn, oneOf}
+use Rattle.file_fault.specs.Fields.{Field, place, first, faultIn, oneOf, keyFault}
 use Rattle.file_fault.specs.Point.{pointHead, viewFields, pointRest, pointFault}
 use Rattle.file_fault.specs.Table.{tableHead, tableRest, tableFault}
 use Rattle.file_fault.proofs.Laws.{one-byte}
@@ -39,6 +39,15 @@ fields-pass start (f ∷ fs) rec e =
 pub digits-pass : (s : List ℕ) → digitsFault s ≡ 0 → every digit s ≡ true
 unfolding digitsFault
 digits-pass s e = no-fault-every digit s 0 e
+
+-- a table key is of digits
+pub key-pass : (s : List ℕ) → keyFault s ≡ 0 → every digit s ≡ true
+unfolding keyFault
+key-pass s e = by-test (only 48 s) e
+  where
+    by-test : (t : Bool) → cond t 1 (digitsFault s) ≡ 0 → every digit s ≡ true
+    by-test true e = absurd (omega arith)
+    by-test false e = digits-pass s e
 
 -- every field of a point record that has no fault
 pub point-passes : (rec : List ℕ) → pointFault rec ≡ 0

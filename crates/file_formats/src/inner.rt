@@ -2,12 +2,12 @@
 pub use crate::standing::is_standing;
 use file::Kind;
 use file::inner::is_placed;
+use file::is_front_above;
 use file_record::Point;
 use file_record::Table;
 ghost use mathlib.Core.Path.{_≡_};
 ghost use Prim.Native.Nat.{_+_, _≤_, _<_};
-ghost use Rattle.field.specs.Text.{part};
-ghost use Rattle.file_compare.specs.Order.{above};
+ghost use lib.ListN.{length};
 ghost use Rattle.file.specs.Check.{records, whole, at, higher, inSequence, inPlace};
 ghost use Rattle.file.specs.Formats.{formatOf};
 
@@ -33,6 +33,11 @@ pub fn numbers_of(kind: Kind) -> Numbers
             file: 2,
             width: Point::WIDTH,
             limit: 20000,
+        },
+        Kind::Main(main) => Numbers {
+            file: mainfile_formats::inner::file_of(main),
+            width: mainfile_formats::inner::width_of(main),
+            limit: 1000000,
         },
     }
 }
@@ -66,6 +71,7 @@ pub fn record_in(kind: Kind, file: &[u8], i: usize) -> &[u8]
     match kind {
         Kind::Table => file_record::inner::whole_record(file, Table::WIDTH, i),
         Kind::Points => file_record::inner::whole_record(file, Point::WIDTH, i),
+        Kind::Main(main) => mainfile_formats::inner::record_in(main, file, i),
     }
 }
 
@@ -75,6 +81,7 @@ pub fn is_header(kind: Kind, rec: &[u8]) -> bool
     match kind {
         Kind::Table => file_ends::header_ok(rec, Table::IDENTIFIER, b"CHANGES1"),
         Kind::Points => file_ends::header_ok(rec, Point::IDENTIFIER, b"CHANGES2"),
+        Kind::Main(main) => mainfile_formats::inner::is_header(main, rec),
     }
 }
 
@@ -85,6 +92,7 @@ pub fn is_trailer(kind: Kind, rec: &[u8], n: usize) -> bool
     match kind {
         Kind::Table => file_ends::trailer_ok(rec, Table::IDENTIFIER, n),
         Kind::Points => file_ends::trailer_ok(rec, Point::IDENTIFIER, n),
+        Kind::Main(main) => mainfile_formats::inner::is_trailer(main, rec, n),
     }
 }
 
@@ -95,32 +103,25 @@ pub fn fault_in(kind: Kind, rec: &[u8]) -> usize
     match kind {
         Kind::Table => changes_table::table_fault(rec),
         Kind::Points => changes_points::point_fault(rec),
+        Kind::Main(main) => mainfile_formats::inner::fault_in(main, rec),
     }
-}
-
-// Whether the first `n` bytes of a record are above those of the one before.
-fn is_front_above(n: usize, before: &[u8], rec: &[u8]) -> bool
-    ensures { λ r. ⌜ r ≡ above (part (now (rec .entry)) 0 n) (part (now (before .entry)) 0 n) ⌝ }
-{
-    let order = file_compare::order_of(
-        file_record::part_of(rec, 0, n),
-        file_record::part_of(before, 0, n),
-    );
-    order == 2
 }
 
 // Whether what the sequence compares of a record is above that of the one before.
 fn is_higher(kind: Kind, before: &[u8], rec: &[u8]) -> bool
+    requires { ⌜ (formatOf kind .width ≤ length (now before)) × (formatOf kind .width ≤ length (now rec)) ⌝ }
     ensures { λ r. ⌜ r ≡ higher (formatOf kind) (now (before .entry)) (now (rec .entry)) ⌝ }
 {
     match kind {
         Kind::Table => is_front_above(Table::TEXT, before, rec),
         Kind::Points => is_front_above(Point::REST, before, rec),
+        Kind::Main(main) => mainfile_formats::inner::is_higher(main, before, rec),
     }
 }
 
 // Whether record `i` is above the one before it; the first behind the header has none before it.
 pub fn is_above(kind: Kind, i: usize, before: &[u8], rec: &[u8]) -> bool
+    requires { ⌜ (formatOf kind .width ≤ length (now before)) × (formatOf kind .width ≤ length (now rec)) ⌝ }
     ensures { λ r. ⌜ r ≡ inSequence (formatOf kind) i (now (before .entry)) (now (rec .entry)) ⌝ }
 {
     let higher = is_higher(kind, before, rec);
@@ -135,5 +136,6 @@ pub fn is_between(kind: Kind, file: &[u8], i: usize) -> bool
     match kind {
         Kind::Table => true,
         Kind::Points => is_placed(file, i),
+        Kind::Main(main) => true,
     }
 }

@@ -15,7 +15,7 @@ ghost use lib.ListN.{getD};
 ghost use Rattle.refusal.specs.declared.Verdict.the-variants.{Fine};
 ghost use Rattle.file.specs.Check.{at, judged};
 ghost use Rattle.file.specs.Formats.{formatOf, tableFormat, pointFormat};
-ghost use Rattle.file_formats.specs.Walk.{Walk};
+ghost use Rattle.file.specs.Walk.{Walk};
 
 // A row of a table file.
 fn is_standing_row(file: &[u8], i: usize) -> bool
@@ -85,5 +85,6 @@ pub fn is_standing(kind: Kind, file: &[u8], i: usize) -> bool
     match kind {
         Kind::Table => is_standing_row(file, i),
         Kind::Points => is_standing_point(file, i),
+        Kind::Main(main) => mainfile_formats::inner::is_standing(main, file, i),
     }
 }

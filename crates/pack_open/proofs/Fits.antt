@@ -1,4 +1,5 @@
--- None of the texts that a point of an opened pack is printed from is longer than its field; and how many points a pack can have.
+-- None of the texts that a point of an opened pack is printed from is longer than its field, and each has bytes of a text
+-- only; and how many points a pack can have.
 -- Assumes nothing.
 use Prim.Native.Nat.{ℕ, zero, suc, _+_, _-_, _*_, _≤_, _<_}
 use mathlib.Core.Path.{_≡_, refl, sym, subst}
@@ -8,6 +9,8 @@ use native.Mathlib.Omega.{arith}
 use borrow.Author.Tests.{leb-true, eqb-true, eqb-false, ne-eqb}
 use lib.Dec.{eqb, leb, lit<}
 use lib.ListN.{length, getD}
+use Rattle.field.specs.Test.{every}
+use Rattle.field.specs.Text.{textByte}
 use Rattle.field.proofs.Tests.{and-left, and-right}
 use Rattle.field.proofs.Texts.{part-bound}
 use Rattle.field.proofs.Fronts.{text-in-bound}
@@ -26,17 +29,25 @@ text-fits : (s : Slot) (t : List ℕ) → textGood s t ≡ true → length t ≤
 unfolding textGood
 text-fits s t good = leb-true (length t) (s .width) (and-left (leb (length t) (s .width)) _ good)
 
--- how long the n-th of these texts may be
+-- "texts well formed"
+pub text-bytes : (s : Slot) (t : List ℕ) → textGood s t ≡ true → every textByte t ≡ true
+unfolding textGood
+text-bytes s t good = and-left (every textByte t) _ (and-right (leb (length t) (s .width)) _ good)
+
+-- the slot of the n-th of these texts, and how long it may be
+abbrev slotAt : List Slot → ℕ → Slot
+slotAt ss n = getD ss n (slot 0 true)
+
 abbrev widest : List Slot → ℕ → ℕ
-widest ss n = getD ss n (slot 0 true) .width
+widest ss n = slotAt ss n .width
 
 module _ (rows : List ℕ) where
-  texts-fit : (ss : List Slot) (at n : ℕ) → textsGood rows ss at ≡ true → n < length ss
-      → length (textAt rows (textPlace rows n at)) ≤ widest ss n
-  texts-fit [] at n good h = absurd (omega arith)
-  texts-fit (s ∷ ss) at zero good h = text-fits s (textAt rows at) (and-left (textGood s (textAt rows at)) _ good)
-  texts-fit (s ∷ ss) at (suc n) good h =
-      texts-fit ss (textEnd rows at) n (and-right (textGood s (textAt rows at)) _ good) (omega arith)
+  nth-good : (ss : List Slot) (at n : ℕ) → textsGood rows ss at ≡ true → n < length ss
+      → textGood (slotAt ss n) (textAt rows (textPlace rows n at)) ≡ true
+  nth-good [] at n good h = absurd (omega arith)
+  nth-good (s ∷ ss) at zero good h = and-left (textGood s (textAt rows at)) _ good
+  nth-good (s ∷ ss) at (suc n) good h =
+      nth-good ss (textEnd rows at) n (and-right (textGood s (textAt rows at)) _ good) (omega arith)
 
   row-texts : (low at : ℕ) → rowGood rows low at ≡ true → textsGood rows (slotsOf (rowKind rows at)) (at + 1) ≡ true
   unfolding rowGood
@@ -77,22 +88,31 @@ module _ (pack : List ℕ) (rows : allRowsGood pack ≡ true) (rest n kind : ℕ
       rw (eqb-true (rowKind area offset) kind (and-right (isStart area (rowCount pack) 0 offset) _ there)) at
       (start-texts area (rowCount pack) 1 0 offset rows (and-left _ (eqb (rowKind area offset) kind) there))
 
-  offset-fits : (which : ℕ) → which < length (slotsOf kind)
-      → length (offsetText pack rest n which) ≤ widest (slotsOf kind) which
-  offset-fits which h = by-test (eqb offset absent) refl
-    where
-      by-test : (t : Bool) → eqb offset absent ≡ t
-          → length (cond t [] (rowText area offset which)) ≤ widest (slotsOf kind) which
-      by-test true e = omega arith
-      by-test false e =
-          texts-fit area (slotsOf kind) (offset + 1) which (offset-texts (eqb-false offset absent e)) h
+  module _ (which : ℕ) (h : which < length (slotsOf kind)) where
+    row-good : (offset ≡ absent → ⊥) → textGood (slotAt (slotsOf kind) which) (rowText area offset which) ≡ true
+    row-good given = nth-good area (slotsOf kind) (offset + 1) which (offset-texts given) h
+
+    offset-fits : length (offsetText pack rest n which) ≤ widest (slotsOf kind) which
+    offset-fits = by-test (eqb offset absent) refl
+      where
+        by-test : (t : Bool) → eqb offset absent ≡ t
+            → length (cond t [] (rowText area offset which)) ≤ widest (slotsOf kind) which
+        by-test true e = omega arith
+        by-test false e = text-fits (slotAt (slotsOf kind) which) _ (row-good (eqb-false offset absent e))
+
+    pub offset-bytes : every textByte (offsetText pack rest n which) ≡ true
+    offset-bytes = by-test (eqb offset absent) refl
+      where
+        by-test : (t : Bool) → eqb offset absent ≡ t → every textByte (cond t [] (rowText area offset which)) ≡ true
+        by-test true e = refl
+        by-test false e = text-bytes (slotAt (slotsOf kind) which) _ (row-good (eqb-false offset absent e))
 
 -- ---- points
 
 -- a point whose parts are good
 module _ (pack : List ℕ) (rows : allRowsGood pack ≡ true) (at rest : ℕ) (good : partsGood pack at rest ≡ true) where
   -- the offsets from the n-th on, each of its kind
-  abbrev Offsets : ℕ → List ℕ → Type 0
+  abbrev pub Offsets : ℕ → List ℕ → Type 0
   Offsets n [] = Unit {0}
   Offsets n (kind ∷ kinds) =
       (offsetGood (rowArea pack) (rowCount pack) kind (offsetOfPoint pack rest n) ≡ true) × Offsets (suc n) kinds
@@ -103,7 +123,7 @@ module _ (pack : List ℕ) (rows : allRowsGood pack ≡ true) (at rest : ℕ) (g
       let here = offsetGood (rowArea pack) (rowCount pack) kind (offsetOfPoint pack rest n) in
       (and-left here (offsetsGood pack rest (suc n) kinds) good, offsets (suc n) kinds (and-right here _ good))
 
-  all-offsets : Offsets 0 offsetKinds
+  pub all-offsets : Offsets 0 offsetKinds
   unfolding partsGood
   all-offsets = offsets 0 offsetKinds (and-left (offsetsGood pack rest 0 offsetKinds) _ good)
 
@@ -140,14 +160,17 @@ each-point pack (suc n) at (suc i) good h =
     (each-point pack n (at + w) i (and-right (pointGood pack at) _ good) (omega arith))
 
 -- the k-th point of a pack that opens, counted from 1
-pub point-fits : (pack : List ℕ) (n k : ℕ) → opened pack ≡ Value n → 1 ≤ k → k ≤ n
-    → Fits (elementsAt pack (pointPlace pack k))
-unfolding allPointsGood
-point-fits pack n k e low high =
-    let is = opened-all pack n e in
-    let place = pointPlace pack k in
-    parts-fit pack (is .rows) place (restOf pack place)
-    (each-point pack (pointCount pack) (pointsStart pack) (k - 1) (is .points) (omega (arith, is .counted)))
+module _ (pack : List ℕ) (n k : ℕ) (opens : opened pack ≡ Value n) (low : 1 ≤ k) (high : k ≤ n) where
+  pub point-good : pointGood pack (pointPlace pack k) ≡ true
+  unfolding allPointsGood
+  point-good =
+      let is = opened-all pack n opens in
+      each-point pack (pointCount pack) (pointsStart pack) (k - 1) (is .points) (omega (arith, is .counted))
+
+  pub point-fits : Fits (elementsAt pack (pointPlace pack k))
+  point-fits =
+      let place = pointPlace pack k in
+      parts-fit pack (opened-all pack n opens .rows) place (restOf pack place) point-good
 
 -- a number of four bytes says how many points there are
 pub points-few : (pack : List ℕ) → ((i : ℕ) → getD pack i 0 < 256) → pointCount pack < 4_294_967_296

@@ -10,13 +10,14 @@ use borrow.Author.Tests.{le-leb, lt-leb, eqb-true}
 use lib.Dec.{eqb, leb, lit<}
 use lib.ListN.{length, getD, replicate, length-replicate}
 use Rattle.field.proofs.Tests.{and-right}
+use Rattle.bits.specs.Bits.{marked, Unmarked}
 use Rattle.field_outward.specs.Outward.{outwardFault}
 use Rattle.pack.specs.Names.{known, pointWidth, trailerWidth}
 use Rattle.pack.specs.Opening.{edition, rowCount, pointsStart, pointCount, outward, lengthSaid, trailerGood}
 use Rattle.pack_read.specs.declared.layout.Layout.{Layout}
 use Rattle.pack_read.specs.Laid.{LaidIn}
 use Rattle.pack_rows.specs.Walks.{GoodRows, Cut, Starts}
-use Rattle.pack_rows.specs.Marks.{marked, Unmarked, Fine}
+use Rattle.pack_rows.specs.Marks.{Fine}
 use Rattle.pack_points.specs.Ready.{Sized, Marked, Told, Kept}
 
 module _ (pack : List ℕ) where

@@ -12,7 +12,7 @@ use lib.ListN.{length, take, drop, getD, length-drop}
 use lib.Seq.{length-take-le, getD-take, getD-drop}
 use Rattle.field.specs.Test.{every}
 use Rattle.field.specs.Text.{textByte, fromEnd}
-use Rattle.field.proofs.Tests.{and-left, and-right, or-false}
+use Rattle.field.proofs.Tests.{and-left, and-right, or-true, or-false}
 use Rattle.label.specs.Lines.{isEmpty}
 use Rattle.pack.specs.Opening.{slot, textGood, textEnd, textAt}
 use Rattle.pack_rows.specs.Odds.{odds}
@@ -21,10 +21,6 @@ use Rattle.pack_rows.proofs.OddLaws.{odds-none}
 
 pub five-true : (a b c d e : Bool) → a ≡ true → b ≡ true → c ≡ true → d ≡ true → e ≡ true → a && (b && (c && (d && e))) ≡ true
 five-true a b c d e p q r s t = simp (p, q, r, s, t)
-
-or-true : (b : Bool) → b || true ≡ true
-or-true true = refl
-or-true false = refl
 
 -- a text that ends within the rows
 module _ (rows : List ℕ) (at : ℕ) (room : textEnd rows at ≤ length rows) where

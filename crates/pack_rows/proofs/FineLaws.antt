@@ -9,18 +9,15 @@ use borrow.Author.Tests.{eq-eqb}
 use lib.Dec.{eqb}
 use lib.ListN.{length}
 use lib.Seq.{take-length}
-use Rattle.field.proofs.Tests.{or-false}
+use Rattle.field.proofs.Tests.{or-false, or-assoc}
+use Rattle.bits.specs.Bits.{marked, Unmarked}
 use Rattle.pack.specs.Opening.{rowKind, rowEnd, rowsGood, isStart}
 use Rattle.pack_rows.specs.Odds.{odds, oddsBefore}
-use Rattle.pack_rows.specs.Marks.{marked, Unmarked, Fine}
+use Rattle.pack_rows.specs.Marks.{Fine}
 use Rattle.pack_rows.specs.Steps.{Stepped}
 use Rattle.pack_rows.specs.declared.fine.Step.{Step}
 use Rattle.pack_rows.proofs.RowLaws.{rows-step, rows-end}
 use Rattle.pack_rows.proofs.OddLaws.{odds-bound}
-
-or-assoc : (a b c : Bool) → a || (b || c) ≡ (a || b) || c
-or-assoc true b c = refl
-or-assoc false b c = refl
 
 -- after i rows: they are good where the bytes before `at` that may stand in no text are those that were counted, and the
 -- starts are those that are marked and those that are to come

@@ -1,19 +1,12 @@
--- Bits for the starts of rows: one for each byte of the row area, 32 in a number.
+-- Bits for the starts of rows: one for each byte of the row area.
 -- Assumes nothing.
-use Prim.Native.Nat.{ℕ, _/_, _%_, _^_, _<_}
+use Prim.Native.Nat.{ℕ, _/_, _<_}
 use mathlib.Core.Path.{_≡_}
-use mathlib.Core.Bool.{Bool, true, false}
+use mathlib.Core.Bool.{true}
 use mathlib.Core.List.{List}
-use lib.Dec.{eqb}
-use lib.ListN.{length, getD}
+use lib.ListN.{length}
+use Rattle.bits.specs.Bits.{marked}
 use Rattle.pack.specs.Opening.{rowsGood, isStart}
-
--- whether the bit of a place is set
-unfoldable pub marked : List ℕ → ℕ → Bool
-marked marks o = eqb (getD marks (o / 32) 0 / 2 ^ (o % 32) % 2) 1
-
-abbrev pub Unmarked : List ℕ → Type 0
-Unmarked marks = (o : ℕ) → marked marks o ≡ false
 
 -- as far as there are bits, they say where the n rows start
 abbrev pub Marks : List ℕ → ℕ → List ℕ → Type 0

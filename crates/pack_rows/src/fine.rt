@@ -1,7 +1,7 @@
 // A quick yes to the question whether the rows are good: the ends of each text are looked at one by one, the bytes within
 // them in one sweep over all rows. Where this says no, the rows are judged text by text.
-use crate::marks::mark;
 use crate::sweep::odds_of;
+use bits::inner::mark;
 use field::lesser;
 use pack_read::inner::text_end;
 ghost use mathlib.Core.Path.{_≡_};
@@ -9,8 +9,9 @@ ghost use mathlib.Core.Bool.{true, false};
 ghost use mathlib.Core.List.{[], _∷_};
 ghost use Prim.Native.Nat.{_+_, _≤_, _<_};
 ghost use lib.ListN.{length};
+ghost use Rattle.bits.specs.Bits.{Unmarked};
 ghost use Rattle.pack.specs.Opening.{slot, slotsOf, textGood, textAt, textEnd, rowKind};
-ghost use Rattle.pack_rows.specs.Marks.{Unmarked, Fine};
+ghost use Rattle.pack_rows.specs.Marks.{Fine};
 ghost use Rattle.pack_rows.specs.Odds.{odd, odds};
 ghost use Rattle.pack_rows.specs.Steps.{Stepped};
 

@@ -1,32 +1,11 @@
 // Whether an offset is the start of a row, told by a bit for each byte of the row area.
+use bits::inner::is_marked;
 use pack_read::PackPoint;
 ghost use mathlib.Core.Path.{_≡_};
-ghost use mathlib.Core.Bool.{_||_};
-ghost use Prim.Native.Nat.{ℕ, _*_, _/_, _≤_, _<_};
-ghost use lib.Dec.{eqb};
+ghost use Prim.Native.Nat.{ℕ, _*_, _≤_};
 ghost use lib.ListN.{length, getD};
 ghost use Rattle.pack.specs.Opening.{offsetGood};
-ghost use Rattle.pack_rows.specs.Marks.{marked, Fine};
-
-// Sets the bit of a place, where there is one.
-pub fn mark(marks: &mut [u32], at: usize)
-    ensures { λ r. ⌜ ((o : ℕ) → o / 32 < length (now (marks .entry)) → marked (now (marks .exit)) o
-        ≡ marked (now (marks .entry)) o || eqb at o) ⌝ }
-{
-    let j = at / 32;
-    if j < marks.len() {
-        marks[j] = marks[j] | (1 << (at % 32));
-    }
-}
-
-// Whether the bit of a place is set.
-fn is_marked(marks: &[u32], at: usize) -> bool
-    requires { ⌜ at / 32 < length (now marks) ⌝ }
-    ensures { λ r. ⌜ r ≡ marked (now (marks .entry)) at ⌝ }
-{
-    let j = at / 32;
-    (marks[j] >> (at % 32)) % 2 == 1
-}
+ghost use Rattle.pack_rows.specs.Marks.{Fine};
 
 // Whether an offset is absent, or the start of a row of a type. An absent one is looked up as the first row, so that
 // nothing has to be guessed on the way.

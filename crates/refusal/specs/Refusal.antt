@@ -19,7 +19,7 @@ number (Room needed) = 10
 number (BadPack step) = 11
 number BadCode = 12
 
--- column "detail"; "no detail named means 0"
+-- column "detail"; "No detail named means 0"
 abbrev pub detail : Reason → ℕ
 detail Length = 0
 detail Header = 1

@@ -1,12 +1,12 @@
 -- No report is longer than the buffer that the program lends, 160,000 bytes, so that all of it is written.
 -- Assumes nothing.
-use Prim.Native.Nat.{ℕ, zero, suc, _+_, _-_, _*_, _/_, _%_, _^_, _≤_, _<_}
+use Prim.Native.Nat.{ℕ, zero, suc, _+_, _-_, _*_, _≤_, _<_}
 use mathlib.Core.Path.{_≡_, refl, ap}
 use mathlib.Core.Bool.{Bool, true, false, cond, not, _&&_, _||_}
 use mathlib.Core.List.{List, [], _∷_}
 use native.Mathlib.Omega.{arith}
-use native.Mathlib.Nat.{div-le-of-le-mul, div-lt-iff-lt-mul, pow-suc}
-use borrow.Author.Tests.{ltb-true, ltb-false, eqb-false}
+use native.Mathlib.Nat.{div-le-of-le-mul}
+use borrow.Author.Tests.{ltb-false, eqb-false}
 use lib.Dec.{eqb, ltb}
 use lib.ListN.{length, length-append}
 use lib.Seq.{take-all}
@@ -34,26 +34,11 @@ use Rattle.label.specs.Label.{labelOf}
 use Rattle.changes_label.specs.Places.{resolvedAt, ViewPlace}
 use Rattle.changes_label.proofs.Laws.{wanted-place}
 use Rattle.report.specs.Fed.{fitting}
-use Rattle.item.specs.Lines.{decimal, spacedNumber, viewLine, byteText, refusedText, refusedLine}
+use Rattle.item.specs.Lines.{spacedNumber, viewLine, byteText, refusedText, refusedLine}
 use Rattle.item.specs.Item.{resolvedText}
-use Rattle.item.proofs.Decimals.{decimal-one, decimal-more}
+use Rattle.item.proofs.Decimals.{decimal-size}
 use Rattle.report.specs.Report.{tableWord, pointsWord, viewText, block, blocks, pairText, fileText, pointsText, reportOf}
 use Rattle.changes_label.proofs.Laws.{label-fits}
-
--- a number below ten to the n has at most n digits
-decimal-size : (k n : ℕ) → n < 10 ^ suc k → length (decimal n) ≤ suc k
-decimal-size zero n h = omega (arith, ap length (decimal-one n h))
-decimal-size (suc j) n h =
-    by-test (ltb n 10) refl (decimal-size j (n / 10) (div-lt-iff-lt-mul {k = 10} {x = n} {y = 10 ^ suc j} (omega arith) .1 (omega (arith, pow-suc 10 (suc j)))))
-  where
-    by-test : (t : Bool) → ltb n 10 ≡ t → length (decimal (n / 10)) ≤ suc j → length (decimal n) ≤ suc (suc j)
-    by-test true e r = omega (arith, ap length (decimal-one n (ltb-true n 10 e)))
-    by-test false e r =
-        omega (
-          arith,
-          ap length (decimal-more n (ltb-false n 10 e)),
-          length-append (decimal (n / 10)) ((48 + n % 10) ∷ []),
-        )
 
 -- a refusal that names no more than a number, and a byte of a record at most
 abbrev Told : ℕ → Reason → Type 0

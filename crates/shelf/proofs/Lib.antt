@@ -3,3 +3,4 @@ pub mod Search
 pub mod Force
 pub mod Last
 pub mod Stock
+pub mod Joined

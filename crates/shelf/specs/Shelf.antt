@@ -1,7 +1,7 @@
 -- The rows of a shelf. Records are counted from 0; the header is record 0, the trailer the last.
 -- Assumes nothing.
 use Prim.Native.Nat.{ℕ, zero, suc, _+_, _-_, _/_, _≤_, _<_}
-use mathlib.Core.Bool.{cond}
+use mathlib.Core.Bool.{Bool, cond}
 use mathlib.Core.List.{List, [], _∷_}
 use lib.Dec.{eqb}
 use lib.ListN.{length, getD}
@@ -23,7 +23,7 @@ pub record Fit (s : Shelf) : Type 0 where
   pub locality-small : s .locality ≤ 1_000
   pub text-small : s .text ≤ 1_000
 
--- "text 60", "20", "50", "30": how wide the text of a row is that is no locality
+-- "name 60", "text 20", "text 50", "text 30": how wide the text of a row is that is no locality
 abbrev pub textWidth : ℕ → ℕ
 textWidth kind = cond (eqb kind 2) 60 (cond (eqb kind 3) 20 (cond (eqb kind 4) 50 30))
 
@@ -36,6 +36,11 @@ textsIn s kind rec =
     ∷ textIn rec (s .locality + 65) (s .locality + 100)
     ∷ [])
     (textIn rec (s .text) (s .text + textWidth kind) ∷ [])
+
+-- the last of k places from i on that passes; 0 where none does
+abbrev pub lastFrom : (ℕ → Bool) → ℕ → ℕ → ℕ
+lastFrom ok zero i = 0
+lastFrom ok (suc k) i = cond (eqb (lastFrom ok k (suc i)) 0) (cond (ok i) i 0) (lastFrom ok k (suc i))
 
 module _ (s : Shelf) (file : List ℕ) where
   abbrev pub recordOf : ℕ → List ℕ
@@ -53,15 +58,9 @@ module _ (s : Shelf) (file : List ℕ) where
   unfoldable pub textsAt : ℕ → List (List ℕ)
   textsAt i = textsIn s (kindOf (refAt i)) (recordOf i)
 
-  -- the last of k records from i on that stands for r; 0 where there is none
-  abbrev pub lastFrom : ℕ → ℕ → ℕ → ℕ
-  lastFrom r zero i = 0
-  lastFrom r (suc k) i =
-      cond (eqb (lastFrom r k (suc i)) 0) (cond (eqb (refAt i) r) i 0) (lastFrom r k (suc i))
-
   -- the last record that stands for r; 0 where there is none
   unfoldable pub lastRow : ℕ → ℕ
-  lastRow r = lastFrom r (lastOf - 1) 1
+  lastRow r = lastFrom (λ i. eqb (refAt i) r) (lastOf - 1) 1
 
   -- "where that row's letter is B or D, none is in force": the record itself, or 0
   unfoldable pub inForce : ℕ → ℕ

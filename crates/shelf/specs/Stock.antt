@@ -1,12 +1,12 @@
 -- The rows of a source as a builder sees them: numbered, each standing for a number and having texts, whichever shelves they
 -- stand on.
 -- Assumes nothing.
-use Prim.Native.Nat.{ℕ, suc, _≤_, _<_}
+use Prim.Native.Nat.{ℕ, suc, _+_, _-_, _≤_, _<_}
 use mathlib.Core.Path.{_≡_}
 use mathlib.Core.Bool.{cond}
 use mathlib.Core.List.{List}
 use mathlib.Core.Option.{Option, none, some}
-use lib.Dec.{eqb}
+use lib.Dec.{eqb, ltb}
 use Rattle.source.specs.Address.{Lookup, ref}
 use Rattle.shelf.specs.declared.Shelf.{Shelf}
 use Rattle.shelf.specs.Shelf.{refAt, lastOf, textsAt, rowOf}
@@ -22,6 +22,32 @@ pub record Stock : Type 0 where
 abbrev pub stockOf : Shelf → List ℕ → Stock
 stockOf s file =
     record { last = lastOf s file; stands-for = refAt s file; texts = textsAt s file; row = rowOf s file }
+
+-- two stocks as one, the rows of the second behind those of the first: how many rows go before the second's
+abbrev pub ahead : Stock → ℕ
+ahead a = a .last - 1
+
+-- by the place of a row, what one of the two says of it
+abbrev pub ofOne : {A : Type 0} → Stock → (first second : ℕ → A) → ℕ → A
+ofOne a first second i = cond (ltb i (a .last)) (first i) (second (i - ahead a))
+
+-- the second's row, as a row of both
+abbrev pub behind : Stock → ℕ → ℕ
+behind a row = cond (eqb row 0) 0 (ahead a + row)
+
+abbrev pub joined : Stock → Stock → Stock
+joined a b =
+    record {
+      last = ahead a + b .last;
+      stands-for = ofOne a (a .stands-for) (b .stands-for);
+      texts = ofOne a (a .texts) (b .texts);
+      row = λ r. cond (eqb (a .row r) 0) (behind a (b .row r)) (a .row r);
+    }
+
+-- every row of the first stands for less than every row of the second, which has an end even where it has no rows
+pub record Before (a b : Stock) : Type 0 where
+  pub ended : 1 ≤ b .last
+  pub each : (i j : ℕ) → 1 ≤ i → i < a .last → 1 ≤ j → j < b .last → a .stands-for i < b .stands-for j
 
 -- what a kind and a key find: the texts of the row in force for them
 abbrev pub textsOrNone : Stock → ℕ → Option (List (List ℕ))

@@ -55,7 +55,7 @@ fn find_row(file: &[u8], s: Shelf, r: usize) -> usize
 }
 
 // The row that a key of this kind finds; 0 where the key is zero or finds none.
-fn row_for(file: &[u8], s: Shelf, kind: u8, key: u32) -> usize
+pub fn row_for(file: &[u8], s: Shelf, kind: u8, key: u32) -> usize
     requires { ⌜ Fit s ⌝ }
     ensures { λ q. ⌜ q ≡ cond (present key) (found s (now (file .entry)) (ref kind key)) 0 ⌝ }
 {

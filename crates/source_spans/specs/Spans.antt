@@ -26,26 +26,32 @@ fieldOf s file row from width = cond (eqb row 0) [] (textIn (recordOf s file row
 abbrev pub rowText : Shelf → List ℕ → (row kind which : ℕ) → List ℕ
 rowText s file row kind which = cond (eqb row 0) [] (getD (textsIn s kind (recordOf s file row)) which [])
 
-unfoldable pub elementsBy : Shelf → (file own : List ℕ) → DeliveryPoint → (rows : List ℕ) → Elements
-elementsBy s file own p rows =
+-- by a way from a row, its kind and a number to a text: `own` holds postcode and PO box, `others` the organisation
+abbrev pub elementsFrom : (text : (row kind which : ℕ) → List ℕ) → (own others : List ℕ) → DeliveryPoint
+    → (rows : List ℕ) → Elements
+elementsFrom text own others p rows =
     record {
-      organisation = nameOf (organisationIn own p);
-      department = departmentOf (organisationIn own p);
+      organisation = nameOf (organisationIn others p);
+      department = departmentOf (organisationIn others p);
       box = textIn own (p .«po_box») (p .«po_box» + 6);
-      sub-building = rowText s file (getD rows 6 0) 5 0;
-      building = rowText s file (getD rows 5 0) 4 0;
+      sub-building = text (getD rows 6 0) 5 0;
+      building = text (getD rows 5 0) 4 0;
       number = p .number;
       concatenation = p .concatenation;
-      dependent = rowText s file (getD rows 3 0) 2 0;
-      dependent-descriptor = rowText s file (getD rows 4 0) 3 0;
-      thoroughfare = rowText s file (getD rows 1 0) 2 0;
-      descriptor = rowText s file (getD rows 2 0) 3 0;
-      double-locality = rowText s file (getD rows 0 0) 1 2;
-      dependent-locality = rowText s file (getD rows 0 0) 1 1;
-      town = rowText s file (getD rows 0 0) 1 0;
+      dependent = text (getD rows 3 0) 2 0;
+      dependent-descriptor = text (getD rows 4 0) 3 0;
+      thoroughfare = text (getD rows 1 0) 2 0;
+      descriptor = text (getD rows 2 0) 3 0;
+      double-locality = text (getD rows 0 0) 1 2;
+      dependent-locality = text (getD rows 0 0) 1 1;
+      town = text (getD rows 0 0) 1 0;
       outward = textIn own (p .postcode) (p .postcode + 4);
       inward = part own (p .postcode + 4) (p .postcode + 7);
     }
+
+-- where all rows stand on one shelf
+unfoldable pub elementsBy : Shelf → (file own : List ℕ) → DeliveryPoint → (rows : List ℕ) → Elements
+elementsBy s file own p rows = elementsFrom (rowText s file) own own p rows
 
 -- ---- what spans say, the rows standing in the first slice and the delivery point in the second
 

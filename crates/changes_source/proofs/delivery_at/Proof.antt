@@ -49,23 +49,23 @@ add-t23 c =
 returns : tie.Need-returns
 unfolding deliveryAt
 returns c =
-    let v3 = c .before .before .before in
-    let v1 = v3 .before .before in
-    let p3 = v1 .before .before in
-    let p1 = p3 .before .before in
+    let organisation-read = c .before .before .before in
+    let number-read = organisation-read .before .before in
+    let organisation-cut = number-read .before .before in
+    let number-cut = organisation-cut .before .before in
     rw (
       c .needed-next .ensures,
       c .before .byte-of2 .ensures,
       c .before .before .byte-of .ensures,
-      v3 .value-of3 .ensures,
-      v3 .before .value-of2 .ensures,
-      v1 .value-of .ensures,
-      v1 .before .keys-in .ensures,
-      p3 .part-of3 .ensures,
-      p3 .before .part-of2 .ensures,
-      p1 .part-of .ensures,
-      p1 .before .start-at .ensures,
-      p1 .before .before .point-record .ensures,
+      organisation-read .value-of3 .ensures,
+      organisation-read .before .value-of2 .ensures,
+      number-read .value-of .ensures,
+      number-read .before .keys-in .ensures,
+      organisation-cut .part-of3 .ensures,
+      organisation-cut .before .part-of2 .ensures,
+      number-cut .part-of .ensures,
+      number-cut .before .start-at .ensures,
+      number-cut .before .before .point-record .ensures,
     ) refl
 
 pub delivery-at-spec : {M : Type 1} → statement M

@@ -3,9 +3,10 @@ use borrow.Author.Needs.{needs}
 use mathlib.Core.Path.{_≡_, refl, sym, ap, _∙_}
 use native.Mathlib.Omega.{arith}
 use borrow.Author.Tests.{not-true, not-false}
-use Prim.Native.Nat.{ℕ, _+_}
+use Prim.Native.Nat.{ℕ, _+_, _-_}
 use Rattle.refusal.specs.Refusal.{malformedAt}
 use Rattle.refusal.specs.declared.Verdict.the-variants.{Bad}
+use Rattle.file_record.proofs.Records.{record-length}
 use Rattle.file.specs.Formats.{formatOf}
 use Rattle.file.proofs.Laws.{judged-malformed, judged-falls, judged-stray, judged-fine}
 use Rattle.file_check.proofs.judge.Statement.{statement}
@@ -67,6 +68,16 @@ returns-4 c =
     (not-false _ (rw (u .is-above .ensures, p .record-in2 .ensures, r .record-in .ensures) at (v .if2 .left)))
     (rw (b .is-between .ensures) at (c .if3 .left)))
 
+is-above-requires : tie.Need-is-above-requires
+is-above-requires c κs =
+    let r = c .before .before .before in
+    let start = r .before .before in
+    let a = start .args in
+    let wide = formatOf (a .kind) .width in (
+      rw (c .record-in2 .ensures) (omega (arith, record-length wide (a .file .now) (a .i - 1) (omega (arith, start .pre .1)))),
+      rw (r .record-in .ensures) (omega (arith, record-length wide (a .file .now) (a .i) (omega (arith, start .pre .1)))),
+    )
+
 pub judge-spec : {M : Type 1} → statement M
 judge-spec =
     tie.close
@@ -78,7 +89,7 @@ judge-spec =
     returns
     (λ c. search needs)
     (λ c κs. search needs)
-    (λ c κs. search needs)
+    is-above-requires
     (λ c. search needs)
     returns-2
     (λ c κs. search needs)

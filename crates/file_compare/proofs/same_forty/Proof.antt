@@ -8,78 +8,49 @@ use Rattle.file_compare.proofs.Laws.{FrontFrom, front-none, front-more}
 use Rattle.file_compare.proofs.same_forty.Statement.{statement}
 use Rattle.file_compare.proofs.same_forty.Tie as tie
 
-eight-same-requires : tie.Need-eight-same-requires
-eight-same-requires c κs = search needs
-
-eights-requires : tie.Need-eights-requires
-eights-requires c κs = search needs
-
-eight-same-requires-2 : tie.Need-eight-same-requires-2
-eight-same-requires-2 c κs = search needs
-
-eights-requires-2 : tie.Need-eights-requires-2
-eights-requires-2 c κs = search needs
-
-eight-same-requires-3 : tie.Need-eight-same-requires-3
-eight-same-requires-3 c κs = search needs
-
-eights-requires-3 : tie.Need-eights-requires-3
-eights-requires-3 c κs = search needs
-
-eight-same-requires-4 : tie.Need-eight-same-requires-4
-eight-same-requires-4 c κs = search needs
-
-eights-requires-4 : tie.Need-eights-requires-4
-eights-requires-4 c κs = search needs
-
-eight-same-requires-5 : tie.Need-eight-same-requires-5
-eight-same-requires-5 c κs = search needs
-
-eights-requires-5 : tie.Need-eights-requires-5
-eights-requires-5 c κs = search needs
-
 returns : tie.Need-returns
 returns c =
-    let e₁ = c .before in
-    let c₂ = e₁ .before in
-    let e₂ = c₂ .before in
-    let c₃ = e₂ .before in
-    let e₃ = c₃ .before in
-    let c₄ = e₃ .before in
-    let e₄ = c₄ .before in
-    let c₅ = e₄ .before in
-    let e₅ = c₅ .before in
-    let s = e₅ .before .before .before in
-    let a = s .args .a .now in
-    let b = s .args .b .now in
-    let f₅ : FrontFrom a b 32 (c₅ .eights .result) =
-    rw (c₅ .eights .ensures .0) (front-more a b 32 0 (e₅ .eight-same .result) (omega arith) (e₅ .eight-same .ensures) (front-none a b 40)) in
-    let f₄ : FrontFrom a b 24 (c₄ .eights2 .result) =
-    rw (c₄ .eights2 .ensures .0) (front-more a b 24 (c₅ .eights .result) (e₄ .eight-same2 .result) (omega arith) (e₄ .eight-same2 .ensures) f₅) in
-    let f₃ : FrontFrom a b 16 (c₃ .eights3 .result) =
-    rw (c₃ .eights3 .ensures .0) (front-more a b 16 (c₄ .eights2 .result) (e₃ .eight-same3 .result) (omega arith) (e₃ .eight-same3 .ensures) f₄) in
-    let f₂ : FrontFrom a b 8 (c₂ .eights4 .result) =
-    rw (c₂ .eights4 .ensures .0) (front-more a b 8 (c₃ .eights3 .result) (e₂ .eight-same4 .result) (omega arith) (e₂ .eight-same4 .ensures) f₃) in
-    let f₁ : FrontFrom a b 0 (c .eights5 .result) =
-    rw (c .eights5 .ensures .0) (front-more a b 0 (c₂ .eights4 .result) (e₁ .eight-same5 .result) (omega arith) (e₁ .eight-same5 .ensures) f₂) in
+    let same-0 = c .before in
+    let counted-8 = same-0 .before in
+    let same-8 = counted-8 .before in
+    let counted-16 = same-8 .before in
+    let same-16 = counted-16 .before in
+    let counted-24 = same-16 .before in
+    let same-24 = counted-24 .before in
+    let counted-32 = same-24 .before in
+    let same-32 = counted-32 .before in
+    let at-start = same-32 .before .before .before in
+    let a = at-start .args .a .now in
+    let b = at-start .args .b .now in
+    let front-32 : FrontFrom a b 32 (counted-32 .eights .result) =
+    rw (counted-32 .eights .ensures .0)
+    (front-more a b 32 0 (same-32 .eight-same .result) (omega arith)
+    (same-32 .eight-same .ensures) (front-none a b 40)) in
+    let front-24 : FrontFrom a b 24 (counted-24 .eights2 .result) =
+    rw (counted-24 .eights2 .ensures .0)
+    (front-more a b 24 (counted-32 .eights .result) (same-24 .eight-same2 .result) (omega arith)
+    (same-24 .eight-same2 .ensures) front-32) in
+    let front-16 : FrontFrom a b 16 (counted-16 .eights3 .result) =
+    rw (counted-16 .eights3 .ensures .0)
+    (front-more a b 16 (counted-24 .eights2 .result) (same-16 .eight-same3 .result) (omega arith)
+    (same-16 .eight-same3 .ensures) front-24) in
+    let front-8 : FrontFrom a b 8 (counted-8 .eights4 .result) =
+    rw (counted-8 .eights4 .ensures .0)
+    (front-more a b 8 (counted-16 .eights3 .result) (same-8 .eight-same4 .result) (omega arith)
+    (same-8 .eight-same4 .ensures) front-16) in
+    let front-0 : FrontFrom a b 0 (c .eights5 .result) =
+    rw (c .eights5 .ensures .0)
+    (front-more a b 0 (counted-8 .eights4 .result) (same-0 .eight-same5 .result) (omega arith)
+    (same-0 .eight-same5 .ensures) front-8) in
     record {
-      in-a = omega (arith, f₁ .at-most, s .pre .0);
-      in-b = omega (arith, f₁ .at-most, s .pre .1);
-      decided = rw (zero-add (c .eights5 .result)) at (f₁ .decided);
+      in-a = omega (arith, front-0 .at-most, at-start .pre .0);
+      in-b = omega (arith, front-0 .at-most, at-start .pre .1);
+      decided = rw (zero-add (c .eights5 .result)) at (front-0 .decided);
     }
 
 pub same-forty-spec : {M : Type 1} → statement M
 same-forty-spec =
     tie.close
-    (tie.spec
-    eight-same-requires
-    eights-requires
-    eight-same-requires-2
-    eights-requires-2
-    eight-same-requires-3
-    eights-requires-3
-    eight-same-requires-4
-    eights-requires-4
-    eight-same-requires-5
-    eights-requires-5
-    returns)
+    (tie.spec (λ c κs. search needs) (λ c κs. search needs) (λ c κs. search needs) (λ c κs. search needs)
+    (λ c κs. search needs) (λ c κs. search needs) (λ c κs. search needs) (λ c κs. search needs)
+    (λ c κs. search needs) (λ c κs. search needs) returns)

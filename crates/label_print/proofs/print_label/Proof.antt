@@ -1,6 +1,7 @@
 -- `label_print::print_label` meets its contract. Assumes nothing.
 use borrow.Author.Needs.{needs}
-use Prim.Native.Nat.{_≤_}
+use Prim.Native.Nat.{ℕ, _≤_}
+use mathlib.Core.List.{List}
 use native.Mathlib.Omega.{arith}
 use lib.ListN.{length}
 use Rattle.label.specs.Label.{labelOf}
@@ -11,20 +12,29 @@ use Rattle.label_print.proofs.print_label.Tie as tie
 
 returns : tie.Need-returns
 returns c =
-    let g = c .before .before .before .before .before .args in
-    counted-short (labelOf (elementsIn (g .a .now) (g .b .now) (g .e))) (g .out .now) (c .before .label-len .ensures)
-    (c .if1 .taken)
+    let size = c .before in
+    let g = size .before .before .before .before .args in
+    counted-short (labelOf (elementsIn (g .a .now) (g .b .now) (g .e))) (g .out .now)
+    (size .needed-of .ensures .1 (c .if1 .taken)) (c .if1 .taken)
+
+-- where there is room
+module _ (room : tie.Else1) where
+  abbrev start : tie.Start
+  start = room .before .before .before .before .before
+
+  abbrev text : List ℕ
+  text = labelOf (elementsIn (start .args .a .now) (start .args .b .now) (start .args .e))
+
+  fits : length text ≤ length (start .args .out .now)
+  fits = room .before .needed-of .ensures .0 (omega (arith, room .if1 .left))
 
 returns-2 : tie.Need-returns-2
 returns-2 c =
     let written = c .before .before in
     let room = written .before .before in
-    let size = room .before in
-    let g = size .before .before .before .before .args in
-    let t = labelOf (elementsIn (g .a .now) (g .b .now) (g .e)) in
-    let h : length t ≤ length (g .out .now) = omega (arith, size .label-len .ensures, room .if1 .left) in
-    counted-written t (g .out .now) h (written .write-label .ensures .0) (written .write-label .ensures .1)
+    counted-written (text room) (start room .args .out .now) (fits room) (written .write-label .ensures .0)
+    (written .write-label .ensures .1)
 
 pub print-label-spec : {M : Type 1} → statement M
 print-label-spec =
-    tie.close (tie.spec (search needs) returns (search needs) (search needs) returns-2)
+    tie.close (tie.spec (search needs) returns (λ c κs. fits (c .before)) (search needs) returns-2)

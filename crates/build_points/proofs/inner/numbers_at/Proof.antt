@@ -7,14 +7,14 @@ use Rattle.build_points.proofs.inner.numbers_at.Tie as tie
 
 returns : tie.Need-returns
 returns c =
-    let behind-short-at = c .before .before in
-    let behind-word-at2 = behind-short-at .before .before .before .before .before in
-    let behind-word-at = behind-word-at2 .before .before .before .before .before in
-    let behind-byte-at = behind-word-at .before .before .before .before .before in
-    let h = behind-byte-at .before .before .before .pre in
-    let v₂ = put-then (behind-byte-at .byte-at .ensures) (behind-word-at .word-at .ensures) (omega (arith, h)) in
-    let v₃ = put-then v₂ (behind-word-at2 .word-at2 .ensures) (omega (arith, h)) in
-    put-then v₃ (behind-short-at .short-at .ensures) (omega (arith, h))
+    let at-short = c .before .before in
+    let at-second-word = at-short .before .before .before .before .before in
+    let at-first-word = at-second-word .before .before .before .before .before in
+    let at-byte = at-first-word .before .before .before .before .before in
+    let room = at-byte .before .before .before .pre in
+    let with-first-word = put-then (at-byte .byte-at .ensures) (at-first-word .word-at .ensures) (omega (arith, room)) in
+    let with-both-words = put-then with-first-word (at-second-word .word-at2 .ensures) (omega (arith, room)) in
+    put-then with-both-words (at-short .short-at .ensures) (omega (arith, room))
 
 pub numbers-at-spec : {M : Type 1} → statement M
 numbers-at-spec =

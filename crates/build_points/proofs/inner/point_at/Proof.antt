@@ -5,55 +5,52 @@ use mathlib.Core.List.{_++_}
 use Rattle.label.proofs.Puts.{put-as}
 use Rattle.label.proofs.Going.{going-room, going-left, going-last}
 use Rattle.pack.specs.Numbers.{bytesOf}
-use Rattle.build.specs.Bytes.{keyOffsets, plainIn}
+use Rattle.build.specs.Bytes.{offsetBytes, plainIn}
 use Rattle.build_points.proofs.Point.{postcodeOf, lastOffset, offsetsOf, point-start, after-postcode, after-plain, after-keys}
 use Rattle.build_points.proofs.inner.point_at.Statement.{statement}
 use Rattle.build_points.proofs.inner.point_at.Tie as tie
 
 part-at-requires : tie.Need-part-at-requires
 part-at-requires c κs =
-    let s = c .before .before .before .before .before in
+    let s = c .before .before .before .before in
     let a = s .args in
     let own = a .own .now in
-    let starts = a .starts .now in
-    let rows = a .found .rows in
-    let g = point-start own starts (a .p) rows (a .row) {out = a .out .now} {at = a .at} (s .pre .1) in
-    going-room (postcodeOf own starts (a .p) rows (a .row))
-    (plainIn own (a .p) ++ offsetsOf own starts (a .p) rows (a .row)) g (s .pre .1)
+    let offsets = a .offsets .«of_keys» in
+    let g = point-start own (a .p) offsets (a .row) {out = a .out .now} {at = a .at} (s .pre .1) in
+    going-room (postcodeOf own (a .p) offsets (a .row))
+    (plainIn own (a .p) ++ offsetsOf own (a .p) offsets (a .row)) g (s .pre .1)
 
 plain-at-requires : tie.Need-plain-at-requires
 plain-at-requires c κs =
     let postcode = c .before .before .before in
-    let s = postcode .before .before .before .before .before .before in
+    let s = postcode .before .before .before .before .before in
     let a = s .args in
     let own = a .own .now in
-    let starts = a .starts .now in
-    let rows = a .found .rows in
-    let g = after-postcode own starts (a .p) rows (a .row) (s .pre .1) (postcode .part-at .ensures) in
-    (s .pre .0, going-room (plainIn own (a .p)) (offsetsOf own starts (a .p) rows (a .row)) g (s .pre .1))
+    let offsets = a .offsets .«of_keys» in
+    let g = after-postcode own (a .p) offsets (a .row) (s .pre .1) (postcode .part-at .ensures) in
+    (s .pre .0, going-room (plainIn own (a .p)) (offsetsOf own (a .p) offsets (a .row)) g (s .pre .1))
 
 keys-at-requires : tie.Need-keys-at-requires
 keys-at-requires c κs =
-    let plain = c .before .before .before .before .before in
+    let plain = c .before .before .before .before in
     let postcode = plain .before .before .before .before in
-    let s = postcode .before .before .before .before .before .before in
+    let s = postcode .before .before .before .before .before in
     let a = s .args in
     let own = a .own .now in
-    let starts = a .starts .now in
-    let rows = a .found .rows in
+    let offsets = a .offsets .«of_keys» in
     let g =
-    after-plain own starts (a .p) rows (a .row) (s .pre .1) (postcode .part-at .ensures) (plain .plain-at .ensures) in
-    going-room (keyOffsets starts (a .p .keys) rows) (lastOffset own starts (a .p) rows (a .row)) g (s .pre .1)
+    after-plain own (a .p) offsets (a .row) (s .pre .1) (postcode .part-at .ensures) (plain .plain-at .ensures) in
+    going-room (offsetBytes offsets) (lastOffset own (a .p) offsets (a .row)) g (s .pre .1)
 
 word-at-requires : tie.Need-word-at-requires
 word-at-requires c κs =
     let keys = c .before .before .before .before in
-    let plain = keys .before .before .before .before .before .before in
+    let plain = keys .before .before .before .before .before in
     let postcode = plain .before .before .before .before in
-    let s = postcode .before .before .before .before .before .before in
+    let s = postcode .before .before .before .before .before in
     let a = s .args in
     let g =
-    after-keys (a .own .now) (a .starts .now) (a .p) (a .found .rows) (a .row) (s .pre .1) (postcode .part-at .ensures)
+    after-keys (a .own .now) (a .p) (a .offsets .«of_keys») (a .row) (s .pre .1) (postcode .part-at .ensures)
     (plain .plain-at .ensures) (keys .keys-at .ensures) in
     going-left g (s .pre .1)
 
@@ -62,12 +59,12 @@ returns c =
     let word = c .before .before in
     let offset = word .before .before .organisation-offset in
     let keys = word .before .before .before .before .before in
-    let plain = keys .before .before .before .before .before .before in
+    let plain = keys .before .before .before .before .before in
     let postcode = plain .before .before .before .before in
-    let s = postcode .before .before .before .before .before .before in
+    let s = postcode .before .before .before .before .before in
     let a = s .args in
     let g =
-    after-keys (a .own .now) (a .starts .now) (a .p) (a .found .rows) (a .row) (s .pre .1) (postcode .part-at .ensures)
+    after-keys (a .own .now) (a .p) (a .offsets .«of_keys») (a .row) (s .pre .1) (postcode .part-at .ensures)
     (plain .plain-at .ensures) (keys .keys-at .ensures) in
     going-last g (put-as (ap (bytesOf 4) (offset .ensures)) (word .word-at .ensures)) (s .pre .1)
 

@@ -7,14 +7,14 @@ use Rattle.build_trailer.proofs.inner.trailer_at.Tie as tie
 
 returns : tie.Need-returns
 returns c =
-    let behind-trailer-end-at = c .before .before in
-    let behind-word-at3 = behind-trailer-end-at .before .before .before .before in
-    let behind-word-at2 = behind-word-at3 .before .before .before .before in
-    let behind-word-at = behind-word-at2 .before .before .before .before in
-    let h = behind-word-at .before .before .before .before .pre .1 in
-    let v₂ = put-then (behind-word-at .word-at .ensures) (behind-word-at2 .word-at2 .ensures) (omega (arith, h)) in
-    let v₃ = put-then v₂ (behind-word-at3 .word-at3 .ensures) (omega (arith, h)) in
-    put-then v₃ (behind-trailer-end-at .trailer-end-at .ensures) h
+    let at-end = c .before .before in
+    let at-third-word = at-end .before .before .before .before in
+    let at-second-word = at-third-word .before .before .before .before in
+    let at-first-word = at-second-word .before .before .before .before in
+    let room = at-first-word .before .before .before .before .pre .1 in
+    let two-words = put-then (at-first-word .word-at .ensures) (at-second-word .word-at2 .ensures) (omega (arith, room)) in
+    let three-words = put-then two-words (at-third-word .word-at3 .ensures) (omega (arith, room)) in
+    put-then three-words (at-end .trailer-end-at .ensures) room
 
 pub trailer-at-spec : {M : Type 1} → statement M
 trailer-at-spec =

@@ -15,7 +15,7 @@ use Rattle.changes_source.proofs.Table.{table-fits}
 use Rattle.label.proofs.Puts.{room-as, put-as}
 use Rattle.label.proofs.Going.{Going, going-start, going-as, going-end}
 use Rattle.build.specs.Plan.{Packed, rowsOf, organisationRow, organisationRows}
-use Rattle.build.specs.Bytes.{pointIn, pointsIn}
+use Rattle.build.specs.Bytes.{pointWith, pointIn, pointsIn}
 use Rattle.build.proofs.Walks.{point-room, point-on}
 use Rattle.changes_build.specs.Views.{packedAt, packedIn}
 use Rattle.changes_build.proofs.Packed.{packedFrom, packed-start, packed-step, packed-end, view-within, rows-found, organisations-length}
@@ -54,8 +54,11 @@ rows-by-requires c κs =
     let s = t .before .before .before .before .before .before .before .before in
     rw (t .table-shelf .ensures) (table-fits, s .pre .0 .filled)
 
--- once the rows of the view at `place` are found
-module _ (r : tie.After-rows-by Inv-loop μ-loop) where
+-- once the offsets of the view at `place` are found
+module _ (k : tie.After-key-offsets Inv-loop μ-loop) where
+  abbrev r : tie.After-rows-by Inv-loop μ-loop
+  r = k .before .before
+
   abbrev d : tie.After-delivery-at Inv-loop μ-loop
   d = r .before .before
 
@@ -91,11 +94,12 @@ module _ (r : tie.After-rows-by Inv-loop μ-loop) where
       (s .args .out .now) (s .args .at) (l .loop .end) (l .loop .out)
   left = going-as (ap (pointsIn (tableStock (s .args .table .now)) points points starts (l .loop .row)) step) (l .loop .inv .3)
 
-  same : pointIn points starts (d .delivery-at .result) (r .rows-by .result .rows) (l .loop .row)
+  same : pointWith points (d .delivery-at .result) (k .key-offsets .result .«of_keys») (l .loop .row)
       ≡ pointIn points starts (deliveryAt points (l .loop .place))
       (rowsOf (tableStock (s .args .table .now)) (deliveryAt points (l .loop .place))) (l .loop .row)
   same =
-      ap₂ (λ (p : DeliveryPoint) (rows : List ℕ). pointIn points starts p rows (l .loop .row)) (d .delivery-at .ensures)
+      ap (λ (os : List ℕ). pointWith points (d .delivery-at .result) os (l .loop .row)) (k .key-offsets .ensures)
+      ∙ ap₂ (λ (p : DeliveryPoint) (rows : List ℕ). pointIn points starts p rows (l .loop .row)) (d .delivery-at .ensures)
       (rows-found (s .args .table .now) points (s .pre .0 .of-table) (l .loop .place) (t .table-shelf .ensures)
       (d .delivery-at .ensures) (r .rows-by .ensures))
 
@@ -105,18 +109,19 @@ module _ (r : tie.After-rows-by Inv-loop μ-loop) where
 
 point-at-requires : tie.Need-point-at-requires Inv-loop μ-loop
 point-at-requires c κs =
-    let r = c .before in
-    let i = l r .loop .place in (
-      rw (d r .delivery-at .ensures) (view-within (points r) i (high r)),
-      room-as (l r .loop .out) (l r .loop .end) (same r)
-          (point-room (packedAt (points r) i) (rest r) (s r .pre .1 .1) (tableStock (s r .args .table .now)) (points r)
-          (points r) (starts r) (l r .loop .row) (left r)),
+    let k = c .before in
+    let i = l k .loop .place in
+    let in-file = view-within (points k) i (high k) in (
+      rw (d k .delivery-at .ensures) (record { postcode = in-file .postcode; box = in-file .box }),
+      room-as (l k .loop .out) (l k .loop .end) (same k)
+          (point-room (packedAt (points k) i) (rest k) (s k .pre .1 .1) (tableStock (s k .args .table .now)) (points k)
+          (points k) (starts k) (l k .loop .row) (left k)),
     )
 
 organisation-len-requires : tie.Need-organisation-len-requires Inv-loop μ-loop
 organisation-len-requires c κs =
-    let r = c .before .before .before .before in
-    rw (d r .delivery-at .ensures) (view-within (points r) (l r .loop .place) (high r) .organisation)
+    let k = c .before .before .before .before in
+    rw (d k .delivery-at .ensures) (view-within (points k) (l k .loop .place) (high k) .organisation)
 
 -- how long its organisation's row is
 len : (c : tie.After-organisation-len Inv-loop μ-loop)
@@ -124,32 +129,32 @@ len : (c : tie.After-organisation-len Inv-loop μ-loop)
     ≡ length (organisationRow (points (c .before .before .before .before .before))
     (deliveryAt (points (c .before .before .before .before .before)) (l (c .before .before .before .before .before) .loop .place)))
 len c =
-    let r = c .before .before .before .before .before in
+    let k = c .before .before .before .before .before in
     c .organisation-len .ensures .0
-    ∙ ap (λ (p : DeliveryPoint). length (organisationRow (points r) p)) (d r .delivery-at .ensures)
+    ∙ ap (λ (p : DeliveryPoint). length (organisationRow (points k) p)) (d k .delivery-at .ensures)
 
 add-row : tie.Need-add-row Inv-loop μ-loop
 add-row c =
-    let r = c .before .before .before .before .before in
-    omega (arith, more r, len c, l r .loop .inv .2, s r .pre .1 .1)
+    let k = c .before .before .before .before .before in
+    omega (arith, more k, len c, l k .loop .inv .2, s k .good .1 .1 .1 .1 .1 .1 .0)
 
 loop-less : tie.Need-loop-less Inv-loop μ-loop
 loop-less c =
-    let r = c .before .before .before .before .before .before in
-    omega (arith, c .next-wanted2 .ensures, next-range (code r) (points r) (l r .loop .place + 1) .0)
+    let k = c .before .before .before .before .before .before in
+    omega (arith, c .next-wanted2 .ensures, next-range (code k) (points k) (l k .loop .place + 1) .0)
 
 loop-again : tie.Need-loop-again Inv-loop μ-loop
 loop-again c =
     let o = c .before in
     let w = o .before .before .before in
-    let r = w .before .before in
-    let i = l r .loop .place in
+    let k = w .before .before in
+    let i = l k .loop .place in
     rw (c .next-wanted2 .ensures) (
-      w .point-at .kept .1 .1 .1 .1 .1 .1 .0 ∙ l r .loop .inv .0,
-      next-next (code r) (points r) (i + 1),
-      omega (arith, more r, len o, l r .loop .inv .2),
-      point-on (packedAt (points r) i) (rest r) (s r .pre .1 .1) (tableStock (s r .args .table .now)) (points r) (points r)
-          (starts r) (l r .loop .row) (left r) (len o) (put-as (same r) (w .point-at .ensures)),
+      w .point-at .kept .1 .1 .1 .1 .1 .0 ∙ l k .loop .inv .0,
+      next-next (code k) (points k) (i + 1),
+      omega (arith, more k, len o, l k .loop .inv .2),
+      point-on (packedAt (points k) i) (rest k) (s k .pre .1 .1) (tableStock (s k .args .table .now)) (points k) (points k)
+          (starts k) (l k .loop .row) (left k) (len o) (put-as (same k) (w .point-at .ensures)),
     )
 
 returns : tie.Need-returns Inv-loop μ-loop
@@ -167,5 +172,5 @@ pub points-at-spec : {M : Type 1} → statement M
 points-at-spec =
     tie.close
     (tie.spec Inv-loop μ-loop (search needs) (search needs) (search needs) loop-holds (search needs) rows-by-requires
-    point-at-requires organisation-len-requires add-row (search needs) (search needs) loop-less loop-again
+    (search needs) point-at-requires organisation-len-requires add-row (search needs) (search needs) loop-less loop-again
     (search needs) returns)

@@ -1,6 +1,7 @@
 -- `changes_points::fine::is_fine` meets its contract. Assumes nothing.
 use borrow.Author.Needs.{needs}
-use Rattle.changes_points.proofs.Laws.{view-record, neither}
+use Rattle.changes_points.proofs.Laws.{view-record}
+use Rattle.file_fault.proofs.AtOnce.{neither}
 use mathlib.Core.Path.{sym, _∙_}
 use borrow.Author.Tests.{not-false, eqb-true, ltb-false}
 use mathlib.Core.Bool.{not, false≢true}

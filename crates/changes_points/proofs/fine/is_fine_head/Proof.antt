@@ -5,7 +5,8 @@ use mathlib.Core.Bool.{_&&_}
 use borrow.Author.Tests.{eqb-true}
 use lib.Dec.{eqb}
 use Rattle.field.proofs.Tests.{and-left, and-right}
-use Rattle.changes_points.proofs.Laws.{three, head-fine}
+use Rattle.changes_points.proofs.Laws.{head-fine, good-outward}
+use Rattle.file_fault.proofs.AtOnce.{three}
 use Rattle.changes_points.proofs.fine.is_fine_head.Statement.{statement}
 use Rattle.changes_points.proofs.fine.is_fine_head.Tie as tie
 
@@ -37,16 +38,21 @@ returns c =
     (sym (l .letter-at .ensures) ∙ eqb-true _ 0 (marks .1))
     (sym (c .type-at .ensures) ∙ eqb-true _ 0 (marks .2))
 
+is-fine-outward-requires : tie.Need-is-fine-outward-requires
+is-fine-outward-requires c κs =
+    let at-start = c .before .before in
+    (search needs, λ e. good-outward (at-start .args .before .now) (at-start .pre e))
+
 pub is-fine-head-spec : {M : Type 1} → statement M
 is-fine-head-spec =
     tie.close
     (tie.spec
-    (λ c κs. search needs)
-    (λ c κs. search needs)
-    (λ c κs. search needs)
-    (λ c κs. search needs)
-    (λ c κs. search needs)
-    (λ c κs. search needs)
-    (λ c κs. search needs)
-    (λ c κs. search needs)
+    is-fine-outward-requires
+    (search needs)
+    (search needs)
+    (search needs)
+    (search needs)
+    (search needs)
+    (search needs)
+    (search needs)
     returns)

@@ -1,6 +1,6 @@
 -- `changes_points::fine::view_digits` meets its contract. Assumes nothing.
 use borrow.Author.Needs.{needs}
-use Rattle.changes_points.proofs.Laws.{three, digits-none}
+use Rattle.file_fault.proofs.AtOnce.{three, digits-none}
 use mathlib.Core.Path.{sym, _∙_}
 use Rattle.changes_points.proofs.fine.view_digits.Statement.{statement}
 use Rattle.changes_points.proofs.fine.view_digits.Tie as tie

@@ -4,7 +4,8 @@ use mathlib.Core.Path.{_≡_, refl, sym, ap, _∙_}
 use mathlib.Core.Bool.{not}
 use borrow.Author.Tests.{not-true, eqb-true}
 use lib.Dec.{eqb}
-use Rattle.changes_table.proofs.Laws.{three, head-fine}
+use Rattle.file_fault.proofs.AtOnce.{three}
+use Rattle.changes_table.proofs.Laws.{head-fine}
 use Rattle.changes_table.proofs.fine.is_fine_head.Statement.{statement}
 use Rattle.changes_table.proofs.fine.is_fine_head.Tie as tie
 

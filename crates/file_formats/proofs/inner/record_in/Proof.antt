@@ -26,13 +26,11 @@ returns c = rw (c .before .enum-told .given .1) (c .whole-record .ensures)
 returns-2 : tie.Need-returns-2
 returns-2 c = rw (c .before .enum-told2 .given .1) (c .whole-record2 .ensures)
 
+record-in-requires : tie.Need-record-in-requires
+record-in-requires c κs = rw (c .before .kind .given .1) at (c .before .before .before .before .pre)
+
+returns-3 : tie.Need-returns-3
+returns-3 c = rw (c .before .before .kind .given .1) (c .record-in .ensures)
+
 pub record-in-spec : {M : Type 1} → statement M
-record-in-spec =
-    tie.close
-    (tie.spec
-    (λ c. search needs)
-    whole-record-requires
-    (λ c. search needs)
-    whole-record-requires-2
-    returns
-    returns-2)
+record-in-spec = tie.close (tie.spec (search needs) whole-record-requires (search needs) whole-record-requires-2 (search needs) record-in-requires returns returns-2 returns-3)

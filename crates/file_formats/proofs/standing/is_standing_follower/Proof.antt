@@ -8,7 +8,7 @@ use native.Mathlib.Omega.{arith}
 use borrow.Author.Tests.{eqb-false}
 use lib.Dec.{eqb}
 use Rattle.file_record.proofs.Records.{record-length}
-use Rattle.changes_points.proofs.Laws.{neither}
+use Rattle.file_fault.proofs.AtOnce.{neither}
 use Rattle.file.specs.Check.{at}
 use Rattle.file.specs.Formats.{needed, follows, pointFormat}
 use Rattle.file.specs.Accepted.{FineRecord}

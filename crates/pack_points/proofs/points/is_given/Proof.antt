@@ -11,15 +11,17 @@ use Rattle.pack_points.proofs.points.is_given.Tie as tie
 
 returns : tie.Need-returns
 returns c =
-    let w₃ = c .before .before in
-    let w₂ = w₃ .before .before in
-    let w₁ = w₂ .before .before in
-    let a = w₁ .before .before .before .args in
-    rw (w₁ .wide .ensures .0, w₂ .wide2 .ensures .0, w₃ .wide3 .ensures .0, c .wide4 .ensures .0)
+    let third-byte = c .before .before in
+    let second-byte = third-byte .before .before in
+    let first-byte = second-byte .before .before in
+    let args = first-byte .before .before .before .args in
+    rw (first-byte .wide .ensures .0, second-byte .wide2 .ensures .0, third-byte .wide3 .ensures .0, c .wide4 .ensures .0)
     (ap not
-    (absent-back (a .pack .now) (a .rest + offsetsAt + 4 * a .n) (omega arith)
-    (rw (w₁ .wide .ensures .0) at (w₁ .wide .ensures .1)) (rw (w₂ .wide2 .ensures .0) at (w₂ .wide2 .ensures .1))
-    (rw (w₃ .wide3 .ensures .0) at (w₃ .wide3 .ensures .1)) (rw (c .wide4 .ensures .0) at (c .wide4 .ensures .1))))
+    (absent-back (args .pack .now) (args .rest + offsetsAt + 4 * args .n) (omega arith)
+    (rw (first-byte .wide .ensures .0) at (first-byte .wide .ensures .1))
+    (rw (second-byte .wide2 .ensures .0) at (second-byte .wide2 .ensures .1))
+    (rw (third-byte .wide3 .ensures .0) at (third-byte .wide3 .ensures .1))
+    (rw (c .wide4 .ensures .0) at (c .wide4 .ensures .1))))
 
 pub is-given-spec : {M : Type 1} → statement M
 is-given-spec =

@@ -13,21 +13,21 @@ returns c = λ e. absurd (true≢false (sym e ∙ c .no-step .ensures))
 
 returns-2 : tie.Need-returns-2
 returns-2 c =
-    let l = c .before .before in
-    let g₂ = l .before .before in
-    let g = g₂ .before in
-    let i = g .before in
-    let t₂ = i .before in
-    let t = t₂ .before in
-    let s = t .before .before in
-    let a = s .args in
-    let place = t .text-end .ensures .0 in
-    let end = rw place at (t₂ .text-end2 .ensures .0) in
+    let low-name = c .before .before in
+    let departments = low-name .before .before in
+    let names = departments .before in
+    let in-rows = names .before in
+    let end-found = in-rows .before in
+    let department-found = end-found .before in
+    let at-start = department-found .before .before in
+    let args = at-start .args in
+    let department-is = department-found .text-end .ensures .0 in
+    let end-is = rw department-is at (end-found .text-end2 .ensures .0) in
     λ e.
-    organisation-stepped (a .rows .now) (a .at) (omega arith) (omega (arith, s .pre .1)) (s .pre .1) _
-    (l .low .result) (c .low2 .result) end refl (rw end at (i .if1 .left)) (l .low .ensures .0)
-    (rw place at (c .low2 .ensures .0)) (g .ends-good .ensures (and-left _ _ e))
-    (rw place at (g₂ .ends-good2 .ensures (and-right (g .ends-good .result) _ e)))
+    organisation-stepped (args .rows .now) (args .at) (omega arith) (omega (arith, at-start .pre .1)) (at-start .pre .1) _
+    (low-name .low .result) (c .low2 .result) end-is refl (rw end-is at (in-rows .if1 .left)) (low-name .low .ensures .0)
+    (rw department-is at (c .low2 .ensures .0)) (names .ends-good .ensures (and-left _ _ e))
+    (rw department-is at (departments .ends-good2 .ensures (and-right (names .ends-good .result) _ e)))
 
 pub organisation-step-spec : {M : Type 1} → statement M
 organisation-step-spec =

@@ -1,4 +1,5 @@
--- `report_write::blocks::blocks_at` meets its contract. Assumes nothing.
+-- `report_write::blocks::blocks_at` meets its contract. The invariant: the blocks of the first `view` views stand at `at`
+-- as far as the buffer goes, and `i` is the place behind them. Assumes nothing.
 use borrow.Author.Needs.{needs}
 use mathlib.Core.Path.{_≡_, refl, ap}
 use Prim.Native.Nat.{ℕ, _+_, _-_, _≤_}

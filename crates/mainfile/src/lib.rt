@@ -1,0 +1,1 @@
+// A Mainfile set as a source: its definitions.

@@ -1,0 +1,1 @@
+// Where the first fault of a Mainfile record stands: its fields and their tests.

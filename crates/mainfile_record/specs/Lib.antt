@@ -1,0 +1,4 @@
+pub mod Locality
+pub mod Text
+pub mod Organisation
+pub mod Address

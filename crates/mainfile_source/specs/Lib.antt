@@ -1,0 +1,4 @@
+pub mod Accepted
+pub mod Rows
+pub mod Organisations
+pub mod Delivery
