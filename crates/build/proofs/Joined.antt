@@ -12,7 +12,7 @@ use lib.ListN.{length, drop, getD, set, List·getD-append, length-append, length
 use lib.Seq.{getD-append-add, getD-drop, set-append-left, drop-set-add}
 use Rattle.shelf.specs.Stock.{Stock, ahead, behind, joined}
 use Rattle.build.specs.Plan.{markRow}
-use Rattle.build.specs.Rows.{rowBytesAt, isMarked, sizeAt, bytesTo, countTo, allBytes, allCount, rowsFrom}
+use Rattle.build.specs.Rows.{rowBytesAt, isMarked, sizeAt, bytesTo, countTo, allBytes, allCount, rowsFrom, joinedMarks}
 use Rattle.build.specs.Placed.{startOf}
 use Rattle.build.specs.Bytes.{usedRows}
 
@@ -42,10 +42,6 @@ module _ (st : Stock) (marks others : List ℕ) (same : SameMarks st marks other
   used-as = rows-as (ahead st) 1 (omega arith) (omega arith)
 
 -- ---- two stocks as one
-
--- the marks of the second's rows behind those of the first's: a list of marks begins with that of no row
-abbrev pub joinedMarks : List ℕ → List ℕ → List ℕ
-joinedMarks first second = first ++ drop 1 second
 
 rows-split : (st : Stock) (marks : List ℕ) (k n i : ℕ)
     → rowsFrom st marks (k + n) i ≡ rowsFrom st marks k i ++ rowsFrom st marks n (i + k)

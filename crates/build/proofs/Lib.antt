@@ -2,3 +2,4 @@ pub mod Laws
 pub mod Walks
 pub mod Pack
 pub mod Joined
+pub mod Starts

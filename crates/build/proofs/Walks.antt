@@ -79,6 +79,14 @@ module _ {others : List ℕ} {all : List Packed} {rows bytes : ℕ} where
       → (rows ≡ organisationCount all) × (bytes ≡ length (organisationRows others all))
   summing-end m = (omega (arith, m .count), omega (arith, m .size))
 
+-- how long the organisations' rows are from one on
+pub organisations-length : (others : List ℕ) {ds : List Packed} (d : Packed) (more : List Packed) → ds ≡ d ∷ more
+    → length (organisationRows others ds)
+    ≡ length (organisationRow others (d .point)) + length (organisationRows others more)
+organisations-length others d more e =
+    ap (λ (ps : List Packed). length (organisationRows others ps)) e
+    ∙ length-append (organisationRow others (d .point)) (organisationRows others more)
+
 -- writing: room for the next one, and what is left behind it
 module _ {whole o x : List ℕ} {s i : ℕ} (d : Packed) (ds : List Packed) (h : s + length whole ≤ length o) where
   module _ (others : List ℕ) (g : Going whole (organisationRows others (d ∷ ds)) o s i x) where

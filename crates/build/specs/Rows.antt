@@ -4,7 +4,7 @@ use Prim.Native.Nat.{ℕ, zero, suc, _+_, _-_}
 use mathlib.Core.Bool.{Bool, cond, not}
 use mathlib.Core.List.{List, [], _∷_, _++_}
 use lib.Dec.{eqb}
-use lib.ListN.{length, getD}
+use lib.ListN.{length, drop, getD}
 use Rattle.source.specs.Address.{kindOf}
 use Rattle.shelf.specs.Stock.{Stock}
 use Rattle.pack.specs.Layout.{textsBytes}
@@ -40,3 +40,7 @@ allCount st marks = countTo marks (st .last - 1)
 abbrev pub rowsFrom : Stock → List ℕ → ℕ → ℕ → List ℕ
 rowsFrom st marks zero i = []
 rowsFrom st marks (suc k) i = cond (isMarked marks i) (rowBytesAt st i) [] ++ rowsFrom st marks k (suc i)
+
+-- the marks of the rows of two stocks as one, the second's behind the first's: a list of marks begins with that of no row
+abbrev pub joinedMarks : List ℕ → List ℕ → List ℕ
+joinedMarks first second = first ++ drop 1 second

@@ -6,6 +6,7 @@ use mathlib.Core.List.{List}
 use native.Mathlib.Omega.{arith}
 use lib.ListN.{length, getD, replicate, length-replicate}
 use Rattle.field_outward.specs.Outward.{outwardFault}
+use Rattle.field_outward.proofs.Long.{outward-long}
 use Rattle.refusal.specs.declared.Answer.the-variants.{Value}
 use Rattle.refusal.specs.declared.Verdict.{Verdict}
 use Rattle.refusal.specs.declared.Verdict.the-variants.{Fine}
@@ -19,7 +20,6 @@ use Rattle.shelf.specs.Shelf.{lastOf}
 use Rattle.pack.specs.Cutting.{firstBad, cutWith, cutOutcome}
 use Rattle.changes_pair.specs.Live.{liveIn}
 use Rattle.changes_pair.specs.Pair.{pairOf}
-use Rattle.changes_pair.proofs.Live.{code-length}
 use Rattle.changes_sound.proofs.Size.{pack-small}
 use Rattle.build.specs.Plan.{firstRefused, markAll, organisationRows, organisationCount}
 use Rattle.build.specs.Rows.{allBytes, allCount}
@@ -97,7 +97,7 @@ module _ (table points code marks starts : List ℕ) (m : Marked table points co
   counted =
       ap length (sym written)
       ∙ pack-size code (all-say points code (m .judged .of-code)) (all-within points code) p
-      (code-length code (m .judged .of-code))
+      (outward-long code (m .judged .of-code))
 
   -- so that no sum is too large
   pub small : length (livePack table points code) < 4_294_967_295

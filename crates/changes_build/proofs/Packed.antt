@@ -55,14 +55,6 @@ pub rows-found : (table points : List ℕ) → Accepted tableFormat table → (i
     → rows ≡ rowsOf (tableStock table) (deliveryAt points i)
 rows-found table points t i e f is = is ∙ rw (e, f) (rows-meant table points t i)
 
--- how long the organisations' rows are from one view on
-pub organisations-length : (points : List ℕ) {ds : List Packed} (d : Packed) (more : List Packed) → ds ≡ d ∷ more
-    → length (organisationRows points ds)
-    ≡ length (organisationRow points (d .point)) + length (organisationRows points more)
-organisations-length points d more e =
-    ap (λ (ps : List Packed). length (organisationRows points ps)) e
-    ∙ length-append (organisationRow points (d .point)) (organisationRows points more)
-
 -- and there is a mark for each, where there is one for each record
 pub found-below : (table : List ℕ) (n : ℕ) (keys : List Asked) {s : Shelf} {rows : List ℕ} → 0 < n
     → lastOf tableShelf table ≤ n

@@ -2,35 +2,26 @@
 -- are all there are.
 -- Assumes nothing.
 use Prim.Native.Nat.{ℕ, _*_, _≤_}
-use mathlib.Core.Path.{_≡_, refl, sym, ap, _∙_}
-use mathlib.Core.Bool.{Bool, true, false, cond}
+use mathlib.Core.Path.{_≡_, refl, _∙_}
 use mathlib.Core.List.{List, _++_}
 use native.Mathlib.Omega.{arith}
-use lib.Dec.{leb}
 use lib.ListN.{length, drop}
-use Rattle.refusal.specs.declared.Reason.the-variants.{Room}
 use Rattle.refusal.specs.declared.Answer.{Answer}
 use Rattle.refusal.specs.declared.Answer.the-variants.{Value, Refused}
-use Rattle.refusal.proofs.Answers.{refused-value, same-value}
+use Rattle.refusal.proofs.Answers.{refused-value}
 use Rattle.file.specs.Check.{checked}
 use Rattle.file.specs.Formats.{pointFormat}
-use Rattle.refusal.specs.Outcome.{said, afterwards}
+use Rattle.refusal.specs.Outcome.{afterwards}
 use Rattle.refusal.proofs.Outcomes.{answer-of, afterwards-value}
 use Rattle.file.specs.Accepted.{Accepted}
 use Rattle.file.proofs.Accepted.{accepted, accepts}
-use Rattle.tally.specs.Tally.{Entry, codes, counts}
-use Rattle.tally.proofs.Tallies.{tally-few, codes-length, counts-length}
-use Rattle.changes_codes.specs.Codes.{allCodes, codesIn, entryBytes, roomed, entriesOutcome, codesOutcome}
+use Rattle.tally.proofs.Tallies.{tally-few}
+use Rattle.tally_bytes.specs.Entries.{entryBytes, entriesOutcome}
+use Rattle.tally_bytes.proofs.Entries.{entries-long, fits, entries-written}
+use Rattle.changes_codes.specs.Codes.{allCodes, codesIn, codesOutcome}
 use Rattle.changes_codes.specs.Told.{Told}
 use Rattle.changes_codes.proofs.Gathered.{all-few}
-use Rattle.changes_codes.proofs.Pairs.{pairs-are, pairs-long, fits}
 use Rattle.changes_codes.proofs.Told.{codes-told}
-
--- eight bytes for each code
-pub entries-long : (es : List Entry) → length (entryBytes es) ≡ 8 * length es
-entries-long es =
-    ap length (sym (pairs-are es))
-    ∙ (pairs-long (codes es) (counts es) (counts-length es ∙ sym (codes-length es)) ∙ ap (8 *_) (codes-length es))
 
 -- no more codes than live views
 pub entries-few : (points : List ℕ) → Accepted pointFormat points → length (codesIn points) ≤ 20_000
@@ -41,28 +32,6 @@ pub record Answered (points out : List ℕ) (n : ℕ) : Type 0 where
   pub many : n ≡ length (codesIn points)
   pub written : codesOutcome points out .memory ≡ entryBytes (codesIn points) ++ drop (8 * n) out
   pub told : Told points (codesIn points)
-
--- entries in a buffer, by the answer: how many there are, and that they stand there
-entries-written : (es : List Entry) (out : List ℕ) (n : ℕ) → entriesOutcome es out .answer ≡ Value n
-    → (n ≡ length es) × (entriesOutcome es out .memory ≡ entryBytes es ++ drop (8 * n) out)
-unfolding roomed
-entries-written es out n e = by-test (leb (length (entryBytes es)) (length out)) e
-  where
-    by-test : (t : Bool)
-        → cond t (said (Value (length es)) (entryBytes es ++ drop (length (entryBytes es)) out))
-        (said (Refused 0 (Room (length (entryBytes es)))) out)
-        .answer
-        ≡ Value n
-        → (n ≡ length es)
-        × (cond t (said (Value (length es)) (entryBytes es ++ drop (length (entryBytes es)) out))
-        (said (Refused 0 (Room (length (entryBytes es)))) out)
-        .memory
-        ≡ entryBytes es ++ drop (8 * n) out)
-    by-test true e =
-        let many : n ≡ length es = sym (same-value (length es) n e) in
-        let size : length (entryBytes es) ≡ 8 * n = entries-long es ∙ ap (8 *_) (sym many) in
-        (many, ap (λ k. entryBytes es ++ drop k out) size)
-    by-test false e = absurd (refused-value 0 n (Room (length (entryBytes es))) e)
 
 module _ (points out : List ℕ) where
   pub answered : (n : ℕ) → codesOutcome points out .answer ≡ Value n → Answered points out n

@@ -12,7 +12,8 @@ use Rattle.label.specs.Put.{Wrote}
 use Rattle.tally.specs.Tally.{tally, codes, counts}
 use Rattle.tally.proofs.Tallies.{codes-length, counts-length, tally-few}
 use Rattle.tally_count.specs.Counted.{Counted}
-use Rattle.changes_codes.specs.Codes.{allCodes, codesIn, pairBytes, roomed, entriesOutcome}
+use Rattle.tally_bytes.specs.Entries.{roomed, entriesOutcome}
+use Rattle.changes_codes.specs.Codes.{allCodes, codesIn, pairBytes}
 use Rattle.changes_codes.proofs.Gathered.{all-few}
 use Rattle.changes_codes.proofs.Pairs.{pairs-are}
 

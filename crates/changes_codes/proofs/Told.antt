@@ -2,13 +2,12 @@
 -- missing.
 -- Assumes nothing.
 use Prim.Native.Nat.{ℕ, zero, suc, _+_, _-_, _≤_, _<_}
-use mathlib.Core.Path.{_≡_, refl, sym, ap, _∙_}
+use mathlib.Core.Path.{_≡_, refl}
 use mathlib.Core.Bool.{Bool, true, false, cond}
 use mathlib.Core.List.{List, [], _∷_}
 use native.Mathlib.Omega.{arith}
-use borrow.Author.Tests.{eq-eqb, eqb-true}
 use lib.Dec.{eqb}
-use lib.ListN.{length, getD}
+use lib.ListN.{length}
 use Rattle.field.specs.Text.{part}
 use Rattle.field_outward.specs.Outward.{outwardFault}
 use Rattle.field_outward.proofs.Codes.{not-four}
@@ -16,22 +15,19 @@ use Rattle.file_record.specs.Parts.{recordAt}
 use Rattle.file_fault.proofs.Passing.{point-passes}
 use Rattle.refusal.specs.declared.Reason.the-variants.{BadCode}
 use Rattle.refusal.specs.declared.Answer.the-variants.{Value, Refused}
-use Rattle.refusal.proofs.Answers.{refused-value, same-value}
 use Rattle.file.specs.Formats.{pointFormat}
 use Rattle.file.specs.Accepted.{Accepted}
 use Rattle.file.proofs.Accepted.{accepts}
 use Rattle.changes_views.specs.Views.{isView, isLive, inCode, wanted, lastOf, wantedFrom, wantedIn, wantedCount}
-use Rattle.pack.specs.Numbers.{bytesOf, numberFrom, numberAt}
-use Rattle.pack_carries.proofs.Numbers.{number-back}
+use Rattle.pack.specs.Numbers.{numberFrom, numberAt}
 use Rattle.changes_list.specs.Listing.{liveAt, liveAnswer}
-use Rattle.tally.specs.Order.{Each, Climbs}
-use Rattle.tally.specs.Tally.{Entry, codes, counts, occurs, countOf}
-use Rattle.tally.proofs.Order.{each-at, climbs-at}
-use Rattle.tally.proofs.Tallies.{each-tally, codes-climb, counts-some, count-is, count-at, count-found, count-within, total-is, codes-length, counts-length}
+use Rattle.tally.specs.Order.{Each}
+use Rattle.tally.specs.Tally.{occurs}
+use Rattle.tally_bytes.proofs.Coded.{Coded, coded, same-code}
+use Rattle.tally_bytes.proofs.Tells.{tally-tells}
 use Rattle.changes_codes.specs.Codes.{codeOf, liveCodes, allCodes, codesIn}
-use Rattle.changes_codes.specs.Told.{codeAt, countAt, Stands, Told}
+use Rattle.changes_codes.specs.Told.{Told}
 use Rattle.changes_codes.proofs.Gathered.{all-few}
-use Rattle.changes_codes.proofs.Bytes.{Coded, code-back, coded, same-code, code-below}
 
 module _ (points : List ℕ) (a : Accepted pointFormat points) where
   -- the outward code of each record is well formed
@@ -110,55 +106,18 @@ module _ (points : List ℕ) (a : Accepted pointFormat points) where
   occurs-is (x ∷ xs) good = occurs-in x xs good
 
   -- what `ttw_live` answers for a code
-  pub live-said : (code : List ℕ) → outwardFault code ≡ 0
-      → liveAnswer points code ≡ Value (countOf (numberFrom 0 code) (codesIn points))
+  live-asked : (code : List ℕ)
+      → liveAnswer points code ≡ cond (eqb (outwardFault code) 0) (Value (wantedCount code points)) (Refused 0 BadCode)
   unfolding liveAnswer liveAt
-  live-said code good =
-      simp (accepts pointFormat points a, eq-eqb (outwardFault code) 0 good)
-      (ap Value (sym (occurs-is code good) ∙ sym (count-is (numberFrom 0 code) (allCodes points))))
+  live-asked code = simp (accepts pointFormat points a)
 
-  good-code : (code : List ℕ) (n : ℕ) → liveAnswer points code ≡ Value n → outwardFault code ≡ 0
-  unfolding liveAnswer liveAt
-  good-code code n e = by-test (eqb (outwardFault code) 0) refl (simp (accepts pointFormat points a) at e)
-    where
-      by-test : (t : Bool) → eqb (outwardFault code) 0 ≡ t
-          → cond t (Value (wantedCount code points)) (Refused 0 BadCode) ≡ Value n
-          → outwardFault code ≡ 0
-      by-test true h e = eqb-true (outwardFault code) 0 h
-      by-test false h e = absurd (refused-value 0 n BadCode e)
-
-  abbrev es : List Entry
-  es = codesIn points
-
-  climbing : Climbs (codes es)
-  climbing = codes-climb (allCodes points)
-
-  each-coded : (k : ℕ) → k < length es → Coded (getD (codes es) k 0)
-  each-coded k h =
-      each-at Coded (codes es) k (omega (arith, codes-length es)) (each-tally Coded (allCodes points) all-coded)
-
-  missing-none : (code : List ℕ) (n : ℕ) → liveAnswer points code ≡ Value n → 1 ≤ n → Stands code es
-  missing-none code n e some =
-      let good = good-code code n e in
-      let many : n ≡ countOf (numberFrom 0 code) es =
-      same-value n (countOf (numberFrom 0 code) es) (sym e ∙ live-said code good) in
-      let f = count-found (numberFrom 0 code) es (omega arith) in
-      record { place = f .place; within = f .within; is = ap (bytesOf 4) (f .is) ∙ code-back code good }
-
-  pub codes-told : Told points es
+  pub codes-told : Told points (codesIn points)
   codes-told =
+      tally-tells (liveAnswer points) (allCodes points)
       record {
-        rising = λ j k h l.
-            code-below (getD (codes es) j 0) (getD (codes es) k 0) (each-coded j (omega arith)) (each-coded k l)
-            (climbs-at (codes es) j k climbing h (omega (arith, codes-length es)));
-        each = λ k h.
-            live-said (codeAt es k) (each-coded k h .well-formed)
-            ∙ ap Value (ap (λ c. countOf c es) (each-coded k h .back) ∙ count-at es k climbing h);
-        some = λ k h.
-            each-at (λ n. 1 ≤ n) (counts es) k (omega (arith, counts-length es)) (counts-some (allCodes points));
-        held = λ k h.
-            number-back 4 (countAt es k)
-            (omega (arith, count-within es k, total-is (allCodes points), all-few points a));
-        none-missing = missing-none;
-        all = total-is (allCodes points);
+        formed = all-coded;
+        few = omega (arith, all-few points a);
+        many = λ code. wantedCount code points;
+        asked = live-asked;
+        occurring = occurs-is;
       }

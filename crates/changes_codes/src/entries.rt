@@ -1,16 +1,15 @@
-// Entries as bytes: a code in four and its count in four.
-use build_bytes::inner::word_at;
+// Entries of two lists, as bytes.
 use refusal::Answer;
 use refusal::Reason;
+use tally_bytes::Entry;
+use tally_bytes::inner::entry_at;
 ghost use mathlib.Core.Path.{_≡_};
 ghost use Prim.Native.Nat.{_*_, _≤_};
 ghost use lib.ListN.{length};
 ghost use Rattle.label.specs.Put.{Wrote};
 ghost use Rattle.refusal.specs.Outcome.{said};
-ghost use Rattle.changes_codes.specs.Codes.{pairBytes, roomed};
-
-// The bytes of an entry.
-const ENTRY: usize = 8;
+ghost use Rattle.tally_bytes.specs.Entries.{roomed};
+ghost use Rattle.changes_codes.specs.Codes.{pairBytes};
 
 // Entries at the front of a lent buffer that has room for them.
 fn write_entries(codes: &[u32], counts: &[u32], out: &mut [u8]) -> usize
@@ -22,8 +21,7 @@ fn write_entries(codes: &[u32], counts: &[u32], out: &mut [u8]) -> usize
     let mut at = 0;
     let mut i = 0;
     while i < codes.len() {
-        let end = word_at(codes[i] as usize, at, out);
-        at = word_at(counts[i] as usize, end, out);
+        at = entry_at(codes[i] as usize, counts[i] as usize, at, out);
         i += 1;
     }
     at
@@ -35,7 +33,7 @@ pub fn write_if_room(codes: &[u32], counts: &[u32], out: &mut [u8]) -> Answer
     ensures { λ r. ⌜ said r (now (out .exit)) ≡ roomed (length (now (codes .entry)))
         (pairBytes (now (codes .entry)) (now (counts .entry))) (now (out .entry)) ⌝ }
 {
-    let needed = ENTRY * codes.len();
+    let needed = Entry::WIDTH * codes.len();
     if out.len() < needed {
         return Answer::Refused {
             file: 0,

@@ -9,7 +9,8 @@ ghost use mathlib.Core.Path.{_≡_};
 ghost use Rattle.file.specs.Formats.{pointFormat};
 ghost use Rattle.file.specs.Accepted.{Accepted};
 ghost use Rattle.refusal.specs.Outcome.{said};
-ghost use Rattle.changes_codes.specs.Codes.{codesIn, entriesOutcome, codesOutcome};
+ghost use Rattle.tally_bytes.specs.Entries.{entriesOutcome};
+ghost use Rattle.changes_codes.specs.Codes.{codesIn, codesOutcome};
 
 // The most records of a point file.
 const RECORDS: usize = 20000;

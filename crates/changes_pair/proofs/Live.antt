@@ -6,12 +6,12 @@ use mathlib.Core.Bool.{Bool, true, false, cond, _&&_}
 use mathlib.Core.List.{List, [], _∷_}
 use mathlib.Core.Option.{none, some}
 use native.Mathlib.Omega.{arith}
-use borrow.Author.Tests.{eqb-true, eqb-false, leb-true, leb-false}
+use borrow.Author.Tests.{leb-true, leb-false}
 use lib.Dec.{eqb, leb}
 use lib.ListN.{length, getD}
 use Rattle.file_record.specs.Parts.{recordAt}
 use Rattle.field_outward.specs.Outward.{outwardFault}
-use Rattle.field_outward.proofs.Codes.{not-four}
+use Rattle.field_outward.proofs.Long.{outward-long}
 use Rattle.changes_views.specs.Views.{isView, isLive, wanted, lastOf, wantedFrom, wantedIn, wantedCount, wantedAt, viewNumber}
 use Rattle.changes_views.specs.Views as views
 use Rattle.source.specs.Address.{Lookup, Address}
@@ -105,20 +105,12 @@ pub all-views : (points : List ℕ) → addressesIn points ≡ viewsAt points (w
 unfolding addressesIn wantedIn
 all-views points = rw (number-none points) at (from-all points (lastOf points - 1) 0)
 
--- a code that is well formed has four bytes
-pub code-length : (code : List ℕ) → outwardFault code ≡ 0 → length code ≡ 4
-code-length code e = by-test (eqb (length code) 4) refl
-  where
-    by-test : (t : Bool) → eqb (length code) 4 ≡ t → length code ≡ 4
-    by-test true q = eqb-true (length code) 4 q
-    by-test false q = absurd (omega (arith, not-four code (eqb-false (length code) 4 q)))
-
 -- of k records behind place j: the views numbered on, of these the live ones in the code, are those at the wanted
 -- places
 pub views-from : (points code : List ℕ) → outwardFault code ≡ 0 → (k j : ℕ)
     → inCode code (kept (numbered points (suc (viewNumber points j)) (wantedFrom [] points k (suc j))))
     ≡ viewsAt points (wantedFrom code points k (suc j))
-views-from points [] e = absurd (omega (arith, code-length [] e))
+views-from points [] e = absurd (omega (arith, outward-long [] e))
 views-from points (x ∷ xs) e = from-views x xs points
 
 pub live-views : (points code : List ℕ) → outwardFault code ≡ 0

@@ -14,7 +14,7 @@ use lib.ListN.{length, getD}
 use lib.Seq.{getD-take}
 use Rattle.field.specs.Test.{elem, every, only}
 use Rattle.field.specs.Digits.{digit, digitsFault, value}
-use Rattle.field.specs.Text.{textFault, part, textIn}
+use Rattle.field.specs.Text.{part, textIn}
 use Rattle.field.proofs.Tests.{and-left, and-right, range-low, range-high}
 use Rattle.file_record.specs.Parts.{recordAt}
 use Rattle.file_compare.specs.Order.{order, same}
@@ -28,9 +28,9 @@ use Rattle.source.specs.Address.{named}
 use Rattle.changes_source.specs.Addresses.{organisationOf}
 use Rattle.file_record.proofs.Records.{part-length, record-length}
 use Rattle.file_fault.proofs.Passing.{Passes, digits-pass, point-passes}
-use Rattle.label.specs.Lines.{isEmpty}
 use Rattle.pack.specs.Sound.{OrganisationSound}
-use Rattle.changes_sound.proofs.Texts.{may-be-blank, filled-text, not-blank}
+use Rattle.pack_sound.proofs.Texts.{filled-text, not-blank}
+use Rattle.pack_sound.proofs.Fields.{small-user, named-sound}
 
 -- the first byte of a front is the record's
 front-first : (rec : List ℕ) (w : ℕ) → 0 < w → getD (part rec 0 w) 0 0 ≡ getD rec 0 0
@@ -130,14 +130,6 @@ view-needs : (rec : List ℕ) → getD rec 41 0 ≡ 49
 unfolding needed
 view-needs rec view = simp view
 
--- "Postcode type S or L"
-small-user : (type : ℕ) → elem type (83 ∷ 76 ∷ []) ≡ true → eqb type 76 ≡ false → type ≡ 83
-small-user type e f = by-test (eqb type 83) refl
-  where
-    by-test : (t : Bool) → eqb type 83 ≡ t → type ≡ 83
-    by-test true q = eqb-true type 83 q
-    by-test false q = absurd (true≢false (sym (simp (q, f) at e)))
-
 -- "S with an organisation key above zero needs a type 2 next; L needs a type 3 next .. S with key zero has none"
 module _ (rec next : List ℕ) (view : getD rec 41 0 ≡ 49) (either : elem (getD rec 23 0) (83 ∷ 76 ∷ []) ≡ true) where
   abbrev type : ℕ
@@ -149,18 +141,12 @@ module _ (rec next : List ℕ) (view : getD rec 41 0 ≡ 49) (either : elem (get
   abbrev Named : Type 0
   Named = OrganisationSound type key (named (textIn next 42 102) (textIn next 102 162))
 
-  named-sound : textFault (part next 42 102) ≡ 0 → textFault (part next 102 162) ≡ 0
-      → (type ≡ 83 → (0 < key) × (isEmpty (textIn next 42 102) ≡ false))
-      → Named
-  named-sound name department small =
-      (may-be-blank next 42 102 60 (omega arith) name, (may-be-blank next 102 162 60 (omega arith) department, small))
-
   large-sound : type ≡ 76 → Passes 42 (pointRest 51) next → Named
-  large-sound e p = named-sound (p .0) (p .1 .0) (λ (h : type ≡ 83). absurd (omega arith))
+  large-sound e p = named-sound type key next 42 (p .0) (p .1 .0) (λ (h : type ≡ 83). absurd (omega arith))
 
   small-sound : (key ≡ 0 → ⊥) → Passes 42 (pointRest 50) next → Named
   small-sound n p =
-      named-sound (filled-text next 42 102 (p .0)) (p .1 .0)
+      named-sound type key next 42 (filled-text next 42 102 (p .0)) (p .1 .0)
       (λ (h : type ≡ 83). (omega arith, not-blank next 42 102 (p .0)))
 
   pub organisation-sound : ((needed rec ≡ 0 → ⊥) → (getD next 41 0 ≡ needed rec) × (pointFault next ≡ 0))

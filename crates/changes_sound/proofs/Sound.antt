@@ -22,7 +22,7 @@ pub pair-sound : (table points code : List ℕ) → Accepted tableFormat table �
 pair-sound table points code t p e fine =
     record {
       of-rows = rows-sound table t;
-      of-addresses = addresses-sound (tableLookup table) points code p e fine;
+      of-addresses = addresses-sound (tableLookup table) points code p fine;
       of-code = e;
       small = pack-small table points code p e;
     }

@@ -18,15 +18,15 @@ use Rattle.file_fault.specs.Point.{pointHead, viewFields, pointRest, poi
 use Rattle.file_fault.proofs.Laws.{digits-bound}
 
 -- a test that names no byte further than one behind its field
-abbrev Near : (List ℕ → ℕ) → Type 0
+abbrev pub Near : (List ℕ → ℕ) → Type 0
 Near test = (s : List ℕ) → test s ≤ 1 + length s
 
-abbrev AllNear : List Field → Type 0
+abbrev pub AllNear : List Field → Type 0
 AllNear [] = Unit {0}
 AllNear (f ∷ fs) = Near (f .test) × AllNear fs
 
 -- how many bytes fields take
-abbrev widths : List Field → ℕ
+abbrev pub widths : List Field → ℕ
 widths [] = 0
 widths (f ∷ fs) = f .width + widths fs
 
@@ -38,7 +38,7 @@ place-bound : (start fault n : ℕ) → start + fault ≤ n → place start faul
 place-bound start zero n h = omega arith
 place-bound start (suc fault) n h = h
 
-fields-bound : (start : ℕ) (fs : List Field) (rec : List ℕ) → AllNear fs → faultIn start fs rec ≤ start + widths fs + 1
+pub fields-bound : (start : ℕ) (fs : List Field) (rec : List ℕ) → AllNear fs → faultIn start fs rec ≤ start + widths fs + 1
 fields-bound start [] rec near = omega arith
 fields-bound start (f ∷ fs) rec near =
     let here = part rec start (start + f .width) in
@@ -47,7 +47,7 @@ fields-bound start (f ∷ fs) rec near =
     (omega (arith, near .0 here, part-bound rec start (start + f .width))))
     (omega (arith, fields-bound (start + f .width) fs rec (near .1)))
 
-one-of-near : (bytes : List ℕ) → Near (oneOf bytes)
+pub one-of-near : (bytes : List ℕ) → Near (oneOf bytes)
 unfolding oneOf
 one-of-near bytes s = by-test (elem (getD s 0 0) bytes)
   where
@@ -55,7 +55,7 @@ one-of-near bytes s = by-test (elem (getD s 0 0) bytes)
     by-test true = omega arith
     by-test false = omega arith
 
-key-near : Near keyFault
+pub key-near : Near keyFault
 unfolding keyFault
 key-near s = by-test (only 48 s)
   where
@@ -63,7 +63,7 @@ key-near s = by-test (only 48 s)
     by-test true = omega arith
     by-test false = digits-bound s
 
-double-near : (dependent : List ℕ) → Near (doubleFault dependent)
+pub double-near : (dependent : List ℕ) → Near (doubleFault dependent)
 unfolding doubleFault
 double-near dependent s = by-test (blank dependent && not (blank s))
   where

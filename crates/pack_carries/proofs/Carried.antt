@@ -22,7 +22,8 @@ use Rattle.pack_carries.proofs.Stands.{Stands, stands-end, stands-all, 
 use Rattle.pack_carries.proofs.Rows.{and-both, rows-good}
 use Rattle.pack_carries.proofs.Entries.{entries-sound, all-found}
 use Rattle.pack_carries.proofs.Trailer.{Says, trailer-long, trailer-says}
-use Rattle.pack_carries.proofs.Points.{outward-long, points-long}
+use Rattle.field_outward.proofs.Long.{outward-long}
+use Rattle.pack_carries.proofs.Points.{points-long}
 use Rattle.pack_carries.proofs.Refs.{RowsSaid}
 use Rattle.pack_carries.proofs.Point.{points-good, points-read}
 

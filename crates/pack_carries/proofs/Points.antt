@@ -2,18 +2,12 @@
 -- Assumes nothing.
 use Prim.Native.Nat.{ℕ, zero, suc, _+_, _*_, _<_}
 use mathlib.Core.Path.{_≡_, refl, ap, subst, _∙_}
-use mathlib.Core.Bool.{Bool, true, false, cond}
 use mathlib.Core.List.{List, [], _∷_, _++_}
 use mathlib.Core.Option.{Option, none, some}
 use native.Mathlib.Omega.{arith}
-use borrow.Author.Tests.{eqb-true}
-use lib.Dec.{eqb}
 use lib.ListN.{length, getD, length-append}
-use Rattle.field.specs.Test.{elem}
 use Rattle.field.specs.Text.{part}
-use Rattle.field.proofs.Tests.{and-left}
-use Rattle.field_outward.specs.Outward.{sequenceFrom, patterns, outwardFault}
-use Rattle.field_outward.specs.Inward.{inwardFault}
+use Rattle.field_outward.proofs.Long.{outward-long, inward-long}
 use Rattle.source.specs.Address.{Lookup, Address}
 use Rattle.pack.specs.Names.{newest, inwardAt, postcodeWidth, behindPostcode, typeAt, addressKeyAt, organisationKeyAt, buildingNumberAt, concatenationAt, boxAt, offsetsAt, restAt, pointWidth, absent}
 use Rattle.pack.specs.Numbers.{bytesOf, numberAt}
@@ -23,19 +17,6 @@ use Rattle.pack.specs.Sound.{AddressSound, AddressesSound}
 use Rattle.pack_carries.proofs.Numbers.{bytes-long}
 use Rattle.pack_carries.proofs.Stands.{Stands, stands-first, stands-second, stands-part, stands-byte, stands-number}
 use Rattle.pack_carries.proofs.Found.{offset-within}
-
--- a code without fault has its length
-long-of : (n m more : ℕ) (t : Bool) → (t ≡ true → eqb n m ≡ true) → cond t more 1 ≡ 0 → n ≡ m
-long-of n m more true is e = eqb-true n m (is refl)
-long-of n m more false is e = absurd (omega arith)
-
-pub outward-long : (s : List ℕ) → outwardFault s ≡ 0 → length s ≡ 4
-unfolding outwardFault
-outward-long s e = long-of (length s) 4 _ _ (and-left (eqb (length s) 4) (elem (sequenceFrom 0 s) patterns)) e
-
-pub inward-long : (s : List ℕ) → inwardFault s ≡ 0 → length s ≡ 3
-unfolding inwardFault
-inward-long s e = long-of (length s) 3 _ (eqb (length s) 3) (λ h. h) e
 
 -- ---- references
 

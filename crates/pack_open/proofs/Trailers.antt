@@ -1,16 +1,15 @@
 -- Laws of the trailer, and of the array in which row starts are kept.
 -- Assumes nothing.
-use Prim.Native.Nat.{ℕ, zero, suc, _+_, _*_, _/_, _%_, _^_, _≤_, _<_}
-use mathlib.Core.Path.{_≡_, refl, sym, ap, _∙_}
+use Prim.Native.Nat.{ℕ, _+_, _*_, _/_, _≤_, _<_}
+use mathlib.Core.Path.{_≡_, sym, ap, _∙_}
 use mathlib.Core.Bool.{Bool, true, false, _&&_}
 use mathlib.Core.List.{List}
 use native.Mathlib.Omega.{arith}
-use native.Mathlib.Nat.{le-of-lt, lt-mul-div-succ, div-le-self, zero-div}
+use native.Mathlib.Nat.{le-of-lt, lt-mul-div-succ, div-le-self}
 use borrow.Author.Tests.{le-leb, lt-leb, eqb-true}
 use lib.Dec.{eqb, leb, lit<}
-use lib.ListN.{length, getD, replicate, length-replicate}
+use lib.ListN.{length, replicate, length-replicate}
 use Rattle.field.proofs.Tests.{and-right}
-use Rattle.bits.specs.Bits.{marked, Unmarked}
 use Rattle.field_outward.specs.Outward.{outwardFault}
 use Rattle.pack.specs.Names.{known, pointWidth, trailerWidth}
 use Rattle.pack.specs.Opening.{edition, rowCount, pointsStart, pointCount, outward, lengthSaid, trailerGood}
@@ -92,19 +91,6 @@ module _ (pack rows : List ℕ) (fine : Bool) (kept : List ℕ) (is : Kept pack 
   -- and the bits are where the rows are fine and not too long
   pub covered : fine ≡ true → length rows ≤ 524_288 → Marked pack rows kept
   covered e h = record { area = is .area .area; room = omega (arith, is .size); fine = is .marked e }
-
--- no bit of a fresh array is set
-zeros : (n i : ℕ) → getD {A = ℕ} (replicate n 0) i 0 ≡ 0
-zeros zero i = refl
-zeros (suc n) zero = refl
-zeros (suc n) (suc i) = zeros n i
-
-pub fresh-unmarked : (n : ℕ) → Unmarked (replicate {A = ℕ} n 0)
-unfolding marked
-fresh-unmarked n o =
-    let none : getD {A = ℕ} (replicate n 0) (o / 32) 0 / 2 ^ (o % 32) % 2 ≡ 0
-    = ap (λ w. w / 2 ^ (o % 32) % 2) (zeros n (o / 32)) ∙ ap (_% 2) (zero-div (2 ^ (o % 32))) in
-    ap (λ z. eqb z 1) none
 
 pub as-long : (n : ℕ) (kept : List ℕ) → length kept ≡ length (replicate {A = ℕ} n 0) → length kept ≡ n
 as-long n kept e = e ∙ length-replicate n 0

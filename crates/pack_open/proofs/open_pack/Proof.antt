@@ -14,7 +14,8 @@ use Rattle.pack.specs.Opening.{rowCount, rowArea, rowsGood, trailerGood, allRow
 use Rattle.pack_rows.specs.Marks.{Fine}
 use Rattle.pack_read.specs.Laid.{Trailed}
 use Rattle.pack_points.proofs.PointLaws.{trailed}
-use Rattle.pack_open.proofs.Trailers.{trailer-sized, fresh-unmarked, same-count, as-long}
+use Rattle.bits.proofs.Fresh.{fresh-unmarked}
+use Rattle.pack_open.proofs.Trailers.{trailer-sized, same-count, as-long}
 use Rattle.pack_open.proofs.open_pack.Statement.{statement}
 use Rattle.pack_open.proofs.open_pack.Tie as tie
 

@@ -16,9 +16,9 @@ use Rattle.label.proofs.Puts.{room-as, put-as}
 use Rattle.label.proofs.Going.{Going, going-start, going-as, going-end}
 use Rattle.build.specs.Plan.{Packed, rowsOf, organisationRow, organisationRows}
 use Rattle.build.specs.Bytes.{pointWith, pointIn, pointsIn}
-use Rattle.build.proofs.Walks.{point-room, point-on}
+use Rattle.build.proofs.Walks.{organisations-length, point-room, point-on}
 use Rattle.changes_build.specs.Views.{packedAt, packedIn}
-use Rattle.changes_build.proofs.Packed.{packedFrom, packed-start, packed-step, packed-end, view-within, rows-found, organisations-length}
+use Rattle.changes_build.proofs.Packed.{packedFrom, packed-start, packed-step, packed-end, view-within, rows-found}
 use Rattle.changes_build.proofs.walks.points_at.Statement.{statement}
 use Rattle.changes_build.proofs.walks.points_at.Tie as tie
 

@@ -8,7 +8,7 @@ use native.Mathlib.Omega.{arith}
 use lib.ListN.{length, drop, getD}
 use Rattle.label.proofs.Puts.{wrote}
 use Rattle.label.proofs.Going.{Going, going-start, going-as, going-room, going-step, going-end}
-use Rattle.pack.specs.Numbers.{bytesOf}
+use Rattle.tally_bytes.specs.Entries.{oneEntry}
 use Rattle.changes_codes.specs.Codes.{pairBytes}
 use Rattle.changes_codes.proofs.Pairs.{pairs-on, pairs-end}
 use Rattle.changes_codes.proofs.entries.write_entries.Statement.{statement}
@@ -37,56 +37,41 @@ module _ (n : tie.In-loop Inv-loop μ-loop) where
   abbrev i : ℕ
   i = l .loop .i
 
-  -- the count of an entry and all entries behind it
+  -- this entry, and all entries behind it
+  abbrev this : List ℕ
+  this = oneEntry (getD codes i 0) (getD counts i 0)
+
   abbrev behind : List ℕ
-  behind = bytesOf 4 (getD counts i 0) ++ pairBytes (drop (i + 1) codes) (drop (i + 1) counts)
+  behind = pairBytes (drop (i + 1) codes) (drop (i + 1) counts)
 
   room : 0 + length (pairBytes codes counts) ≤ length (s .args .out .now)
   room = omega (arith, s .pre .1)
 
-  left : Going (pairBytes codes counts) (bytesOf 4 (getD codes i 0) ++ behind) (s .args .out .now) 0 (l .loop .at)
-      (l .loop .out)
+  left : Going (pairBytes codes counts) (this ++ behind) (s .args .out .now) 0 (l .loop .at) (l .loop .out)
   left = going-as (pairs-on codes counts i (s .pre .0) (n .loop-test .taken)) (l .loop .inv .1)
-
--- once the code is written
-module _ (w : tie.After-word-at Inv-loop μ-loop) where
-  abbrev turn : tie.In-loop Inv-loop μ-loop
-  turn = w .before .before .before
-
-  half : Going (pairBytes (codes turn) (counts turn)) (behind turn) (s turn .args .out .now) 0 (w .word-at .result)
-      (w .word-at .last .1 .1 .0)
-  half = going-step (behind turn) (left turn) (w .word-at .ensures) (room turn)
 
 loop-holds : tie.Need-loop-holds Inv-loop μ-loop
 loop-holds c =
     let s = c .before .before .before in
     (refl, going-start (pairBytes (s .args .codes .now) (s .args .counts .now)) (s .args .out .now) 0)
 
-cast-word-at : tie.Need-cast-word-at Inv-loop μ-loop
-cast-word-at c = omega (arith, c .shared-slice-known3 .given (i (c .before)))
+cast-entry-at : tie.Need-cast-entry-at Inv-loop μ-loop
+cast-entry-at c = omega (arith, c .shared-slice-known3 .given (i (c .before)))
 
-word-at-requires : tie.Need-word-at-requires Inv-loop μ-loop
-word-at-requires c κs =
-    let n = c .before .before in
-    going-room (bytesOf 4 (getD (codes n) (i n) 0)) (behind n) (left n) (room n)
+cast-entry-at-2 : tie.Need-cast-entry-at-2 Inv-loop μ-loop
+cast-entry-at-2 c = omega (arith, c .shared-slice-known4 .given (i (c .before .before)))
 
-cast-word-at-2 : tie.Need-cast-word-at-2 Inv-loop μ-loop
-cast-word-at-2 c = omega (arith, c .shared-slice-known4 .given (i (turn (c .before .before .before))))
-
-word-at-requires-2 : tie.Need-word-at-requires-2 Inv-loop μ-loop
-word-at-requires-2 c κs =
-    let w = c .before .before .before .before in
-    let n = turn w in
-    going-room (bytesOf 4 (getD (counts n) (i n) 0)) (pairBytes (drop (i n + 1) (codes n)) (drop (i n + 1) (counts n)))
-    (half w) (room n)
+entry-at-requires : tie.Need-entry-at-requires Inv-loop μ-loop
+entry-at-requires c κs =
+    let n = c .before .before .before in
+    going-room (this n) (behind n) (left n) (room n)
 
 loop-again : tie.Need-loop-again Inv-loop μ-loop
 loop-again c =
     let v = c .before .before in
-    let w = v .before .before .before .before .before in
-    let n = turn w in (
-      v .word-at2 .kept .1 .1 .0 ∙ (w .word-at .kept .1 .1 .0 ∙ l n .loop .inv .0),
-      going-step (pairBytes (drop (i n + 1) (codes n)) (drop (i n + 1) (counts n))) (half w) (v .word-at2 .ensures) (room n),
+    let n = v .before .before .before .before in (
+      v .entry-at .kept .1 .1 .1 .0 ∙ l n .loop .inv .0,
+      going-step (behind n) (left n) (v .entry-at .ensures) (room n),
     )
 
 returns : tie.Need-returns Inv-loop μ-loop
@@ -105,12 +90,11 @@ write-entries-spec =
     loop-holds
     (search needs)
     (search needs)
-    cast-word-at
-    word-at-requires
+    cast-entry-at
     (search needs)
     (search needs)
-    cast-word-at-2
-    word-at-requires-2
+    cast-entry-at-2
+    entry-at-requires
     (search needs)
     (search needs)
     loop-again

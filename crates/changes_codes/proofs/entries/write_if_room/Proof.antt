@@ -8,8 +8,9 @@ use lib.ListN.{length}
 use Rattle.refusal.specs.declared.Reason.the-variants.{Room}
 use Rattle.refusal.specs.declared.Answer.the-variants.{Refused}
 use Rattle.refusal.proofs.Outcomes.{said-as}
+use Rattle.tally_bytes.proofs.Entries.{fits, falls-short}
 use Rattle.changes_codes.specs.Codes.{pairBytes}
-use Rattle.changes_codes.proofs.Pairs.{pairs-long, fits, falls-short}
+use Rattle.changes_codes.proofs.Pairs.{pairs-long}
 use Rattle.changes_codes.proofs.entries.write_if_room.Statement.{statement}
 use Rattle.changes_codes.proofs.entries.write_if_room.Tie as tie
 

@@ -1,13 +1,14 @@
--- A text field that has no fault is, without its padding, a text that a pack may hold.
+-- A text field that has no fault is, without its padding, a text that a pack may hold; and what such a text is.
 -- Assumes nothing.
 use Prim.Native.Nat.{ℕ, suc, _-_, _≤_}
-use mathlib.Core.Path.{_≡_, refl, sym, _∙_}
+use mathlib.Core.Path.{_≡_, refl, sym, subst, _∙_}
 use mathlib.Core.Bool.{Bool, true, false, cond, not, _&&_, _||_, true≢false}
 use mathlib.Core.List.{List, [], _∷_}
 use native.Mathlib.Omega.{arith}
-use borrow.Author.Tests.{le-leb, ne-eqb, eqb-false}
-use lib.Dec.{eqb}
+use borrow.Author.Tests.{le-leb, leb-true, ne-eqb, eqb-false}
+use lib.Dec.{eqb, leb}
 use lib.ListN.{length, getD}
+use lib.Seq.{take-all}
 use Rattle.field.specs.Test.{every}
 use Rattle.field.specs.Text.{textByte, blank, startsBlank, textFault, filledFault, keep, trim, fromEnd, part, textIn}
 use Rattle.field.proofs.Tests.{and-left, and-right}
@@ -15,7 +16,7 @@ use Rattle.field.proofs.Faults.{no-fault-every}
 use Rattle.field.proofs.Texts.{text-blank, text-other}
 use Rattle.label.specs.Lines.{isEmpty}
 use Rattle.field.proofs.Fronts.{text-in-bound}
-use Rattle.pack.specs.Opening.{slot, textGood}
+use Rattle.pack.specs.Opening.{Slot, slot, textGood}
 
 -- a text without its padding is empty where the field is blank, and only there
 pub trim-empty : (s : List ℕ) → isEmpty (trim s) ≡ blank s
@@ -129,3 +130,22 @@ module _ (rec : List ℕ) (start end : ℕ) (whole : filledFault (part rec start
 
   pub filled-good : (w : ℕ) → end - start ≤ w → textGood (slot w false) (textIn rec start end) ≡ true
   filled-good w fits = text-good rec start end w false fits filled-text (simp not-blank)
+
+-- a text of at most so many bytes, each a byte of a text
+abbrev pub TextOf : ℕ → List ℕ → Type 0
+TextOf w t = (length t ≤ w) × (every textByte t ≡ true)
+
+-- so is one that fills a slot
+pub good-text : (s : Slot) (t : List ℕ) → textGood s t ≡ true → TextOf (s .width) t
+unfolding textGood
+good-text s t good =
+    let width = leb (length t) (s .width) in
+    (leb-true (length t) (s .width) (and-left width _ good), and-left (every textByte t) _ (and-right width _ good))
+
+-- without its padding a field is no longer
+pub trim-long : (s : List ℕ) → length (trim s) ≤ length s
+unfolding textIn
+trim-long s =
+    let whole : part s 0 (length s) ≡ s = take-all (length s - 0) s (omega arith) in
+    let short : length (trim (part s 0 (length s))) ≤ length s = omega (arith, text-in-bound s 0 (length s)) in
+    subst (λ (t : List ℕ). length (trim t) ≤ length s) whole short

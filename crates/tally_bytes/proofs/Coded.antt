@@ -1,12 +1,14 @@
 -- A well-formed code is known by the number of its four bytes, and so is its place among others.
 -- Assumes nothing.
-use Prim.Native.Nat.{ℕ, zero, suc, _+_, _*_, _/_, _%_, _≤_, _<_}
-use mathlib.Core.Path.{_≡_, refl, sym, ap, _∙_}
+use Prim.Native.Nat.{ℕ, _+_, _*_, _/_, _%_, _≤_, _<_}
+use mathlib.Core.Path.{_≡_, refl, sym, ap, ap₂, _∙_}
 use mathlib.Core.Bool.{Bool, true, false, cond, _&&_, _||_, true≢false}
 use mathlib.Core.List.{List, [], _∷_}
+use mathlib.Core.Logic.{⊎-elim}
 use native.Mathlib.Omega.{arith}
-use borrow.Author.Tests.{eqb-true, eqb-false, eq-eqb, ne-eqb}
-use lib.Dec.{eqb}
+use native.Mathlib.Nat.{eq-or-lt-of-le}
+use borrow.Author.Tests.{eqb-true, eqb-false, eq-eqb, ne-eqb, ltb-true, ltb-false}
+use lib.Dec.{eqb, ltb}
 use lib.ListN.{length}
 use Rattle.field.specs.Test.{elem}
 use Rattle.field.specs.Digits.{digit}
@@ -113,16 +115,20 @@ coded s e =
     record { well-formed = ap outwardFault is ∙ e; back = ap (numberFrom 0) is }
 
 -- two codes are the same where their numbers are
-pub same-code : (s t : List ℕ) → outwardFault s ≡ 0 → outwardFault t ≡ 0 → eqb (numberFrom 0 s) (numberFrom 0 t) ≡ same s t
+code-same : (s t : List ℕ) → outwardFault s ≡ 0 → outwardFault t ≡ 0 → numberFrom 0 s ≡ numberFrom 0 t → order s t ≡ 0
+code-same s t e f q =
+    let is : s ≡ t = sym (code-back s e) ∙ (ap (bytesOf 4) q ∙ code-back t f) in
+    ap (order s) (sym is) ∙ order-same s
+
+pub same-code : (s t : List ℕ) → outwardFault s ≡ 0 → outwardFault t ≡ 0
+    → eqb (numberFrom 0 s) (numberFrom 0 t) ≡ same s t
 same-code s t e f = by-test (eqb (order s t) 0) refl
   where
     by-test : (u : Bool) → same s t ≡ u → eqb (numberFrom 0 s) (numberFrom 0 t) ≡ u
     by-test true h =
         eq-eqb (numberFrom 0 s) (numberFrom 0 t) (ap (numberFrom 0) (order-equal s t (eqb-true (order s t) 0 h)))
     by-test false h =
-        ne-eqb (numberFrom 0 s) (numberFrom 0 t) (λ q.
-        let is : s ≡ t = sym (code-back s e) ∙ (ap (bytesOf 4) q ∙ code-back t f) in
-        eqb-false (order s t) 0 h (ap (order s) (sym is) ∙ order-same s))
+        ne-eqb (numberFrom 0 s) (numberFrom 0 t) (λ q. eqb-false (order s t) 0 h (code-same s t e f q))
 
 -- and the one is below the other where its number is
 code-weight : (c : ℕ) → Coded c → weight (bytesOf 4 c) ≡ c
@@ -135,3 +141,20 @@ pub code-below : (c d : ℕ) → Coded c → Coded d → c < d → order (bytesO
 code-below c d k l h =
     weight-below (bytesOf 4 c) (bytesOf 4 d) [] [] refl (code-small c k) (code-small d l)
     (omega (arith, code-weight c k, code-weight d l))
+
+-- so a code that is above another has the higher number
+pub code-above : (s t : List ℕ) → outwardFault s ≡ 0 → outwardFault t ≡ 0 → order s t ≡ 2
+    → numberFrom 0 t < numberFrom 0 s
+code-above s t e f over = by-test (ltb (numberFrom 0 t) (numberFrom 0 s)) refl
+  where
+    not-below : numberFrom 0 s < numberFrom 0 t → order s t ≡ 1
+    not-below h =
+        ap₂ order (sym (code-back s e)) (sym (code-back t f))
+        ∙ code-below (numberFrom 0 s) (numberFrom 0 t) (coded s e) (coded t f) h
+
+    by-test : (u : Bool) → ltb (numberFrom 0 t) (numberFrom 0 s) ≡ u → numberFrom 0 t < numberFrom 0 s
+    by-test true h = ltb-true (numberFrom 0 t) (numberFrom 0 s) h
+    by-test false h =
+        ⊎-elim (λ (q : numberFrom 0 s ≡ numberFrom 0 t). absurd (omega (arith, over, code-same s t e f q)))
+        (λ (q : numberFrom 0 s < numberFrom 0 t). absurd (omega (arith, over, not-below q)))
+        (eq-or-lt-of-le (ltb-false (numberFrom 0 t) (numberFrom 0 s) h))

@@ -1,4 +1,4 @@
--- Entries as bytes, computed: of the live views AB1, EC1N and AB1, two codes with 2 and 1.
+-- Entries as bytes, computed: of the codes AB1, EC1N and AB1, two entries with 2 and 1.
 -- Assumes nothing.
 use mathlib.Core.Path.{_≡_, refl}
 use mathlib.Core.List.{[], _∷_, _++_}
@@ -6,7 +6,7 @@ use Rattle.refusal.specs.declared.Reason.the-variants.{Room}
 use Rattle.refusal.specs.declared.Answer.the-variants.{Value, Refused}
 use Rattle.refusal.specs.Outcome.{said}
 use Rattle.tally.specs.Tally.{tally}
-use Rattle.changes_codes.specs.Codes.{entryBytes, roomed, entriesOutcome}
+use Rattle.tally_bytes.specs.Entries.{entryBytes, roomed, entriesOutcome}
 
 bytes-of-two : entryBytes (tally (0x41423120 ∷ 0x4543314E ∷ 0x41423120 ∷ []))
     ≡ (0x41 ∷ 0x42 ∷ 0x31 ∷ 0x20 ∷ 0 ∷ 0 ∷ 0 ∷ 2 ∷ []) ++ (0x45 ∷ 0x43 ∷ 0x31 ∷ 0x4E ∷ 0 ∷ 0 ∷ 0 ∷ 1 ∷ [])
@@ -23,7 +23,7 @@ seven : entriesOutcome (tally (0x41423120 ∷ [])) (9 ∷ 9 ∷ 9 ∷ 9 ∷ 9 �
 unfolding roomed
 seven = refl
 
--- no live view: no code, and no byte is needed
+-- no code, and no byte is needed
 none : entriesOutcome (tally []) [] ≡ said (Value 0) []
 unfolding roomed
 none = refl

@@ -1,0 +1,4 @@
+pub mod Entries
+pub mod Coded
+pub mod Tells
+pub mod Worked
