@@ -1,4 +1,5 @@
 pub mod Set
+pub mod Accepted
 pub mod Rows
 pub mod Addresses
 pub mod Main

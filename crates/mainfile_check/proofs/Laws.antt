@@ -12,7 +12,7 @@ use Rattle.file.specs.Accepted.{Accepted}
 use Rattle.file.specs.Mainfile as Main
 use Rattle.file.proofs.Accepted.{accepted, accepts}
 use Rattle.mainfile.specs.Set.{Set, setOf, setJudged}
-use Rattle.mainfile_check.specs.Accepted.{SetAccepted}
+use Rattle.mainfile.specs.Accepted.{AcceptedRows, AcceptedSet}
 
 pub after-after : (x y z : Answer) → after (after x y) z ≡ after x (after y z)
 after-after (Value n) y z = refl
@@ -29,9 +29,9 @@ set-in-turn l t d b s o a =
 
 -- a set judged with a value has seven accepted files, and the value is how many records its address file has
 module _ (s : Set) where
-  pub set-accepted : (n : ℕ) → setJudged s ≡ Value n → SetAccepted s
+  pub set-accepted : {n : ℕ} → setJudged s ≡ Value n → AcceptedSet s
   unfolding setJudged
-  set-accepted n e =
+  set-accepted e =
       let first = both-values (checked Main.localities (s .localities)) _ e in
       let second = both-values (checked Main.thoroughfares (s .thoroughfares)) _ (first .second-is) in
       let third = both-values (checked Main.descriptors (s .descriptors)) _ (second .second-is) in
@@ -39,25 +39,28 @@ module _ (s : Set) where
       let fifth = both-values (checked Main.subBuildings (s .sub-buildings)) _ (fourth .second-is) in
       let sixth = both-values (checked Main.organisations (s .organisations)) _ (fifth .second-is) in
       record {
-        of-localities = accepted Main.localities (s .localities) (first .first-number) (first .first-is);
-        of-thoroughfares = accepted Main.thoroughfares (s .thoroughfares) (second .first-number) (second .first-is);
-        of-descriptors = accepted Main.descriptors (s .descriptors) (third .first-number) (third .first-is);
-        of-buildings = accepted Main.buildings (s .buildings) (fourth .first-number) (fourth .first-is);
-        of-sub-buildings = accepted Main.subBuildings (s .sub-buildings) (fifth .first-number) (fifth .first-is);
-        of-organisations = accepted Main.organisations (s .organisations) (sixth .first-number) (sixth .first-is);
-        of-addresses = accepted Main.addresses (s .addresses) (sixth .second-number) (sixth .second-is);
+        rows =
+            record {
+              localities = accepted Main.localities (s .localities) (first .first-number) (first .first-is);
+              thoroughfares = accepted Main.thoroughfares (s .thoroughfares) (second .first-number) (second .first-is);
+              descriptors = accepted Main.descriptors (s .descriptors) (third .first-number) (third .first-is);
+              buildings = accepted Main.buildings (s .buildings) (fourth .first-number) (fourth .first-is);
+              sub-buildings = accepted Main.subBuildings (s .sub-buildings) (fifth .first-number) (fifth .first-is);
+            };
+        organisations = accepted Main.organisations (s .organisations) (sixth .first-number) (sixth .first-is);
+        addresses = accepted Main.addresses (s .addresses) (sixth .second-number) (sixth .second-is);
       }
 
   -- and seven accepted files are judged so
-  pub set-accepts : SetAccepted s → setJudged s ≡ Value (records Main.addresses (s .addresses))
+  pub set-accepts : AcceptedSet s → setJudged s ≡ Value (records Main.addresses (s .addresses))
   unfolding setJudged
   set-accepts a =
       rw (
-        accepts Main.localities (s .localities) (a .of-localities),
-        accepts Main.thoroughfares (s .thoroughfares) (a .of-thoroughfares),
-        accepts Main.descriptors (s .descriptors) (a .of-descriptors),
-        accepts Main.buildings (s .buildings) (a .of-buildings),
-        accepts Main.subBuildings (s .sub-buildings) (a .of-sub-buildings),
-        accepts Main.organisations (s .organisations) (a .of-organisations),
+        accepts Main.localities (s .localities) (a .rows .localities),
+        accepts Main.thoroughfares (s .thoroughfares) (a .rows .thoroughfares),
+        accepts Main.descriptors (s .descriptors) (a .rows .descriptors),
+        accepts Main.buildings (s .buildings) (a .rows .buildings),
+        accepts Main.subBuildings (s .sub-buildings) (a .rows .sub-buildings),
+        accepts Main.organisations (s .organisations) (a .organisations),
       )
-      (accepts Main.addresses (s .addresses) (a .of-addresses))
+      (accepts Main.addresses (s .addresses) (a .addresses))

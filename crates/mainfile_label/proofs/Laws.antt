@@ -6,29 +6,44 @@ use mathlib.Core.Bool.{Bool, true, false, cond}
 use mathlib.Core.List.{List}
 use mathlib.Core.Option.{none, some}
 use native.Mathlib.Omega.{arith}
-use borrow.Author.Tests.{eq-eqb, ne-eqb, leb-true, leb-false, le-leb, lt-leb}
-use lib.Dec.{eqb, leb}
+use borrow.Author.Tests.{eq-eqb, ne-eqb, ltb-true, ltb-false, lt-ltb, le-ltb}
+use lib.Dec.{ltb}
 use lib.ListN.{length}
 use Rattle.refusal.specs.declared.Reason.the-variants.{NoSuchNumber}
-use Rattle.refusal.specs.declared.Answer.{Answer}
 use Rattle.refusal.specs.declared.Answer.the-variants.{Value, Refused}
 use Rattle.refusal.specs.Outcome.{said}
-use Rattle.refusal.proofs.Outcomes.{afterwards-value, Both, both-values}
+use Rattle.refusal.proofs.Outcomes.{afterwards-value}
 use Rattle.file_record.specs.Parts.{recordAt}
-use Rattle.file.specs.Check.{checked}
-use Rattle.file.specs.Mainfile as Format
-use Rattle.file.proofs.Accepted.{accepted}
 use Rattle.source.specs.Address.{Lookup, Address}
 use Rattle.source.specs.Resolve.{forbidden, missing, elementsOf, Resolved, resolve}
 use Rattle.label.specs.Label.{resolvedOutcome}
-use Rattle.ask.specs.Labels.{kth, kthLabel, labelOutcome, viewLabel}
+use Rattle.field_outward.specs.Outward.{outwardFault}
+use Rattle.file.specs.Mainfile.{addresses}
+use Rattle.file.proofs.Laws.{at-least-two, within-limit}
+use Rattle.ask.specs.Labels.{kth, kthLabel, labelOutcome, viewLabel, codeLabel}
+use Rattle.ask.proofs.Laws.{by-good-code}
 use Rattle.mainfile.specs.Set.{Set, setJudged}
 use Rattle.mainfile.specs.Rows.{setLookup}
 use Rattle.mainfile.specs.Addresses.{addressOf, addressesFrom, addressesIn}
 use Rattle.mainfile.specs.Main.{mainOf}
-use Rattle.mainfile_source.specs.Accepted.{AcceptedSet}
-use Rattle.mainfile_source.proofs.Joined.{two-records}
-use Rattle.mainfile_label.specs.Places.{viewPlace, resolvedAt, placeLabel, AddressPlace}
+use Rattle.mainfile.specs.Accepted.{AcceptedSet}
+use Rattle.mainfile_check.proofs.Laws.{set-accepted}
+use Rattle.mainfile_views.specs.Range.{viewsIn, firstIn, manyIn}
+use Rattle.mainfile_views.proofs.Together.{in-code-range, range-low, range-high}
+use Rattle.mainfile_label.specs.Places.{placeAmong, resolvedAt, placeLabel, AddressPlace, Between}
+
+-- ---- among records that stand together
+
+pub among-some : (first many k : ℕ) → (k ≡ 0 → ⊥) → k - 1 < many → first + (k - 1) ≡ placeAmong first many k
+among-some first many zero there h = absurd (there refl)
+among-some first many (suc j) there h =
+    let before : suc j - 1 ≡ j = omega arith in
+    rw before (simp (lt-ltb j many (rw before at h)))
+
+pub among-none : (first many k : ℕ) → (k ≡ 0 → ⊥) → many ≤ k - 1 → 0 ≡ placeAmong first many k
+among-none first many zero there h = absurd (there refl)
+among-none first many (suc j) there h =
+    let before : suc j - 1 ≡ j = omega arith in simp (le-ltb j many (rw before at h))
 
 -- ---- one place
 
@@ -37,14 +52,15 @@ module _ (s : Set) (place : ℕ) (out : List ℕ) where
   unfolding placeLabel
   no-place e = rw (eq-eqb place 0 e)
 
-  pub some-place : (place ≡ 0 → ⊥) → (r : Resolved) → resolvedAt s place ≡ r → placeLabel s place out ≡ resolvedOutcome r out
+  pub some-place : (place ≡ 0 → ⊥) → (r : Resolved) → resolvedAt s place ≡ r
+      → placeLabel s place out ≡ resolvedOutcome r out
   unfolding placeLabel
   some-place there r e = rw (ne-eqb place 0 there) (ap (λ (r : Resolved). resolvedOutcome r out) e)
 
 -- ---- the views in file order
 
 -- what an address resolves to does not look at its number
-resolve-number : (look : Lookup) (rec organisations : List ℕ) (n m : ℕ)
+pub resolve-number : (look : Lookup) (rec organisations : List ℕ) (n m : ℕ)
     → resolve look (addressOf n rec organisations) ≡ resolve look (addressOf m rec organisations)
 unfolding resolve forbidden missing elementsOf addressOf
 resolve-number look rec organisations n m = refl
@@ -53,88 +69,88 @@ module _ (s : Set) where
   abbrev addressAt : ℕ → Address
   addressAt n = addressOf n (recordAt 88 (s .addresses) n) (s .organisations)
 
-  kth-there : (k n j : ℕ) → j < k → kth (addressesFrom s k n) (suc j) ≡ some (addressAt (n + j))
+  pub kth-there : (k n j : ℕ) → j < k → kth (addressesFrom s k n) (suc j) ≡ some (addressAt (n + j))
   kth-there zero n j h = absurd (omega arith)
   kth-there (suc k) n zero h = rw (let z : n + 0 ≡ n = omega arith in z)
   kth-there (suc k) n (suc j) h =
       kth-there k (suc n) j (omega arith) ∙ rw (let z : suc n + j ≡ n + suc j = omega arith in z)
 
-  kth-none : (k n j : ℕ) → k ≤ j → kth (addressesFrom s k n) (suc j) ≡ none
+  pub kth-none : (k n j : ℕ) → k ≤ j → kth (addressesFrom s k n) (suc j) ≡ none
   kth-none zero n j h = refl
   kth-none (suc k) n zero h = absurd (omega arith)
   kth-none (suc k) n (suc j) h = kth-none k (suc n) j (omega arith)
 
-  kth-zero : (k n : ℕ) → kth (addressesFrom s k n) 0 ≡ none
+  pub kth-zero : (k n : ℕ) → kth (addressesFrom s k n) 0 ≡ none
   kth-zero zero n = refl
   kth-zero (suc k) n = refl
 
-  -- the label of a view's record is the view's
-  pub place-is-kth : (view : ℕ) (out : List ℕ)
-      → placeLabel s (viewPlace (s .addresses) view) out ≡ kthLabel (setLookup s) (addressesIn s) view out
-  unfolding kthLabel addressesIn
-  place-is-kth zero out =
-      no-place s (viewPlace (s .addresses) 0) out (by-test (leb 0 (length (s .addresses) / 88 - 2)))
-      ∙ sym (ap (λ o. labelOutcome (setLookup s) o out) (kth-zero (length (s .addresses) / 88 - 2) 1))
+  -- the label of the record of the k-th of m addresses from record n on is the k-th's
+  pub place-is-kth : (n m k : ℕ) (out : List ℕ) → 1 ≤ n
+      → placeLabel s (placeAmong n m k) out ≡ kthLabel (setLookup s) (addressesFrom s m n) k out
+  unfolding kthLabel
+  place-is-kth n m zero out low =
+      no-place s 0 out refl ∙ sym (ap (λ o. labelOutcome (setLookup s) o out) (kth-zero m n))
+  place-is-kth n m (suc j) out low = by-test (ltb j m) refl
     where
-      by-test : (t : Bool) → _≡_ {A = ℕ} (cond t 0 0) 0
-      by-test true = refl
-      by-test false = refl
-  place-is-kth (suc j) out = by-test (leb (suc j) count) refl
-    where
-      count : ℕ
-      count = length (s .addresses) / 88 - 2
-
-      by-test : (t : Bool) → leb (suc j) count ≡ t
-          → placeLabel s (cond t (suc j) 0) out ≡ labelOutcome (setLookup s) (kth (addressesFrom s count 1) (suc j)) out
+      by-test : (t : Bool) → ltb j m ≡ t
+          → placeLabel s (cond t (n + j) 0) out ≡ labelOutcome (setLookup s) (kth (addressesFrom s m n) (suc j)) out
       by-test true e =
-          let low = leb-true (suc j) count e in
-          let is : 1 + j ≡ suc j = omega arith in
-          some-place s (suc j) out (λ z. omega arith) _
-          (resolve-number (setLookup s) (recordAt 88 (s .addresses) (suc j)) (s .organisations) 0 (suc j))
-          ∙ sym
-          (ap (λ o. labelOutcome (setLookup s) o out)
-          (kth-there count 1 j (omega arith) ∙ ap (λ n. some (addressAt n)) is))
+          some-place s (n + j) out (λ z. omega arith) _
+          (resolve-number (setLookup s) (recordAt 88 (s .addresses) (n + j)) (s .organisations) 0 (n + j))
+          ∙ sym (ap (λ o. labelOutcome (setLookup s) o out) (kth-there m n j (ltb-true j m e)))
       by-test false e =
-          let high = leb-false (suc j) count e in
           no-place s 0 out refl
-          ∙ sym (ap (λ o. labelOutcome (setLookup s) o out) (kth-none count 1 j (omega arith)))
+          ∙ sym (ap (λ o. labelOutcome (setLookup s) o out) (kth-none m n j (ltb-false j m e)))
 
--- a view's record stands before the trailer
-pub view-place : (s : Set) → AcceptedSet s → (view : ℕ) → AddressPlace s (viewPlace (s .addresses) view)
-view-place s ok view = record { accepted = ok; high = by-test (leb view (length (s .addresses) / 88 - 2)) refl }
-  where
-    by-test : (t : Bool) → leb view (length (s .addresses) / 88 - 2) ≡ t
-        → cond t view 0 < length (s .addresses) / 88 - 1
-    by-test true e =
-        omega (arith, leb-true view (length (s .addresses) / 88 - 2) e, two-records _ _ (ok .addresses))
-    by-test false e = omega (arith, two-records _ _ (ok .addresses))
+-- ---- records that stand together
+
+module _ (s : Set) (ok : AcceptedSet s) where
+  abbrev number : ℕ
+  number = length (s .addresses) / 88
+
+  two : 2 ≤ number
+  two = at-least-two addresses (s .addresses) (ok .addresses .is-whole)
+
+  -- all addresses of an accepted set, and those of a code
+  pub all-between : Between s 1 (viewsIn (s .addresses))
+  all-between = record { accepted = ok; low = omega arith; high = omega (arith, two) }
+
+  pub code-between : (code : List ℕ) → Between s (firstIn (s .addresses) code) (manyIn (s .addresses) code)
+  code-between code =
+      record {
+        accepted = ok;
+        low = range-low s code (ok .addresses);
+        high = omega (arith, two, range-high s code (ok .addresses));
+      }
+
+module _ (s : Set) (n m : ℕ) (b : Between s n m) where
+  pub between-few : n + m ≤ 1_000_000
+  between-few = omega (arith, b .high, within-limit addresses (s .addresses) (b .accepted .addresses .is-whole))
+
+  -- the record of one of them is an address's
+  pub among-place : (k : ℕ) → AddressPlace s (placeAmong n m k)
+  among-place zero = record { accepted = b .accepted; high = omega (arith, b .low, b .high) }
+  among-place (suc j) = record { accepted = b .accepted; high = by-test (ltb j m) refl }
+    where
+      by-test : (t : Bool) → ltb j m ≡ t → cond t (n + j) 0 < length (s .addresses) / 88 - 1
+      by-test true e = omega (arith, b .high, ltb-true j m e)
+      by-test false e = omega (arith, b .low, b .high)
 
 -- ---- all files together
 
 module _ (s : Set) {n : ℕ} (taken : setJudged s ≡ Value n) where
-  pub set-accepted : AcceptedSet s
-  unfolding setJudged
-  set-accepted =
-      let one = both-values (checked Format.localities (s .localities)) _ taken in
-      let two = both-values (checked Format.thoroughfares (s .thoroughfares)) _ (one .second-is) in
-      let three = both-values (checked Format.descriptors (s .descriptors)) _ (two .second-is) in
-      let four = both-values (checked Format.buildings (s .buildings)) _ (three .second-is) in
-      let five = both-values (checked Format.subBuildings (s .sub-buildings)) _ (four .second-is) in
-      let six = both-values (checked Format.organisations (s .organisations)) _ (five .second-is) in
-      record {
-        rows =
-            record {
-              localities = accepted Format.localities (s .localities) (one .first-number) (one .first-is);
-              thoroughfares = accepted Format.thoroughfares (s .thoroughfares) (two .first-number) (two .first-is);
-              descriptors = accepted Format.descriptors (s .descriptors) (three .first-number) (three .first-is);
-              buildings = accepted Format.buildings (s .buildings) (four .first-number) (four .first-is);
-              sub-buildings = accepted Format.subBuildings (s .sub-buildings) (five .first-number) (five .first-is);
-            };
-        organisations = accepted Format.organisations (s .organisations) (six .first-number) (six .first-is);
-        addresses = accepted Format.addresses (s .addresses) (six .second-number) (six .second-is);
-      }
-
   pub view-by-place : (view : ℕ) (out : List ℕ)
-      → placeLabel s (viewPlace (s .addresses) view) out ≡ viewLabel (mainOf s) view out
-  unfolding viewLabel
-  view-by-place view out = place-is-kth s view out ∙ sym (afterwards-value Refused out _ taken)
+      → placeLabel s (placeAmong 1 (viewsIn (s .addresses)) view) out ≡ viewLabel (mainOf s) view out
+  unfolding viewLabel addressesIn
+  view-by-place view out =
+      place-is-kth s 1 (viewsIn (s .addresses)) view out (omega arith) ∙ sym (afterwards-value Refused out _ taken)
+
+  pub code-by-place : (code : List ℕ) → outwardFault code ≡ 0 → (k : ℕ) (out : List ℕ)
+      → placeLabel s (placeAmong (firstIn (s .addresses) code) (manyIn (s .addresses) code) k) out
+      ≡ codeLabel (mainOf s) code k out
+  unfolding codeLabel
+  code-by-place code clean k out =
+      let a = set-accepted s taken .addresses in
+      place-is-kth s (firstIn (s .addresses) code) (manyIn (s .addresses) code) k out (range-low s code a)
+      ∙ (ap (λ views. kthLabel (setLookup s) views k out) (sym (in-code-range s code a))
+      ∙ sym (by-good-code Refused code out _ (mainOf s) taken clean))

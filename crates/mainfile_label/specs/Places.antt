@@ -1,10 +1,9 @@
 -- The label of an address of a set by its record's number.
 -- Assumes nothing.
-use Prim.Native.Nat.{ℕ, _-_, _/_, _<_}
-use mathlib.Core.Path.{_≡_}
-use mathlib.Core.Bool.{cond, _&&_}
+use Prim.Native.Nat.{ℕ, zero, suc, _+_, _-_, _/_, _≤_, _<_}
+use mathlib.Core.Bool.{cond}
 use mathlib.Core.List.{List}
-use lib.Dec.{eqb, leb}
+use lib.Dec.{eqb, ltb}
 use lib.ListN.{length}
 use Rattle.refusal.specs.declared.Reason.the-variants.{NoSuchNumber}
 use Rattle.refusal.specs.declared.Answer.{Answer}
@@ -17,24 +16,12 @@ use Rattle.label.specs.Label.{resolvedOutcome}
 use Rattle.mainfile.specs.Set.{Set}
 use Rattle.mainfile.specs.Rows.{setLookup}
 use Rattle.mainfile.specs.Addresses.{addressOf}
-use Rattle.mainfile_source.specs.Accepted.{AcceptedSet}
+use Rattle.mainfile.specs.Accepted.{AcceptedSet}
 
--- seven files as a set, in the order in which they are passed
-abbrev pub setOf : (localities thoroughfares descriptors buildings sub-buildings organisations addresses : List ℕ) → Set
-setOf localities thoroughfares descriptors buildings sub-buildings organisations addresses =
-    record {
-      localities = localities;
-      thoroughfares = thoroughfares;
-      descriptors = descriptors;
-      buildings = buildings;
-      sub-buildings = sub-buildings;
-      organisations = organisations;
-      addresses = addresses;
-    }
-
--- "A view is an address record, numbered from 1 in file order": the record of a view, 0 where there is none
-abbrev pub viewPlace : (addresses : List ℕ) → ℕ → ℕ
-viewPlace addresses view = cond (leb view (length addresses / At.width - 2)) view 0
+-- the record of the k-th of so many that stand together, counted from 1; 0 where there is none
+abbrev pub placeAmong : (first many k : ℕ) → ℕ
+placeAmong first many zero = 0
+placeAmong first many (suc j) = cond (ltb j many) (first + j) 0
 
 -- the address of a record; its number is not printed
 abbrev pub resolvedAt : Set → ℕ → Resolved
@@ -50,3 +37,9 @@ placeLabel s place out =
 pub record AddressPlace (s : Set) (place : ℕ) : Type 0 where
   pub accepted : AcceptedSet s
   pub high : place < length (s .addresses) / At.width - 1
+
+-- what a caller shows of records that stand together: the files are accepted, and header and trailer are none of them
+pub record Between (s : Set) (first many : ℕ) : Type 0 where
+  pub accepted : AcceptedSet s
+  pub low : 1 ≤ first
+  pub high : first + many < length (s .addresses) / At.width

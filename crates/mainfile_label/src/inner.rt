@@ -5,16 +5,31 @@ use mainfile_texts::inner::gather_own;
 use mainfile_texts::inner::gather_premises;
 use mainfile_texts::inner::gather_streets;
 use mainfile_texts::spans_from;
+use mainfile_views::Stretch;
 use refusal::Answer;
 use refusal::Reason;
 use refusal::Verdict;
 use source::DeliveryPoint;
 use source::Found;
 ghost use mathlib.Core.Path.{_≡_};
+ghost use Prim.Native.Nat.{_+_, _≤_};
 ghost use Rattle.refusal.specs.Outcome.{said};
 ghost use Rattle.label.specs.Label.{labelOf, roomOutcome};
 ghost use Rattle.mainfile_meaning.specs.Elements.{elementsAt, Inside};
-ghost use Rattle.mainfile_label.specs.Places.{setOf, AddressPlace, placeLabel};
+ghost use Rattle.mainfile.specs.Set.{setOf};
+ghost use Rattle.mainfile_label.specs.Places.{placeAmong, AddressPlace, placeLabel};
+
+// The record of the k-th of some that stand together; 0 where there is none.
+pub fn place_among(s: Stretch, k: usize) -> usize
+    requires { ⌜ s .first + s .many ≤ 1_000_000 ⌝ }
+    ensures { λ r. ⌜ r ≡ placeAmong (s .first) (s .many) k ⌝ }
+{
+    if k == 0 {
+        return 0;
+    }
+    let before = k - 1;
+    if before < s.many { s.first + before } else { 0 }
+}
 
 // Prints the label of a delivery point from its texts, gathered in one buffer.
 fn print_from(

@@ -21,7 +21,7 @@ use Rattle.source_meaning.proofs.Elements.{key-said, Kinds, foundBy, elements-f
 use Rattle.mainfile.specs.Set.{Set}
 use Rattle.mainfile.specs.Rows.{shelfOf, fileOf, kindStock, setStock, setLookup}
 use Rattle.mainfile.specs.Addresses.{addressOf}
-use Rattle.mainfile_source.specs.Accepted.{AcceptedRows, AcceptedSet}
+use Rattle.mainfile.specs.Accepted.{AcceptedRows, AcceptedSet}
 use Rattle.mainfile_source.specs.Rows.{rowsBy, kindFound, rowsAhead, behindBy}
 use Rattle.mainfile_source.specs.Delivery.{deliveryAt}
 use Rattle.mainfile_source.proofs.Shelves.{good-1, good-2, good-3, good-4, good-5}
@@ -33,7 +33,7 @@ use Rattle.mainfile_meaning.proofs.Says.{says-at}
 -- ---- refusals, by whether rows are found
 
 -- rows that are none together
-abbrev Alike : (rows others : List ℕ) → Type 0
+abbrev pub Alike : (rows others : List ℕ) → Type 0
 Alike [] [] = Unit {0}
 Alike [] (o ∷ os) = ⊥
 Alike (r ∷ rs) [] = ⊥
@@ -46,11 +46,11 @@ lacking-alike n (k ∷ ks) [] (o ∷ os) h = absurd h
 lacking-alike n (k ∷ ks) (r ∷ rs) [] h = absurd h
 lacking-alike n (k ∷ ks) (r ∷ rs) (o ∷ os) h = rw (h .0, lacking-alike (suc n) ks rs os (h .1))
 
-refusal-alike : (p : DeliveryPoint) (rows others : List ℕ) → Alike rows others → refusalIn p rows ≡ refusalIn p others
+pub refusal-alike : (p : DeliveryPoint) (rows others : List ℕ) → Alike rows others → refusalIn p rows ≡ refusalIn p others
 unfolding refusalIn missingIn
 refusal-alike p rows others h = rw (lacking-alike 1 (p .keys) rows others h)
 
-behind-alike : (before row : ℕ) → eqb row 0 ≡ eqb (behindBy before row) 0
+pub behind-alike : (before row : ℕ) → eqb row 0 ≡ eqb (behindBy before row) 0
 behind-alike before zero = refl
 behind-alike before (suc q) =
     simp (ne-eqb (suc q) 0 (λ z. omega arith)) (sym (ne-eqb (before + suc q) 0 (λ z. omega arith)))

@@ -1,17 +1,14 @@
 -- The rows of a set as one stock: a number of a kind is found in the file of that kind, behind the rows of the files before
 -- it. Where the files are accepted, that stock is what a builder rests on.
 -- Assumes nothing.
-use Prim.Native.Nat.{ℕ, zero, suc, _+_, _-_, _*_, _/_, _≤_, _<_}
+use Prim.Native.Nat.{ℕ, zero, suc, _+_, _-_, _≤_, _<_}
 use mathlib.Core.Path.{_≡_, refl, sym, ap, _∙_}
-use mathlib.Core.Bool.{Bool, true, cond, _&&_}
 use mathlib.Core.List.{List}
 use native.Mathlib.Omega.{arith}
-use borrow.Author.Tests.{ne-eqb, leb-true}
-use lib.Dec.{eqb, leb}
-use lib.ListN.{length}
-use Rattle.field.proofs.Tests.{and-left, and-right}
-use Rattle.file.specs.Check.{Format, records, whole}
+use borrow.Author.Tests.{ne-eqb}
+use Rattle.file.specs.Check.{Format, records}
 use Rattle.file.specs.Accepted.{Accepted}
+use Rattle.file.proofs.Laws.{at-least-two}
 use Rattle.source.specs.Address.{ref}
 use Rattle.shelf.specs.Shelf.{refAt, lastOf, rowOf}
 use Rattle.shelf.specs.Stock.{Stock, stockOf, ahead, behind, joined, Before, textsOrNone, lookIn, Good}
@@ -19,7 +16,7 @@ use Rattle.shelf.proofs.Stock.{stock-found}
 use Rattle.shelf.proofs.Joined.{row-second, row-only-first, found-first, found-second, joined-each, joined-good}
 use Rattle.mainfile.specs.Set.{Set}
 use Rattle.mainfile.specs.Rows.{shelfOf, fileOf, kindStock, setStock, setLookup}
-use Rattle.mainfile_source.specs.Accepted.{AcceptedRows}
+use Rattle.mainfile.specs.Accepted.{AcceptedRows}
 use Rattle.mainfile_source.specs.Rows.{rowFiles, rowsAhead, behindBy}
 use Rattle.mainfile_source.proofs.Shelves.{row-range, row-other, sized-1, sized-2, sized-3, sized-4, sized-5, good-1, good-2, good-3, good-4, good-5}
 
@@ -189,10 +186,7 @@ module _ (s : Set) where
 
 -- an accepted file has a header and a trailer
 pub two-records : (f : Format) (file : List ℕ) → Accepted f file → 2 ≤ records f file
-two-records f file t =
-    let n = records f file in
-    let counted = and-right (eqb (n * f .width) (length file)) (leb 2 n && leb n (f .limit)) (t .is-whole) in
-    leb-true 2 n (and-left (leb 2 n) (leb n (f .limit)) counted)
+two-records f file t = at-least-two f file (t .is-whole)
 
 joined-ended : (a b : Stock) → 1 ≤ b .last → 1 ≤ joined a b .last
 joined-ended a b h = omega arith

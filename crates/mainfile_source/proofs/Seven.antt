@@ -15,7 +15,7 @@ use Rattle.shelf.specs.Search.{found}
 use Rattle.shelf.proofs.Last.{found-is-row, found-before}
 use Rattle.mainfile.specs.Set.{Set}
 use Rattle.mainfile.specs.Rows.{shelfOf, fileOf, kindStock, setStock}
-use Rattle.mainfile_source.specs.Accepted.{AcceptedRows}
+use Rattle.mainfile.specs.Accepted.{AcceptedRows}
 use Rattle.mainfile_source.specs.Rows.{rowsBy, kindFound, rowsAhead, behindBy}
 use Rattle.mainfile_source.proofs.Shelves.{kind-never}
 use Rattle.mainfile_source.proofs.Joined.{set-row-1, set-row-2, set-row-3, set-row-4, set-row-5, behind-none}

@@ -33,7 +33,7 @@ use Rattle.shelf.specs.Stock.{stockOf, Good}
 use Rattle.shelf.proofs.Stock.{stock-found, stock-good}
 use Rattle.mainfile.specs.Set.{Set}
 use Rattle.mainfile.specs.Rows.{rowShelf, shelfOf, fileOf, kindStock}
-use Rattle.mainfile_source.specs.Accepted.{AcceptedRows}
+use Rattle.mainfile.specs.Accepted.{AcceptedRows}
 
 -- ---- a file of rows
 

@@ -1,4 +1,3 @@
-pub mod Accepted
 pub mod Rows
 pub mod Organisations
 pub mod Delivery

@@ -9,7 +9,7 @@ ghost use Rattle.source.specs.Address.{keyKinds, askedBy};
 ghost use Rattle.source.specs.Delivery.{Small, rowsFor};
 ghost use Rattle.shelf.specs.Shelf.{lastOf};
 ghost use Rattle.mainfile.specs.Rows.{shelfOf, setStock};
-ghost use Rattle.mainfile_source.specs.Accepted.{AcceptedRows};
+ghost use Rattle.mainfile.specs.Accepted.{AcceptedRows};
 ghost use Rattle.mainfile_source.specs.Rows.{rowFiles, behindBy};
 
 // How many rows the file of a kind has.

@@ -36,7 +36,7 @@ rank-bound o = by-tests (eqb o 1) (eqb o 0)
     by-tests false true = omega arith
     by-tests false false = omega arith
 
-rank-same : (o : ℕ) → rank o ≡ 1 → eqb o 0 ≡ true
+pub rank-same : (o : ℕ) → rank o ≡ 1 → eqb o 0 ≡ true
 rank-same o e = by-tests (eqb o 1) (eqb o 0) e
   where
     by-tests : (t u : Bool) → _≡_ {A = ℕ} (cond t 0 (cond u 1 2)) 1 → u ≡ true
@@ -135,7 +135,7 @@ module _ (file code : List ℕ) (a : Accepted addresses file) where
       not-above (outwardAt i) (outwardAt (i + d)) (outwardAt (i + d + 1)) (further d i low (omega arith))
       (step (i + d) (omega arith) (omega arith)) (rw next at over)
 
-  never-falls : (i j : ℕ) → 1 ≤ i → i ≤ j → j < lastOf file → rankAt file code i ≤ rankAt file code j
+  pub never-falls : (i j : ℕ) → 1 ≤ i → i ≤ j → j < lastOf file → rankAt file code i ≤ rankAt file code j
   never-falls i j low up high =
       let there : i + (j - i) ≡ j = omega arith in
       rank-below (outwardAt i) (outwardAt j) code (rw there at (further (j - i) i low (omega arith)))
@@ -144,7 +144,8 @@ module _ (file code : List ℕ) (a : Accepted addresses file) where
   stays r i j low up high e =
       lt-ltb r (rankAt file code j) (omega (arith, ltb-true r (rankAt file code i) e, never-falls i j low up high))
 
-  least : (r : ℕ) → Least (λ i. ltb r (rankAt file code i)) 1 (lastOf file) (upperOf (rankAt file code) (lastOf file) r)
+  pub least : (r : ℕ)
+      → Least (λ i. ltb r (rankAt file code i)) 1 (lastOf file) (upperOf (rankAt file code) (lastOf file) r)
   least r = bisect-least (λ i. ltb r (rankAt file code i)) (lastOf file) 1 (lastOf file) last-one (omega arith) (stays r)
 
 -- addresses of a row that all have the code, or none of which has it
@@ -254,3 +255,12 @@ module _ (s : Set) (code : List ℕ) where
         row-length : (k n : ℕ) → length (addressesFrom s k n) ≡ k
         row-length zero n = refl
         row-length (suc k) n = ap suc (row-length k (suc n))
+
+    -- they stand between header and trailer
+    pub range-low : 1 ≤ firstIn file code
+    unfolding firstIn
+    range-low = from-first .from
+
+    pub range-high : firstIn file code + manyIn file code ≤ lastOf file
+    unfolding firstIn endIn
+    range-high = omega (arith, ordered, from-end .to)

@@ -31,6 +31,10 @@ module _ (file code : List ℕ) where
 abbrev pub lastOf : List ℕ → ℕ
 lastOf file = length file / At.width - 1
 
+-- "A view is an address record, numbered from 1 in file order": how many there are
+abbrev pub viewsIn : List ℕ → ℕ
+viewsIn file = length file / At.width - 2
+
 module _ (file code : List ℕ) where
   -- the first record that is not below the code, and the first that is above it
   unfoldable pub firstIn : ℕ

@@ -10,7 +10,7 @@ returns : tie.Need-returns
 unfolding liveAt
 returns c =
     let t = c .before in
-    rw (c .many-in .ensures) (simp (eq-eqb _ 0 (sym (t .before .outward-fault .ensures) ∙ t .if1 .taken)))
+    rw (c .stretch-in .ensures .1) (simp (eq-eqb _ 0 (sym (t .before .outward-fault .ensures) ∙ t .if1 .taken)))
 
 returns-2 : tie.Need-returns-2
 unfolding liveAt

@@ -2,7 +2,6 @@
 use borrow.Author.Needs.{needs}
 use Prim.Native.Nat.{ℕ, _/_, _<_}
 use mathlib.Core.Path.{_≡_, sym, ap, ap₂, _∙_}
-use mathlib.Core.List.{List}
 use native.Mathlib.Omega.{arith}
 use lib.ListN.{length}
 use Rattle.source.specs.Address.{Elements}
@@ -15,7 +14,7 @@ use Rattle.mainfile_source.proofs.Joined.{two-records}
 use Rattle.mainfile_meaning.specs.Elements.{elementsAt, pointAt, rowsAt}
 use Rattle.mainfile_meaning.proofs.Says.{inside-at}
 use Rattle.mainfile_meaning.proofs.Meant.{resolved-fine, resolved-bad}
-use Rattle.mainfile_label.specs.Places.{setOf}
+use Rattle.mainfile.specs.Set.{setOf}
 use Rattle.mainfile_label.proofs.Laws.{no-place, some-place}
 use Rattle.mainfile_label.proofs.inner.label_at.Statement.{statement}
 use Rattle.mainfile_label.proofs.inner.label_at.Tie as tie
@@ -48,8 +47,8 @@ module _ (judged : tie.After-refusal-in) where
   abbrev files : Set
   files =
       let a = start .args in
-      setOf (a .localities .now) (a .thoroughfares .now) (a .descriptors .now) (a .buildings .now) (a .sub-buildings .now)
-      (a .organisations .now) (a .addresses .now)
+      setOf (a .localities .now) (a .thoroughfares .now) (a .descriptors .now) (a .buildings .now)
+      (a .sub-buildings .now) (a .organisations .now) (a .addresses .now)
 
   high : place < length (start .args .addresses .now) / 88
   high = omega (arith, start .pre .high)
@@ -93,4 +92,7 @@ returns-3 c =
     sym (some-place s (place judged) (start judged .args .out .now) (there judged .if1 .left) _ resolved)
 
 pub label-at-spec : {M : Type 1} → statement M
-label-at-spec = tie.close (tie.spec returns (λ c κs. search needs) (λ c κs. search needs) (λ c κs. search needs) (λ c. search needs) print-from-requires (λ c. search needs) (λ c. search needs) returns-2 returns-3)
+label-at-spec =
+    tie.close
+    (tie.spec returns (λ c κs. search needs) (λ c κs. search needs) (λ c κs. search needs) (search needs)
+    print-from-requires (search needs) (search needs) returns-2 returns-3)

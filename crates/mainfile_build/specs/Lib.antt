@@ -1,0 +1,3 @@
+pub mod Build
+pub mod Written
+pub mod Ready

@@ -1,0 +1,5 @@
+pub mod Written
+pub mod Small
+pub mod OfKind
+pub mod Standing
+pub mod KeyOffsets
