@@ -10,6 +10,7 @@ use Rattle.run.specs.declared.Series.{Series}
 use Rattle.run.specs.Packed.{packedSeries, seriesBytes}
 use Rattle.file.specs.Check.{checked}
 use Rattle.file.specs.Formats.{tableFormat, pointFormat}
+use Rattle.ask.specs.Source.{Source}
 use Rattle.ask.specs.Labels.{viewLabel, codeLabel}
 use Rattle.ask.specs.Runs.{viewsRun, codeRun}
 use Rattle.ask.specs.Lists.{viewsList, codeList}
@@ -21,6 +22,21 @@ use Rattle.pack_items.specs.Lists.{packList}
 use Rattle.changes_list.specs.Listing.{viewsAnswer, letterAnswer, liveAnswer}
 use Rattle.changes_pair.specs.Pair.{pairOf}
 use Rattle.changes_codes.specs.Codes.{codesOutcome}
+use Rattle.mainfile.specs.Set.{Set}
+use Rattle.mainfile.specs.Main.{mainOf}
+use Rattle.mainfile_views.specs.Range as Main
+use Rattle.mainfile_list.specs.Listing as MainList
+use Rattle.mainfile_codes.specs.Codes as MainCodes
+
+-- what is lent, of which labels are asked and packs are cut: a pair of Changes files, or a Mainfile set; "A pack may be built
+-- from either source"
+pub data Lent : Type 0 where
+  pair : (table points : List ℕ) → Lent
+  set : (s : Set) → Lent
+
+abbrev pub sourceOf : Lent → Source
+sourceOf (pair table points) = pairOf table points
+sourceOf (set s) = mainOf s
 
 -- each with its arguments, but for what is written
 pub data Call : Type 0 where
@@ -30,13 +46,16 @@ pub data Call : Type 0 where
   of-letter : (points : List ℕ) (view : ℕ) → Call
   of-live : (points code : List ℕ) → Call
   of-codes : (points : List ℕ) → Call
-  of-label : (table points : List ℕ) (view : ℕ) → Call
-  of-code-label : (table points code : List ℕ) (k : ℕ) → Call
-  of-labels : (table points : List ℕ) (first count : ℕ) → Call
-  of-code-labels : (table points code : List ℕ) (first count : ℕ) → Call
-  of-list : (table points : List ℕ) (first count : ℕ) → Call
-  of-code-list : (table points code : List ℕ) (first count : ℕ) → Call
-  of-build : (table points code : List ℕ) → Call
+  of-main : (s : Set) → Call
+  of-main-live : (addresses code : List ℕ) → Call
+  of-main-codes : (addresses : List ℕ) → Call
+  of-label : (lent : Lent) (view : ℕ) → Call
+  of-code-label : (lent : Lent) (code : List ℕ) (k : ℕ) → Call
+  of-labels : (lent : Lent) (first count : ℕ) → Call
+  of-code-labels : (lent : Lent) (code : List ℕ) (first count : ℕ) → Call
+  of-list : (lent : Lent) (first count : ℕ) → Call
+  of-code-list : (lent : Lent) (code : List ℕ) (first count : ℕ) → Call
+  of-build : (lent : Lent) (code : List ℕ) → Call
   of-pack : (pack : List ℕ) → Call
   of-pack-label : (pack : List ℕ) (k : ℕ) → Call
   of-pack-labels : (pack : List ℕ) (first count : ℕ) → Call
@@ -65,13 +84,16 @@ outcomeOf (of-views points) out = reading (viewsAnswer points) out
 outcomeOf (of-letter points view) out = reading (letterAnswer points view) out
 outcomeOf (of-live points code) out = reading (liveAnswer points code) out
 outcomeOf (of-codes points) out = writing (codesOutcome points out)
-outcomeOf (of-label table points view) out = writing (viewLabel (pairOf table points) view out)
-outcomeOf (of-code-label table points code k) out = writing (codeLabel (pairOf table points) code k out)
-outcomeOf (of-labels table points first count) out = running (viewsRun (pairOf table points) first count out)
-outcomeOf (of-code-labels table points code first count) out = running (codeRun (pairOf table points) code first count out)
-outcomeOf (of-list table points first count) out = running (viewsList (pairOf table points) first count out)
-outcomeOf (of-code-list table points code first count) out = running (codeList (pairOf table points) code first count out)
-outcomeOf (of-build table points code) out = writing (packBuilt (pairOf table points) code out)
+outcomeOf (of-main s) out = reading (MainList.viewsAnswer s) out
+outcomeOf (of-main-live addresses code) out = reading (Main.liveAnswer addresses code) out
+outcomeOf (of-main-codes addresses) out = writing (MainCodes.codesOutcome addresses out)
+outcomeOf (of-label lent view) out = writing (viewLabel (sourceOf lent) view out)
+outcomeOf (of-code-label lent code k) out = writing (codeLabel (sourceOf lent) code k out)
+outcomeOf (of-labels lent first count) out = running (viewsRun (sourceOf lent) first count out)
+outcomeOf (of-code-labels lent code first count) out = running (codeRun (sourceOf lent) code first count out)
+outcomeOf (of-list lent first count) out = running (viewsList (sourceOf lent) first count out)
+outcomeOf (of-code-list lent code first count) out = running (codeList (sourceOf lent) code first count out)
+outcomeOf (of-build lent code) out = writing (packBuilt (sourceOf lent) code out)
 outcomeOf (of-pack pack) out = reading (opened pack) out
 outcomeOf (of-pack-label pack k) out = writing (packLabel pack k out)
 outcomeOf (of-pack-labels pack first count) out = running (packRun pack first count out)

@@ -15,10 +15,10 @@ use Rattle.ask.specs.Lists.{viewsList, codeList}
 use Rattle.pack.specs.Opening.{pointCount}
 use Rattle.pack_runs.specs.Runs.{packRun}
 use Rattle.pack_items.specs.Lists.{packList}
-use Rattle.changes_pair.specs.Pair.{pairOf}
-use Rattle.call.specs.Call.{Call, of-table, of-points, of-views, of-letter, of-live, of-codes, of-label, of-code-label, of-labels, of-code-labels, of-list, of-code-list, of-build, of-pack, of-pack-label, of-pack-labels, of-pack-list, outcomeOf}
+use Rattle.call.specs.Call.{sourceOf, Call, of-table, of-points, of-views, of-letter, of-live, of-codes, of-main, of-main-live, of-main-codes, of-label, of-code-label, of-labels, of-code-labels, of-list, of-code-list, of-build, of-pack, of-pack-label, of-pack-labels, of-pack-list, outcomeOf}
 use Rattle.demands.specs.Apart.{OfLabel, OfItem, StopsBy, Apart, IsList, views-listed, code-listed, pack-listed, ListStops}
-use Rattle.demands.proofs.Says.{StopSays, SeriesSays, views-say, codes-say, packs-say, list-says, code-list-says, pack-list-says, pair-asked}
+use Rattle.demands.proofs.Says.{StopSays, SeriesSays, views-say, codes-say, packs-say, list-says, code-list-says, pack-list-says}
+use Rattle.demands.proofs.Lent.{lent-apt}
 
 -- what is said of a stop holds where it stops
 stops : (Kind Stop : Reason → Type 0) → ((why : Reason) → Kind why → Stop why) → (limit : ℕ) (s : Series)
@@ -41,14 +41,14 @@ item-of-label (Stopped labels bytes why) h =
     ⊎-elim (λ (e : number why ≡ 7). (omega arith, omega arith)) (λ (e : number why ≡ 10). (omega arith, omega arith)) h
 item-of-label (Done labels bytes) h = tt
 
+-- of every call, whatever is lent
 pub list-stops : (call : Call) → IsList call → (out : List ℕ) → ListStops (outcomeOf call out .answer)
-list-stops call (views-listed {table} {points} {first} {count}) out =
-    item-stops 1_048_575 (viewsList (pairOf table points) first count out .answer)
-    (list-says OfItem (inl refl) (pairOf table points) (pair-asked table points) (λ n taken k a e. inr refl) first count out)
-list-stops call (code-listed {table} {points} {code} {first} {count}) out =
-    item-stops 1_048_575 (codeList (pairOf table points) code first count out .answer)
-    (code-list-says OfItem (inl refl) (pairOf table points) (pair-asked table points) code (λ n taken k a e. inr refl) first
-    count out)
+list-stops call (views-listed {lent} {first} {count}) out =
+    item-stops 1_048_575 (viewsList (sourceOf lent) first count out .answer)
+    (list-says OfItem (inl refl) (sourceOf lent) (lent-apt lent) (λ n taken k a e. inr refl) first count out)
+list-stops call (code-listed {lent} {code} {first} {count}) out =
+    item-stops 1_048_575 (codeList (sourceOf lent) code first count out .answer)
+    (code-list-says OfItem (inl refl) (sourceOf lent) (lent-apt lent) code (λ n taken k a e. inr refl) first count out)
 list-stops call (pack-listed {pack} {first} {count}) out =
     item-stops (pointCount pack) (packList pack first count out .answer)
     (pack-list-says OfItem (inl refl) pack (λ n taken k low high. inr refl) first count out)
@@ -60,21 +60,24 @@ told-apart (of-views points) out = tt
 told-apart (of-letter points view) out = tt
 told-apart (of-live points code) out = tt
 told-apart (of-codes points) out = tt
-told-apart (of-label table points view) out = tt
-told-apart (of-code-label table points code k) out = tt
-told-apart (of-labels table points first count) out =
-    run-stops 1_048_575 (viewsRun (pairOf table points) first count out .answer)
-    (views-say (pairOf table points) (pair-asked table points) first count out)
-told-apart (of-code-labels table points code first count) out =
-    run-stops 1_048_575 (codeRun (pairOf table points) code first count out .answer)
-    (codes-say (pairOf table points) (pair-asked table points) first count out code)
-told-apart (of-list table points first count) out =
-    item-of-label (viewsList (pairOf table points) first count out .answer)
-    (list-stops (of-list table points first count) views-listed out)
-told-apart (of-code-list table points code first count) out =
-    item-of-label (codeList (pairOf table points) code first count out .answer)
-    (list-stops (of-code-list table points code first count) code-listed out)
-told-apart (of-build table points code) out = tt
+told-apart (of-main s) out = tt
+told-apart (of-main-live addresses code) out = tt
+told-apart (of-main-codes addresses) out = tt
+told-apart (of-label lent view) out = tt
+told-apart (of-code-label lent code k) out = tt
+told-apart (of-labels lent first count) out =
+    run-stops 1_048_575 (viewsRun (sourceOf lent) first count out .answer)
+    (views-say (sourceOf lent) (lent-apt lent) first count out)
+told-apart (of-code-labels lent code first count) out =
+    run-stops 1_048_575 (codeRun (sourceOf lent) code first count out .answer)
+    (codes-say (sourceOf lent) (lent-apt lent) first count out code)
+told-apart (of-list lent first count) out =
+    item-of-label (viewsList (sourceOf lent) first count out .answer)
+    (list-stops (of-list lent first count) views-listed out)
+told-apart (of-code-list lent code first count) out =
+    item-of-label (codeList (sourceOf lent) code first count out .answer)
+    (list-stops (of-code-list lent code first count) code-listed out)
+told-apart (of-build lent code) out = tt
 told-apart (of-pack pack) out = tt
 told-apart (of-pack-label pack k) out = tt
 told-apart (of-pack-labels pack first count) out =

@@ -1,59 +1,58 @@
 -- No line of a label begins with a small letter, under accepted files and of a pack that opens; a heading and the line of a
 -- refusal do. So a listing can be taken apart by the first byte of each line.
 -- Assumes nothing.
-use Prim.Native.Nat.{ℕ, zero, suc, _+_, _/_, _%_, _≤_, _<_}
-use mathlib.Core.Path.{_≡_, refl, sym, _∙_}
-use mathlib.Core.Bool.{Bool, true, false, cond, not, _&&_, true≢false}
+use Prim.Native.Nat.{ℕ, _+_, _/_, _%_, _≤_, _<_}
+use mathlib.Core.Path.{_≡_, refl}
+use mathlib.Core.Bool.{Bool, true, false, cond, _&&_}
 use mathlib.Core.List.{List, [], _∷_, _++_}
 use mathlib.Core.Logic.{_⊎_, inl, inr}
-use mathlib.Core.Option.{Option, none, some}
 use native.Mathlib.Omega.{arith}
 use borrow.Author.Tests.{lt-leb, le-leb, ne-eqb, eqb-true, leb-true, ltb-true, not-true}
 use lib.Dec.{eqb, ltb, leb, lit<}
-use lib.ListN.{length, getD}
+use lib.ListN.{length}
 use Rattle.field.specs.Test.{within, elem, every}
-use Rattle.field.specs.Digits.{value}
 use Rattle.field.specs.Text.{textByte, numericLike, keep, trim, part, textIn}
 use Rattle.field.proofs.Tests.{and-left, and-right, range-low}
-use Rattle.field.proofs.Texts.{part-bound}
-use Rattle.field.proofs.Fronts.{digits-below}
 use Rattle.field_outward.specs.Outward.{class, outwardFault}
 use Rattle.field_outward.proofs.Codes.{sequence, no-pattern, not-four}
 use Rattle.refusal.specs.declared.Answer.the-variants.{Value}
-use Rattle.source.specs.Address.{Organisation, none-needed, named, lacking, Address, Elements}
-use Rattle.source.specs.Resolve.{textOr, textOf, nameOf, departmentOf, elementsOf}
+use Rattle.source.specs.Address.{Lookup, Address, Elements}
+use Rattle.source.specs.Resolve.{elementsOf}
 use Rattle.source.specs.Same.{AllOf}
-use Rattle.file_record.specs.Parts.{recordAt}
 use Rattle.file_compare.specs.Order.{order, same}
 use Rattle.file_compare.proofs.Order.{order-equal}
-use Rattle.file_fault.proofs.Passing.{point-passes, one-passes}
 use Rattle.file.specs.Formats.{tableFormat, pointFormat}
 use Rattle.file.specs.Accepted.{Accepted}
-use Rattle.changes_views.specs.Views.{wantedIn, viewNumber}
 use Rattle.label.specs.Lines.{line, boxLine, spaced, streetLine, numberText, Premises, premises, table, fronted, places, premisesOf, linesOf}
 use Rattle.item.specs.Lines.{viewLine, pointLine}
 use Rattle.pack.specs.Names.{known, inwardAt, addressKeyAt, trailerWidth}
 use Rattle.pack.specs.Numbers.{numberAt}
-use Rattle.pack.specs.Opening.{edition, rowCount, rowArea, outward as packOutward, lengthSaid, trailerGood, Slot, slot, slotsOf, textGood, offsetGood, allRowsGood, offsetKinds, restOf, offsetOfPoint, postcodeGood, given, typeByte, organisationKey, buildingNumber, plainGood, offsetsGood, allowedMix, organisationGood, partsGood, opened}
+use Rattle.pack.specs.Opening.{edition, rowCount, rowArea, outward as packOutward, lengthSaid, trailerGood, slotsOf, offsetGood, allRowsGood, offsetKinds, restOf, offsetOfPoint, postcodeGood, given, typeByte, organisationKey, buildingNumber, plainGood, offsetsGood, allowedMix, organisationGood, partsGood, opened}
 use Rattle.pack.specs.Points.{offsetText, elementsFrom, elementsAt, pointPlace}
-use Rattle.pack.specs.Sound.{slotsGood, OrganisationSound}
+use Rattle.pack_sound.proofs.Elements.{Printed as FromTexts, all-printed}
 use Rattle.pack_open.proofs.Opened.{opened-all}
-use Rattle.pack_open.proofs.Fits.{text-bytes, offset-bytes, all-offsets, point-good}
+use Rattle.pack_open.proofs.Fits.{offset-bytes, all-offsets, point-good}
 use Rattle.changes_source.specs.Rows.{tableLookup}
-use Rattle.changes_source.specs.Addresses.{organisationOf, addressOf, addressAt, addressesIn}
-use Rattle.changes_pair.specs.Live.{viewsAt, WantedPlace, WantedPlaces}
-use Rattle.changes_pair.proofs.Numbers.{wanted-every}
-use Rattle.changes_pair.proofs.Live.{all-views, all-wanted}
+use Rattle.changes_source.specs.Addresses.{addressesIn}
 use Rattle.changes_sound.proofs.Rows.{rows-sound}
-use Rattle.changes_sound.proofs.Follower.{follower-there, organisation-sound}
-use Rattle.changes_sound.proofs.Addresses.{eight}
+use Rattle.changes_sound.proofs.Addresses.{views-fields}
+use Rattle.mainfile.specs.Set.{Set}
+use Rattle.mainfile.specs.Accepted.{AcceptedSet}
+use Rattle.mainfile.specs.Rows.{setLookup}
+use Rattle.mainfile.specs.Addresses as Main
+use Rattle.mainfile.specs.Main.{numberLine}
+use Rattle.mainfile_sound.proofs.Capitals.{views-printed}
 use Rattle.demands.specs.Two.{refusedAs, beginsSmall, NoneSmall, ViewsCapital, PointsCapital}
+use Rattle.demands.proofs.Two.{all-then}
 
 -- ---- the lines between labels
 
 pub view-begins : (view letter : ℕ) → beginsSmall (viewLine view letter) ≡ true
 unfolding viewLine
 view-begins view letter = refl
+
+pub number-begins : (view : ℕ) → beginsSmall (numberLine view) ≡ true
+number-begins view = refl
 
 pub point-begins : (k : ℕ) → beginsSmall (pointLine k) ≡ true
 unfolding pointLine
@@ -75,9 +74,6 @@ bytes-capital : (t : List ℕ) → every textByte t ≡ true → Capital t
 bytes-capital [] e = refl
 bytes-capital (x ∷ xs) e =
     not-true (within 97 122 x) (and-right (within 32 126 x) _ (and-left (textByte x) (every textByte xs) e))
-
-good-capital : (s : Slot) (t : List ℕ) → textGood s t ≡ true → Capital t
-good-capital s t good = bytes-capital t (text-bytes s t good)
 
 trim-capital : (s : List ℕ) → Capital s → Capital (trim s)
 trim-capital [] p = refl
@@ -245,74 +241,41 @@ lines-capital e c =
 
 -- ---- views
 
--- a text of a sound row
-slots-capital : (ss : List Slot) (ts : List (List ℕ)) (n : ℕ) → slotsGood ss ts ≡ true → Capital (getD ts n [])
-slots-capital [] [] n e = refl
-slots-capital [] (t ∷ ts) n e = absurd (true≢false (sym e))
-slots-capital (s ∷ ss) [] n e = absurd (true≢false (sym e))
-slots-capital (s ∷ ss) (t ∷ ts) zero e = good-capital s t (and-left (textGood s t) (slotsGood ss ts) e)
-slots-capital (s ∷ ss) (t ∷ ts) (suc n) e = slots-capital ss ts n (and-right (textGood s t) (slotsGood ss ts) e)
+-- of any source: what an address is printed from begins no line with a small letter
+address-capital : (look : Lookup) (a : Address) → FromTexts look a → Capitals (elementsOf look a)
+unfolding elementsOf
+address-capital look a p =
+    let t = p .texts in
+    let e = elementsOf look a in
+    record {
+      organisation = bytes-capital (e .organisation) (t .organisation .1);
+      department = bytes-capital (e .department) (t .department .1);
+      sub-building = bytes-capital (e .sub-building) (t .sub-building .1);
+      building = bytes-capital (e .building) (t .building .1);
+      number = p .number;
+      dependent = bytes-capital (e .dependent) (t .dependent .1);
+      thoroughfare = bytes-capital (e .thoroughfare) (t .thoroughfare .1);
+      double-locality = bytes-capital (e .double-locality) (t .double-locality .1);
+      dependent-locality = bytes-capital (e .dependent-locality) (t .dependent-locality .1);
+      town = bytes-capital (e .town) (t .town .1);
+      outward = trim-capital (a .outward) (code-capital (a .outward) (p .outward));
+    }
 
-organisation-capital : (type key : ℕ) (o : Organisation) → OrganisationSound type key o
-    → Capital (nameOf o) × Capital (departmentOf o)
-organisation-capital type key none-needed h = (refl, refl)
-organisation-capital type key (named name department) h =
-    (good-capital (slot 60 true) name (h .0), good-capital (slot 60 true) department (h .1 .0))
-organisation-capital type key lacking h = absurd h
+all-capital : (look : Lookup) (views : List Address) → AllOf (FromTexts look) views → ViewsCapital look views
+all-capital look =
+    all-then (FromTexts look) (λ a. NoneSmall (linesOf (elementsOf look a)))
+    (λ a p. lines-capital (elementsOf look a) (address-capital look a p))
 
-module _ (table points : List ℕ) (t : Accepted tableFormat table) (p : Accepted pointFormat points) where
-  text-capital : (kind key n : ℕ) → 1 ≤ kind → kind ≤ 5 → key ≤ 99_999_999
-      → Capital (textOf (tableLookup table) kind key n)
-  text-capital kind key n low high small = by-key (eqb key 0)
-    where
-      found : (o : Option (List (List ℕ))) → tableLookup table kind key ≡ o → Capital (textOr o n)
-      found none e = refl
-      found (some texts) e =
-          slots-capital (slotsOf kind) texts n (rows-sound table t kind key texts low high small e .fit)
+-- of every view of an accepted pair of files
+pub views-capital : (table points : List ℕ) → Accepted tableFormat table → Accepted pointFormat points
+    → ViewsCapital (tableLookup table) (addressesIn points)
+views-capital table points t p =
+    all-capital (tableLookup table) (addressesIn points)
+    (all-printed (tableLookup table) (rows-sound table t) (addressesIn points) (views-fields points p))
 
-      by-key : (z : Bool) → Capital (cond (not z) (textOr (tableLookup table kind key) n) [])
-      by-key true = refl
-      by-key false = found (tableLookup table kind key) refl
-
-  place-capital : (place n : ℕ) → WantedPlace [] points place
-      → Capitals (elementsOf (tableLookup table) (addressAt points n place))
-  unfolding addressOf elementsOf
-  place-capital place n w =
-      let rec = recordAt 168 points place in
-      let next = recordAt 168 points (place + 1) in
-      let view = eqb-true (getD rec 41 0) 49 (sym (wanted-every rec) ∙ w .is-wanted) in
-      let head = point-passes rec (p .each place (w .low) (w .high) .well-formed) .0 in
-      let kind = one-passes (83 ∷ 76 ∷ []) rec 23 (head .1 .1 .1 .1 .1 .0) in
-      let names =
-      organisation-capital (getD rec 23 0) (value (part rec 32 40)) (organisationOf rec next)
-      (organisation-sound rec next view kind (follower-there points p place (w .low) (w .high) view)) in
-      record {
-        organisation = names .0;
-        department = names .1;
-        sub-building = text-capital 5 _ 0 (omega arith) (omega arith) (eight rec 94);
-        building = text-capital 4 _ 0 (omega arith) (omega arith) (eight rec 86);
-        number = omega (arith, digits-below 4 (part rec 82 86) (omega arith) (part-bound rec 82 86));
-        dependent = text-capital 2 _ 0 (omega arith) (omega arith) (eight rec 66);
-        thoroughfare = text-capital 2 _ 0 (omega arith) (omega arith) (eight rec 50);
-        double-locality = text-capital 1 _ 2 (omega arith) (omega arith) (eight rec 42);
-        dependent-locality = text-capital 1 _ 1 (omega arith) (omega arith) (eight rec 42);
-        town = text-capital 1 _ 0 (omega arith) (omega arith) (eight rec 42);
-        outward = trim-capital (part rec 14 18) (code-capital (part rec 14 18) (head .1 .1 .0));
-      }
-
-  abbrev lookup-lines : Address → Type 0
-  lookup-lines a = NoneSmall (linesOf (elementsOf (tableLookup table) a))
-
-  places-capital : (places : List ℕ) → WantedPlaces [] points places → AllOf lookup-lines (viewsAt points places)
-  places-capital [] wanted = tt
-  places-capital (place ∷ places) wanted = (
-    lines-capital _ (place-capital place (viewNumber points place) (wanted .0)),
-    places-capital places (wanted .1),
-  )
-
-  -- of every view of an accepted pair of files
-  pub views-capital : ViewsCapital (tableLookup table) (addressesIn points)
-  views-capital = rw (all-views points) (places-capital (wantedIn [] points) (all-wanted [] points))
+-- of every address of an accepted set
+pub set-capital : (s : Set) → AcceptedSet s → ViewsCapital (setLookup s) (Main.addressesIn s)
+set-capital s a = all-capital (setLookup s) (Main.addressesIn s) (views-printed s a)
 
 -- ---- points
 

@@ -29,6 +29,7 @@ use Rattle.file_record.specs.Parts.{recordAt}
 use Rattle.file_fault.proofs.Passing.{point-passes, one-passes}
 use Rattle.file.specs.Check.{Format, records, checked}
 use Rattle.file.specs.Formats.{tableFormat, pointFormat}
+use Rattle.file.specs.Mainfile.{addresses}
 use Rattle.file.specs.Accepted.{Accepted}
 use Rattle.file.proofs.Accepted.{accepted, accepts}
 use Rattle.file.proofs.Laws.{within-limit}
@@ -36,7 +37,7 @@ use Rattle.changes_views.specs.Views.{wantedIn, wantedCount, wantedAt}
 use Rattle.changes_views.proofs.Laws.{count-bound}
 use Rattle.item.specs.Lines.{pointLine}
 use Rattle.item.specs.Item.{resolvedText}
-use Rattle.item.proofs.Lines.{view-short, point-short, refused-short}
+use Rattle.item.proofs.Lines.{point-short, refused-short}
 use Rattle.run.specs.declared.Series.{Series}
 use Rattle.run.specs.declared.Series.the-variants.{Unasked, Stopped, Done}
 use Rattle.ask.specs.Source.{Source}
@@ -44,31 +45,37 @@ use Rattle.ask.specs.Labels.{kth, viewLabel, codeLabel}
 use Rattle.ask.specs.Runs.{viewsRun, codeRun}
 use Rattle.ask.specs.Lists.{headings}
 use Rattle.ask.proofs.Kth.{kth-all}
-use Rattle.ask.proofs.Laws.{in-code-all}
 use Rattle.pack.specs.Opening.{pointCount, opened}
 use Rattle.pack.specs.Points.{packLabel}
 use Rattle.pack.specs.Cutting.{packBuilt}
 use Rattle.pack_runs.specs.Runs.{packRun}
 use Rattle.pack_open.proofs.Opened.{opened-all}
 use Rattle.pack_open.proofs.Fits.{points-few}
-use Rattle.changes_source.specs.Rows.{tableLookup}
-use Rattle.changes_source.specs.Addresses.{addressOf, addressesIn}
 use Rattle.changes_list.specs.Listing.{viewsAnswer, letterAt, letterAnswer, liveAt, liveAnswer}
-use Rattle.changes_codes.specs.Codes.{codesIn, entryBytes, roomed, entriesOutcome, codesOutcome}
-use Rattle.changes_codes.proofs.Answered.{entries-long, entries-few}
-use Rattle.changes_pair.specs.Pair.{pairOf}
-use Rattle.changes_pair.specs.Live.{viewsAt, WantedPlace, WantedPlaces}
-use Rattle.changes_pair.proofs.Live.{all-views, all-wanted, kept-all}
-use Rattle.changes_pair.proofs.Numbers.{number-bound}
-use Rattle.changes_label.proofs.Laws.{points-accepted}
-use Rattle.changes_sound.proofs.Size.{pack-small}
-use Rattle.call.specs.Call.{Call, of-table, of-points, of-views, of-letter, of-live, of-codes, of-label, of-code-label, of-labels, of-code-labels, of-list, of-code-list, of-build, of-pack, of-pack-label, of-pack-labels, of-pack-list, one, run}
-use Rattle.demands.specs.Two.{ViewAsked, CodeAsked, files-refused, code-refused, taken, labelAt, Bounded, AllBounded}
-use Rattle.demands.specs.Three.{FirstRefused, here, later, packed, whole, Building, files-refused, code-refused, view-refused, too-short, built}
+use Rattle.tally.specs.Tally.{Entry}
+use Rattle.tally_bytes.specs.Entries.{entryBytes, roomed, entriesOutcome}
+use Rattle.tally_bytes.proofs.Entries.{entries-long}
+use Rattle.changes_codes.specs.Codes.{codesIn, codesOutcome}
+use Rattle.changes_codes.proofs.Answered.{entries-few}
+use Rattle.mainfile_codes.specs.Codes as MainCodes
+use Rattle.mainfile_codes.proofs.Stretches.{entries-few as main-entries-few}
+use Rattle.changes_pair.specs.Live.{WantedPlace, WantedPlaces}
+use Rattle.changes_pair.proofs.Live.{all-wanted}
+use Rattle.mainfile.specs.Set.{Set, setOf, setJudged}
+use Rattle.mainfile_check.proofs.Laws.{set-accepted}
+use Rattle.mainfile_views.specs.Range.{viewsIn, manyIn}
+use Rattle.mainfile_views.specs.Range as Main
+use Rattle.mainfile_list.specs.Listing as MainList
+use Rattle.mainfile_views.proofs.Together.{range-high}
+use Rattle.call.specs.Call.{sourceOf, Call, of-table, of-points, of-views, of-letter, of-live, of-codes, of-main, of-main-live, of-main-codes, of-label, of-code-label, of-labels, of-code-labels, of-list, of-code-list, of-build, of-pack, of-pack-label, of-pack-labels, of-pack-list, one, run}
+use Rattle.demands.specs.Two.{ViewAsked, CodeAsked, files-refused, code-refused, taken, labelAt, Bounded}
+use Rattle.demands.specs.Three.{AllPrinted, FirstRefused, here, later, packed, whole, Building, files-refused, code-refused, view-refused, too-short, built}
+use Rattle.demands.specs.Apt.{Judging, Numbered, AptViews, Apt}
 use Rattle.demands.specs.Fits.{Exception, large-pack, large-list, to-open, to-run, to-list, Typed, Tells, TellsAll}
 use Rattle.demands.proofs.Two.{view-asked, code-asked, points-bounded}
-use Rattle.demands.proofs.Three.{building}
-use Rattle.demands.proofs.Says.{Judging, StopSays, OneLabel, SeriesSays, Asked, table-says, points-says, code-says, opened-says, point-says, source-refused, view-says, code-label-says, views-say, codes-say, packs-say, list-says, code-list-says, pack-list-says, pair-asked}
+use Rattle.demands.proofs.Three.{building, all-fine}
+use Rattle.demands.proofs.Says.{StopSays, OneLabel, SeriesSays, code-apt, table-says, points-says, code-says, opened-says, point-says, source-refused, view-says, code-label-says, views-say, codes-say, packs-say, list-says, code-list-says, pack-list-says}
+use Rattle.demands.proofs.Lent.{set-says, addresses-says, lent-apt}
 
 -- ---- files and what a point file lists
 
@@ -82,12 +89,12 @@ checked-fits f file few says = by-answer (checked f file) refl says
     by-answer (Refused file why) e h = h .fits
 
 -- the file's own refusal first
-listed-fits : (points : List ℕ) (next : Answer) → (Accepted pointFormat points → Fits next)
-    → Fits (after (checked pointFormat points) next)
-listed-fits points next fits = by-first (checked pointFormat points) refl (points-says points)
+listed-fits : (f : Format) (file : List ℕ) → Judging (checked f file) → (next : Answer) → (Accepted f file → Fits next)
+    → Fits (after (checked f file) next)
+listed-fits f file says next fits = by-first (checked f file) refl says
   where
-    by-first : (first : Answer) → checked pointFormat points ≡ first → Judging first → Fits (after first next)
-    by-first (Value n) e h = fits (accepted pointFormat points n e)
+    by-first : (first : Answer) → checked f file ≡ first → Judging first → Fits (after first next)
+    by-first (Value n) e h = fits (accepted f file n e)
     by-first (Refused file why) e h = h .fits
 
 no-such-number : Fits (Refused 0 NoSuchNumber)
@@ -154,22 +161,32 @@ module _ (points : List ℕ) (p : Accepted pointFormat points) where
       by-test true = omega (arith, counted-few code)
       by-test false = code-says .fits
 
-  -- the numbers of the views
-  abbrev Numbered : Address → Type 0
-  Numbered a = a .view < 1_048_576
+-- ---- what a set lists
 
-  places-numbered : (places : List ℕ) → WantedPlaces [] points places → AllOf Numbered (viewsAt points places)
-  unfolding addressOf
-  places-numbered [] h = tt
-  places-numbered (place ∷ places) h =
-      (omega (arith, number-bound points place, h .0 .high, records-few), places-numbered places (h .1))
+main-fits : (s : Set) → Fits (MainList.viewsAnswer s)
+main-fits s = by-judged (setJudged s) refl (set-says s)
+  where
+    by-judged : (j : Answer) → setJudged s ≡ j → Judging j → Fits (after j (Value (viewsIn (s .addresses))))
+    by-judged (Value n) e h =
+        omega (arith, within-limit addresses (s .addresses) (set-accepted s e .addresses .is-whole))
+    by-judged (Refused file why) e h = h .fits
 
-  views-numbered : AllOf Numbered (addressesIn points)
-  views-numbered = rw (all-views points) (places-numbered (wantedIn [] points) (all-wanted [] points))
+main-live-fits : (file code : List ℕ) → Accepted addresses file → Fits (Main.liveAt file code)
+unfolding Main.liveAt
+main-live-fits file code a = by-test (eqb (outwardFault code) 0)
+  where
+    by-test : (t : Bool) → Fits (cond t (Value (manyIn file code)) (Refused 0 BadCode))
+    by-test true =
+        omega (
+          arith,
+          range-high (setOf [] [] [] [] [] [] file) code a,
+          within-limit addresses file (a .is-whole),
+        )
+    by-test false = code-says .fits
 
--- ---- the codes of a point file
+-- ---- the codes of a point file or an address file
 
-room-fits : (n : ℕ) (bytes out : List ℕ) → n ≤ 20_000 → length bytes ≡ 8 * n → Fits (roomed n bytes out .answer)
+room-fits : (n : ℕ) (bytes out : List ℕ) → n ≤ 1_000_000 → length bytes ≡ 8 * n → Fits (roomed n bytes out .answer)
 unfolding roomed
 room-fits n bytes out few long = by-test (leb (length bytes) (length out))
   where
@@ -179,15 +196,14 @@ room-fits n bytes out few long = by-test (leb (length bytes) (length out))
     by-test true = omega arith
     by-test false = record { file-fits = lit< tt; second-fits = lit< tt; detail-fits = omega arith }
 
-codes-fit : (points out : List ℕ) → Fits (codesOutcome points out .answer)
-unfolding codesOutcome
-codes-fit points out = by-first (checked pointFormat points) refl (points-says points)
+codes-fit : (f : Format) (file : List ℕ) (es : List Entry) (out : List ℕ) → Judging (checked f file)
+    → (Accepted f file → length es ≤ 1_000_000)
+    → Fits (afterwards Refused (checked f file) out (entriesOutcome es out) .answer)
+codes-fit f file es out says few = by-first (checked f file) refl says
   where
-    by-first : (first : Answer) → checked pointFormat points ≡ first → Judging first
-        → Fits (afterwards Refused first out (entriesOutcome (codesIn points) out) .answer)
-    by-first (Value n) e h =
-        room-fits (length (codesIn points)) (entryBytes (codesIn points)) out
-        (entries-few points (accepted pointFormat points n e)) (entries-long (codesIn points))
+    by-first : (first : Answer) → checked f file ≡ first → Judging first
+        → Fits (afterwards Refused first out (entriesOutcome es out) .answer)
+    by-first (Value n) e h = room-fits (length es) (entryBytes es) out (few (accepted f file n e)) (entries-long es)
     by-first (Refused file why) e h = h .fits
 
 -- ---- labels
@@ -201,7 +217,7 @@ label-fits limit k (Refused file why) h =
       detail-fits = omega (arith, h .1 .small);
     }
 
-module _ (s : Source) (says : Asked s) (out : List ℕ) where
+module _ (s : Source) (says : Apt s) (out : List ℕ) where
   view-fits : (view : ℕ) → Fits (viewLabel s view out .answer)
   view-fits view = by-case (view-asked s out view)
     where
@@ -237,7 +253,7 @@ opened-fits pack bytes = by-opened (opened pack) refl (opened-says pack)
 -- ---- packs that are built
 
 -- "the label's 8 or 9 of the first live view .., together with its view number"
-first-fits : (look : Lookup) (views : List Address) (why : Reason) → AllOf (λ a. a .view < 1_048_576) views
+first-fits : (look : Lookup) (views : List Address) (why : Reason) → AllOf Numbered views
     → FirstRefused look views why
     → FitsRefusal 0 why
 first-fits look views why h (here {a = a} {why = w} e) = by-case (resolving look a)
@@ -252,30 +268,22 @@ first-fits look views why h (here {a = a} {why = w} e) = by-case (resolving look
     by-case (fine m n is) = let z : _≡_ {A = ℕ} 0 1 = cc in absurd (omega arith)
 first-fits look views why h (later {more = more} p r) = first-fits look more why (h .1) r
 
--- the numbers of the live views in a code
-code-numbered : (table points code : List ℕ) {n : ℕ} → pairOf table points .judged ≡ Value n
-    → AllOf (λ a. a .view < 1_048_576) (packed (pairOf table points) code)
-code-numbered table points code e =
-    in-code-all (λ a. a .view < 1_048_576) code (pairOf table points .live)
-    (kept-all (λ a. a .view < 1_048_576) (addressesIn points)
-    (views-numbered points (points-accepted table points e)))
+module _ (s : Source) (apt : Apt s) (code out : List ℕ) where
+  build-fits : Fits (packBuilt s code out .answer)
+  build-fits = by-case (building s code out)
+    where
+      small : {n : ℕ} → s .judged ≡ Value n → outwardFault code ≡ 0 → AllPrinted (s .look) (packed s code)
+          → length (whole s code) < 4_294_967_296
+      small e clean ps = omega (arith, apt .packable .sound e code clean (all-fine (s .look) (packed s code) ps) .small)
 
-build-fits : (table points code out : List ℕ) → Fits (packBuilt (pairOf table points) code out .answer)
-build-fits table points code out = by-case (building (pairOf table points) code out)
-  where
-    pair : Source
-    pair = pairOf table points
-
-    small : {n : ℕ} → pair .judged ≡ Value n → outwardFault code ≡ 0 → length (whole pair code) < 4_294_967_296
-    small e clean = omega (arith, pack-small table points code (points-accepted table points e) clean)
-
-    by-case : Building pair code out → Fits (packBuilt pair code out .answer)
-    by-case (files-refused e is) = rw is (source-refused pair (pair-asked table points) e .fits)
-    by-case (code-refused e fault is) = rw is (code-says .fits)
-    by-case (view-refused e clean r is) = rw is (first-fits _ _ _ (code-numbered table points code e) r)
-    by-case (too-short e clean ps h is) =
-        rw is (record { file-fits = lit< tt; second-fits = lit< tt; detail-fits = small e clean })
-    by-case (built e clean ps h is) = rw is (omega (arith, small e clean))
+      by-case : Building s code out → Fits (packBuilt s code out .answer)
+      by-case (files-refused e is) = rw is (source-refused s apt e .fits)
+      by-case (code-refused e fault is) = rw is (code-says .fits)
+      by-case (view-refused e clean r is) =
+          rw is (first-fits _ _ _ (code-apt (s .look) code (s .live) (apt .live e) .numbered) r)
+      by-case (too-short e clean ps h is) =
+          rw is (record { file-fits = lit< tt; second-fits = lit< tt; detail-fits = small e clean ps })
+      by-case (built e clean ps h is) = rw is (omega (arith, small e clean ps))
 
 -- ---- what is told
 
@@ -346,14 +354,15 @@ resolved-short look a bounded = by-case (resolving look a)
         rw is (omega (arith, refused-short 9 (missing look a) 0 (lit< tt) (omega (arith, eight-fields look a)) (lit< tt)))
     by-case (fine m n is) = rw is (bounded .bytes)
 
--- views with their numbers, under the headings of a pair
-module _ (table points : List ℕ) (views : List Address) (bounded : AllBounded (tableLookup table) views)
-    (numbered : AllOf (λ a. a .view < 1_048_576) views) (k : ℕ) (a : Address) (e : kth views k ≡ some a) where
-  item-small : SmallStop (Room (length (headings (pairOf table points .heading) views k ++ resolvedText (resolve (tableLookup table) a))))
+-- apt views under the source's own headings
+module _ (s : Source) (apt : Apt s) (views : List Address) (good : AptViews (s .look) views) (k : ℕ) (a : Address)
+    (e : kth views k ≡ some a) where
+  item-small : SmallStop (Room (length (headings (s .heading) views k ++ resolvedText (resolve (s .look) a))))
   item-small =
-      let line : length (headings (pairOf table points .heading) views k) ≤ 80
-      = rw e (view-short (a .view) (a .letter) (omega (arith, kth-all (λ a. a .view < 1_048_576) views k a numbered e))) in
-      let text = resolved-short (tableLookup table) a (kth-all (λ a. Bounded (elementsOf (tableLookup table) a)) views k a bounded e) in
+      let line : length (headings (s .heading) views k) ≤ 80
+      = rw e (apt .headed a (kth-all Numbered views k a (good .numbered) e)) in
+      let bounded = kth-all (λ a. Bounded (elementsOf (s .look) a)) views k a (good .bounded) e in
+      let text = resolved-short (s .look) a bounded in
       small-room _ (simp length-append (omega (arith, line, text)))
 
 point-small : (pack : List ℕ) → ((i : ℕ) → getD pack i 0 < 256) → (n : ℕ) → opened pack ≡ Value n → (k : ℕ) → 1 ≤ k
@@ -364,45 +373,56 @@ point-small pack bytes n e k low high =
     let text = points-bounded pack n k e low (omega (arith, opened-all pack n e .counted)) .bytes in
     small-room _ (simp length-append (omega (arith, line, text)))
 
+-- of every call, whatever is lent
 pub tells : (call : Call) → Typed call → TellsAll call
-unfolding viewsAnswer letterAnswer liveAnswer
+unfolding viewsAnswer letterAnswer liveAnswer codesOutcome Main.liveAnswer MainCodes.codesOutcome
 tells (of-table table) typed out = answer-tells _ _ (checked-fits tableFormat table (lit≤ tt) (table-says table))
 tells (of-points points) typed out = answer-tells _ _ (checked-fits pointFormat points (lit≤ tt) (points-says points))
 tells (of-views points) typed out =
-    answer-tells _ _ (listed-fits points (Value (wantedCount [] points)) (λ p. omega (arith, counted-few points p [])))
+    answer-tells _ _
+    (listed-fits pointFormat points (points-says points) (Value (wantedCount [] points))
+    (λ p. omega (arith, counted-few points p [])))
 tells (of-letter points view) typed out =
-    answer-tells _ _ (listed-fits points (letterAt points (wantedAt [] points view)) (λ p. letter-fits points p view))
+    answer-tells _ _
+    (listed-fits pointFormat points (points-says points) (letterAt points (wantedAt [] points view))
+    (λ p. letter-fits points p view))
 tells (of-live points code) typed out =
-    answer-tells _ _ (listed-fits points (liveAt points code) (λ p. live-fits points p code))
-tells (of-codes points) typed out = answer-tells _ _ (codes-fit points out)
-tells (of-label table points view) typed out =
-    answer-tells _ _ (view-fits (pairOf table points) (pair-asked table points) out view)
-tells (of-code-label table points code k) typed out =
-    answer-tells _ _ (code-fits (pairOf table points) (pair-asked table points) out code k)
-tells (of-labels table points first count) typed out =
+    answer-tells _ _
+    (listed-fits pointFormat points (points-says points) (liveAt points code) (λ p. live-fits points p code))
+tells (of-codes points) typed out =
+    answer-tells _ _
+    (codes-fit pointFormat points (codesIn points) out (points-says points) (λ p. omega (arith, entries-few points p)))
+tells (of-main s) typed out = answer-tells _ _ (main-fits s)
+tells (of-main-live file code) typed out =
+    answer-tells _ _
+    (listed-fits addresses file (addresses-says file) (Main.liveAt file code) (main-live-fits file code))
+tells (of-main-codes file) typed out =
+    answer-tells _ _
+    (codes-fit addresses file (MainCodes.codesIn file) out (addresses-says file) (main-entries-few file))
+tells (of-label lent view) typed out =
+    answer-tells _ _ (view-fits (sourceOf lent) (lent-apt lent) out view)
+tells (of-code-label lent code k) typed out =
+    answer-tells _ _ (code-fits (sourceOf lent) (lent-apt lent) out code k)
+tells (of-labels lent first count) typed out =
     few-tells _ _
-    (run-small 1_048_575 (viewsRun (pairOf table points) first count out .answer)
-    (views-say (pairOf table points) (pair-asked table points) first count out))
-tells (of-code-labels table points code first count) typed out =
+    (run-small 1_048_575 (viewsRun (sourceOf lent) first count out .answer)
+    (views-say (sourceOf lent) (lent-apt lent) first count out))
+tells (of-code-labels lent code first count) typed out =
     few-tells _ _
-    (run-small 1_048_575 (codeRun (pairOf table points) code first count out .answer)
-    (codes-say (pairOf table points) (pair-asked table points) first count out code))
-tells (of-list table points first count) typed out =
-    let says = pair-asked table points in
+    (run-small 1_048_575 (codeRun (sourceOf lent) code first count out .answer)
+    (codes-say (sourceOf lent) (lent-apt lent) first count out code))
+tells (of-list lent first count) typed out =
+    let s = sourceOf lent in
+    let apt = lent-apt lent in
     few-tells _ _
-    (list-says SmallStop none-small (pairOf table points) says
-    (λ n e. item-small table points (addressesIn points) (says .views e) (views-numbered points (points-accepted table points e)))
-    first count out)
-tells (of-code-list table points code first count) typed out =
-    let says = pair-asked table points in
-    let Bound : Address → Type 0 = λ a. Bounded (elementsOf (tableLookup table) a) in
+    (list-says SmallStop none-small s apt (λ n e. item-small s apt (s .views) (apt .views e)) first count out)
+tells (of-code-list lent code first count) typed out =
+    let s = sourceOf lent in
+    let apt = lent-apt lent in
     few-tells _ _
-    (code-list-says SmallStop none-small (pairOf table points) says code
-    (λ n e.
-    item-small table points (packed (pairOf table points) code)
-    (in-code-all Bound code (pairOf table points .live) (says .live e)) (code-numbered table points code e))
-    first count out)
-tells (of-build table points code) typed out = answer-tells _ _ (build-fits table points code out)
+    (code-list-says SmallStop none-small s apt code
+    (λ n e. item-small s apt (packed s code) (code-apt (s .look) code (s .live) (apt .live e))) first count out)
+tells (of-build lent code) typed out = answer-tells _ _ (build-fits (sourceOf lent) (lent-apt lent) code out)
 tells (of-pack pack) typed out = answer-tells _ _ (opened-fits pack (typed pack to-open))
 tells (of-pack-label pack k) typed out = answer-tells _ _ (point-fits pack k out)
 tells (of-pack-labels pack first count) typed out =

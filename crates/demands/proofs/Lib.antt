@@ -4,9 +4,13 @@ pub mod Two
 pub mod Capitals
 pub mod Three
 pub mod Says
+pub mod Faults
+pub mod Pair
+pub mod Set
+pub mod Lent
 pub mod Apart
 pub mod Fits
 pub mod Told
 pub mod Unused
-pub mod Pair
+pub mod Printer
 pub mod Run

@@ -35,9 +35,11 @@ use Rattle.pack_runs.specs.Runs.{packRun}
 use Rattle.pack_items.specs.Lists.{packListed, packList}
 use Rattle.file.specs.Check.{checked}
 use Rattle.file.specs.Formats.{pointFormat}
-use Rattle.changes_codes.specs.Codes.{roomed, codesOutcome}
-use Rattle.changes_pair.specs.Pair.{pairOf}
-use Rattle.call.specs.Call.{Call, of-table, of-points, of-views, of-letter, of-live, of-codes, of-label, of-code-label, of-labels, of-code-labels, of-list, of-code-list, of-build, of-pack, of-pack-label, of-pack-labels, of-pack-list, Saying, one, run, Called, outcomeOf, bytesOf, comesTo}
+use Rattle.file.specs.Mainfile.{addresses}
+use Rattle.tally_bytes.specs.Entries.{roomed}
+use Rattle.changes_codes.specs.Codes.{codesOutcome}
+use Rattle.mainfile_codes.specs.Codes as MainCodes
+use Rattle.call.specs.Call.{sourceOf, Call, of-table, of-points, of-views, of-letter, of-live, of-codes, of-main, of-main-live, of-main-codes, of-label, of-code-label, of-labels, of-code-labels, of-list, of-code-list, of-build, of-pack, of-pack-label, of-pack-labels, of-pack-list, Saying, one, run, Called, outcomeOf, bytesOf, comesTo}
 use Rattle.demands.specs.One.{Allows, IsRefused, IsUnasked, RefusedWhole}
 
 -- "for every input, refusals too, it allows one answer and one content of lent memory"
@@ -101,6 +103,10 @@ roomed-kept n bytes out = by-test (leb (length bytes) (length out))
 codes-kept : (points out : List ℕ) → Kept IsRefused (codesOutcome points out) out
 unfolding codesOutcome
 codes-kept points out = after-kept IsRefused Refused out _ (roomed-kept _ _ out) (checked pointFormat points)
+
+main-codes-kept : (file out : List ℕ) → Kept IsRefused (MainCodes.codesOutcome file out) out
+unfolding MainCodes.codesOutcome
+main-codes-kept file out = after-kept IsRefused Refused out _ (roomed-kept _ _ out) (checked addresses file)
 
 cut-kept : (v : Verdict) (pack out : List ℕ) → Kept IsRefused (cutWith v pack out) out
 cut-kept Fine pack out = room-kept pack out
@@ -186,13 +192,16 @@ kept (of-views points) out = λ r. refl
 kept (of-letter points view) out = λ r. refl
 kept (of-live points code) out = λ r. refl
 kept (of-codes points) out = codes-kept points out
-kept (of-label table points view) out = view-kept (pairOf table points) out view
-kept (of-code-label table points code k) out = code-label-kept (pairOf table points) out code k
-kept (of-labels table points first count) out = views-kept (pairOf table points) out first count
-kept (of-code-labels table points code first count) out = code-run-kept (pairOf table points) out code first count
-kept (of-list table points first count) out = list-kept (pairOf table points) out first count
-kept (of-code-list table points code first count) out = code-list-kept (pairOf table points) out code first count
-kept (of-build table points code) out = build-kept (pairOf table points) out code
+kept (of-main s) out = λ r. refl
+kept (of-main-live file code) out = λ r. refl
+kept (of-main-codes file) out = main-codes-kept file out
+kept (of-label lent view) out = view-kept (sourceOf lent) out view
+kept (of-code-label lent code k) out = code-label-kept (sourceOf lent) out code k
+kept (of-labels lent first count) out = views-kept (sourceOf lent) out first count
+kept (of-code-labels lent code first count) out = code-run-kept (sourceOf lent) out code first count
+kept (of-list lent first count) out = list-kept (sourceOf lent) out first count
+kept (of-code-list lent code first count) out = code-list-kept (sourceOf lent) out code first count
+kept (of-build lent code) out = build-kept (sourceOf lent) out code
 kept (of-pack pack) out = λ r. refl
 kept (of-pack-label pack k) out = pack-label-kept pack k out
 kept (of-pack-labels pack first count) out = pack-run-kept pack first count out

@@ -13,7 +13,6 @@ use lib.ListN.{length}
 use Rattle.field.proofs.Tests.{and-left, and-right}
 use Rattle.field_outward.specs.Outward.{outwardFault}
 use Rattle.refusal.specs.Refusal.{number, detail, second, malformedAt}
-use Rattle.refusal.specs.Packed.{FitsRefusal}
 use Rattle.refusal.specs.declared.Reason.{Reason}
 use Rattle.refusal.specs.declared.Reason.the-variants.{Length, Header, Trailer, NotAbove, Follower, NoSuchNumber, Room, BadPack, BadCode}
 use Rattle.refusal.specs.declared.Answer.{Answer}
@@ -29,12 +28,10 @@ use Rattle.source.specs.Resolve.{Resolved, elementsOf, elements, resolve}
 use Rattle.source.proofs.Cases.{three-rules, eight-fields}
 use Rattle.file.specs.Check.{Format, records, whole, at, rises, inPlace, judged, scan, verdict, answered, checked}
 use Rattle.file.specs.Formats.{tableFormat, pointFormat}
-use Rattle.file.specs.Accepted.{Accepted}
 use Rattle.file.proofs.Laws.{at-least-two, within-limit}
 use Rattle.file_fault.proofs.Bounds.{table-bound, point-bound}
 use Rattle.file_compare.specs.Order.{same}
-use Rattle.changes_views.specs.Views.{wantedIn, wantedCount}
-use Rattle.changes_views.proofs.Laws.{count-bound}
+use Rattle.label.specs.Lines.{linesOf}
 use Rattle.label.specs.Label.{roomOutcome}
 use Rattle.label.proofs.Room.{Fitting, fits, short, fitting}
 use Rattle.item.specs.Lines.{pointLine}
@@ -54,26 +51,12 @@ use Rattle.pack.specs.Points.{elementsAt, pointPlace, isPoint, packLabel, point
 use Rattle.pack_runs.specs.Runs.{packRun}
 use Rattle.pack_items.specs.Lists.{packListed, packList}
 use Rattle.pack_open.proofs.Opened.{opened-all}
-use Rattle.changes_source.specs.Rows.{tableLookup}
-use Rattle.changes_source.specs.Addresses.{addressesIn, live, kept}
-use Rattle.changes_pair.specs.Pair.{pairOf}
-use Rattle.changes_pair.proofs.Live.{all-views, views-length, kept-all}
-use Rattle.changes_label.proofs.Laws.{table-accepted, points-accepted}
-use Rattle.demands.specs.Apart.{OfLabel, OfWhole}
-use Rattle.demands.specs.Two.{Printing, no-number, forbidden-mix, key-missing, no-room, printed, labelAt, PointAsked, pack-refused, Bounded, AllBounded}
-use Rattle.demands.proofs.Two.{printing, point-asked, views-bounded, points-bounded}
+use Rattle.demands.specs.Apart.{OfLabel, AnswerIs}
+use Rattle.demands.specs.Two.{Printing, no-number, forbidden-mix, key-missing, no-room, printed, labelAt, PointAsked, pack-refused, Bounded, AllBounded, NoneSmall}
+use Rattle.demands.specs.Apt.{WholeSays, Judging, Numbered, AptViews, Apt}
+use Rattle.demands.proofs.Two.{printing, point-asked, points-bounded}
 
 -- ---- refusals
-
--- of the whole: a file's, a pack's, that of a code
-pub record WholeSays (file : ℕ) (why : Reason) : Type 0 where
-  pub apart : OfWhole why
-  pub fits : FitsRefusal file why
-
--- what judges the whole says one of these, or a value
-abbrev pub Judging : Answer → Type 0
-Judging (Value n) = Unit {0}
-Judging (Refused file why) = WholeSays file why
 
 -- of a label
 pub record StopSays (why : Reason) : Type 0 where
@@ -94,74 +77,95 @@ SeriesSays Kind limit (Done labels bytes) = labels ≤ limit
 
 -- ---- files
 
-module _ (f : Format) (blamed : f .file < 16) (few : f .limit ≤ 1_000_000) (near : (rec : List ℕ) → f .fault rec ≤ 170)
-    (file : List ℕ) where
-  abbrev BadSays : Verdict → Type 0
-  BadSays Fine = Unit {0}
-  BadSays (Bad why) = WholeSays (f .file) why
+-- each refusal that the check of a file can give is of a kind
+pub record Refusals (f : Format) (file : List ℕ) (Kind : Reason → Type 0) : Type 0 where
+  pub short : Kind Length
+  pub header : Kind Header
+  pub trailer : (last : ℕ) → last ≤ f .limit → Kind (Trailer last)
+  pub malformed : (i : ℕ) → i < f .limit → Kind (malformedAt (i + 1) (f .fault (at f file i)))
+  pub not-above : (i : ℕ) → i < f .limit → Kind (NotAbove (i + 1))
+  pub misplaced : (i : ℕ) → i < f .limit → inPlace f file i ≡ false → Kind (Follower (i + 1))
 
-  bad : (why : Reason) → number why ≤ 6 → second why < 1_048_576 → detail why < 4_294_967_296 → BadSays (Bad why)
-  bad why n s d = record { apart = inl n; fits = record { file-fits = blamed; second-fits = s; detail-fits = d } }
+-- so the one that it gives is
+module _ (Kind : ℕ → Reason → Type 0) (f : Format) (file : List ℕ) (refusals : Refusals f file (Kind (f .file))) where
+  abbrev BadIs : Verdict → Type 0
+  BadIs Fine = Unit {0}
+  BadIs (Bad why) = Kind (f .file) why
 
-  module _ (within : records f file ≤ f .limit) where
-    judged-says : (i : ℕ) → i < records f file → BadSays (judged f file i)
-    unfolding judged
-    judged-says i h = by-tests (eqb (f .fault (at f file i)) 0) (rises f file i) (inPlace f file i)
-      where
-        by-tests : (t u v : Bool)
-            → BadSays
-            (cond t (cond u (cond v Fine (Bad (Follower (i + 1)))) (Bad (NotAbove (i + 1))))
-            (Bad (malformedAt (i + 1) (f .fault (at f file i)))))
-        by-tests true true true = tt
-        by-tests true true false = bad (Follower (i + 1)) (lit≤ tt) (lit< tt) (omega arith)
-        by-tests true false v = bad (NotAbove (i + 1)) (lit≤ tt) (lit< tt) (omega arith)
-        by-tests false u v =
-            bad (malformedAt (i + 1) (f .fault (at f file i))) (lit≤ tt) (omega (arith, near (at f file i))) (omega arith)
+  judged-is : (i : ℕ) → i < f .limit → BadIs (judged f file i)
+  unfolding judged
+  judged-is i h = by-tests (eqb (f .fault (at f file i)) 0) (rises f file i) (inPlace f file i) refl
+    where
+      by-tests : (t u v : Bool) → inPlace f file i ≡ v
+          → BadIs
+          (cond t (cond u (cond v Fine (Bad (Follower (i + 1)))) (Bad (NotAbove (i + 1))))
+          (Bad (malformedAt (i + 1) (f .fault (at f file i)))))
+      by-tests true true true e = tt
+      by-tests true true false e = refusals .misplaced i h e
+      by-tests true false v e = refusals .not-above i h
+      by-tests false u v e = refusals .malformed i h
 
-    scan-says : (k i : ℕ) → i + k ≤ records f file → BadSays (scan (judged f file) k i)
-    scan-says zero i h = tt
-    scan-says (suc k) i h =
-        by-record (judged f file i) (judged-says i (omega arith)) (scan-says k (suc i) (omega arith))
-      where
-        by-record : (v : Verdict) → BadSays v → BadSays (scan (judged f file) k (suc i))
-            → BadSays (orElse v (scan (judged f file) k (suc i)))
-        by-record Fine here rest = rest
-        by-record (Bad why) here rest = here
+  scan-is : (k i : ℕ) → i + k ≤ f .limit → BadIs (scan (judged f file) k i)
+  scan-is zero i h = tt
+  scan-is (suc k) i h = by-record (judged f file i) (judged-is i (omega arith)) (scan-is k (suc i) (omega arith))
+    where
+      by-record : (v : Verdict) → BadIs v → BadIs (scan (judged f file) k (suc i))
+          → BadIs (orElse v (scan (judged f file) k (suc i)))
+      by-record Fine here rest = rest
+      by-record (Bad why) here rest = here
 
-  checked-says : Judging (checked f file)
+  pub checked-is : AnswerIs Kind (checked f file)
   unfolding checked verdict
-  checked-says =
+  checked-is =
       by-verdict (verdict f file)
       (by-tests (whole f file) (f .headed (at f file 0)) (f .ended (records f file) (at f file (records f file - 1))) refl)
     where
       by-tests : (t u v : Bool) → whole f file ≡ t
-          → BadSays
+          → BadIs
           (cond t
           (cond u (cond v (scan (judged f file) (records f file - 2) 1) (Bad (Trailer (records f file)))) (Bad Header))
           (Bad Length))
       by-tests true true true w =
-          scan-says (within-limit f file w) (records f file - 2) 1 (omega (arith, at-least-two f file w))
-      by-tests true true false w =
-          bad (Trailer (records f file)) (lit≤ tt) (lit< tt) (omega (arith, within-limit f file w))
-      by-tests true false v w = bad Header (lit≤ tt) (lit< tt) (lit< tt)
-      by-tests false u v w = bad Length (lit≤ tt) (lit< tt) (lit< tt)
+          scan-is (records f file - 2) 1 (omega (arith, at-least-two f file w, within-limit f file w))
+      by-tests true true false w = refusals .trailer (records f file) (within-limit f file w)
+      by-tests true false v w = refusals .header
+      by-tests false u v w = refusals .short
 
-      by-verdict : (v : Verdict) → BadSays v → Judging (answered f file v)
+      by-verdict : (v : Verdict) → BadIs v → AnswerIs Kind (answered f file v)
       by-verdict Fine h = tt
       by-verdict (Bad why) h = h
+
+-- files that are tried one after another
+pub then-is : (Kind : ℕ → Reason → Type 0) (first next : Answer) → AnswerIs Kind first → AnswerIs Kind next
+    → AnswerIs Kind (after first next)
+then-is Kind (Value n) next h k = k
+then-is Kind (Refused file why) next h k = h
+
+-- a file whose number, records and faults are small
+module _ (f : Format) (blamed : f .file < 16) (few : f .limit ≤ 1_000_000) (near : (rec : List ℕ) → f .fault rec ≤ 170)
+    (file : List ℕ) where
+  bad : (why : Reason) → number why ≤ 6 → second why < 1_048_576 → detail why < 4_294_967_296 → WholeSays (f .file) why
+  bad why n s d = record { apart = inl n; fits = record { file-fits = blamed; second-fits = s; detail-fits = d } }
+
+  pub checked-says : Judging (checked f file)
+  checked-says =
+      checked-is WholeSays f file
+      (record {
+        short = bad Length (lit≤ tt) (lit< tt) (lit< tt);
+        header = bad Header (lit≤ tt) (lit< tt) (lit< tt);
+        trailer = λ last h. bad (Trailer last) (lit≤ tt) (lit< tt) (omega (arith, h, few));
+        malformed = λ i h.
+            bad (malformedAt (i + 1) (f .fault (at f file i))) (lit≤ tt) (omega (arith, near (at f file i)))
+            (omega (arith, h, few));
+        not-above = λ i h. bad (NotAbove (i + 1)) (lit≤ tt) (lit< tt) (omega (arith, h, few));
+        misplaced = λ i h e. bad (Follower (i + 1)) (lit≤ tt) (lit< tt) (omega (arith, h, few));
+      })
 
 pub table-says : (table : List ℕ) → Judging (checked tableFormat table)
 table-says table = checked-says tableFormat (lit< tt) (lit≤ tt) table-bound table
 
 pub points-says : (points : List ℕ) → Judging (checked pointFormat points)
 points-says points = checked-says pointFormat (lit< tt) (lit≤ tt) point-bound points
-
-pub pair-says : (table points : List ℕ) → Judging (pairOf table points .judged)
-pair-says table points = by-first (checked tableFormat table) (table-says table)
-  where
-    by-first : (first : Answer) → Judging first → Judging (after first (checked pointFormat points))
-    by-first (Value n) h = points-says points
-    by-first (Refused file why) h = h
 
 -- "12: outward code malformed"
 pub code-says : WholeSays 0 BadCode
@@ -292,16 +296,17 @@ more-say Kind m limit (Unasked file why) l h = h
 more-say Kind m limit (Stopped labels bytes why) l h = (omega (arith, h .0), h .1)
 more-say Kind m limit (Done labels bytes) l h = omega arith
 
--- a source whose own refusals are of the whole, and which, where it is accepted, has no more views than the second detail can
--- count, each with a bounded label
-pub record Asked (s : Source) : Type 0 where
-  pub judges : Judging (s .judged)
-  pub views : {n : ℕ} → s .judged ≡ Value n → AllBounded (s .look) (s .views)
-  pub live : {n : ℕ} → s .judged ≡ Value n → AllBounded (s .look) (s .live)
-  pub few : {n : ℕ} → s .judged ≡ Value n → length (s .views) ≤ 1_048_575
-  pub few-live : {n : ℕ} → s .judged ≡ Value n → length (s .live) ≤ 1_048_575
+-- of apt views those in a code are apt
+pub code-apt : (look : Lookup) (code : List ℕ) (views : List Address) → AptViews look views → AptViews look (inCode code views)
+code-apt look code views h =
+    record {
+      bounded = in-code-all (λ a. Bounded (elementsOf look a)) code views (h .bounded);
+      capital = in-code-all (λ a. NoneSmall (linesOf (elementsOf look a))) code views (h .capital);
+      numbered = in-code-all Numbered code views (h .numbered);
+      few = omega (arith, code-few code views, h .few);
+    }
 
-module _ (s : Source) (says : Asked s) where
+module _ (s : Source) (says : Apt s) where
   pub source-refused : {file : ℕ} {why : Reason} → s .judged ≡ Refused file why → WholeSays file why
   source-refused e = rw e at (says .judges)
 
@@ -310,7 +315,7 @@ module _ (s : Source) (says : Asked s) where
     unfolding viewLabel
     view-says =
         rw (afterwards-value Refused out (kthLabel (s .look) (s .views) k out) taken)
-        (printing-says (s .look) (s .views) (says .views taken) k out _ (printing (s .look) (s .views) k out))
+        (printing-says (s .look) (s .views) (says .views taken .bounded) k out _ (printing (s .look) (s .views) k out))
 
     module _ (code : List ℕ) (clean : outwardFault code ≡ 0) where
       abbrev views : List Address
@@ -320,8 +325,7 @@ module _ (s : Source) (says : Asked s) where
       unfolding codeLabel
       code-label-says =
           rw (by-good-code Refused code out (kthLabel (s .look) views k out) s taken clean)
-          (printing-says (s .look) views
-          (in-code-all (λ a. Bounded (elementsOf (s .look) a)) code (s .live) (says .live taken)) k out _
+          (printing-says (s .look) views (code-apt (s .look) code (s .live) (says .live taken) .bounded) k out _
           (printing (s .look) views k out))
 
   -- asked in turn behind the files, and behind files and code
@@ -336,7 +340,7 @@ module _ (s : Source) (says : Asked s) where
         by-judged : (j : Answer) → s .judged ≡ j → SeriesSays Kind 1_048_575 (afterwards Unasked (s .judged) out next .answer)
         by-judged (Value n) e =
             rw (afterwards-value Unasked out next e)
-            (more-say Kind (length (s .views)) 1_048_575 (next .answer) (says .few e)
+            (more-say Kind (length (s .views)) 1_048_575 (next .answer) (says .views e .few)
             (series-says Kind ask (length (s .views)) (each n e) first count out))
         by-judged (Refused file why) e = rw (afterwards-refused Unasked out next e) (source-refused e)
 
@@ -354,7 +358,8 @@ module _ (s : Source) (says : Asked s) where
           by-code n e true c =
               let clean = eqb-true (outwardFault code) 0 c in
               rw (by-good-code Unasked code out next s e clean)
-              (more-say Kind (length coded) 1_048_575 (next .answer) (omega (arith, code-few code (s .live), says .few-live e))
+              (more-say Kind (length coded) 1_048_575 (next .answer)
+              (code-apt (s .look) code (s .live) (says .live e) .few)
               (series-says Kind ask (length coded) (each n e clean) first count out))
           by-code n e false c =
               rw (by-bad-code Unasked code out next s e (eqb-false (outwardFault code) 0 c)) code-says
@@ -378,7 +383,7 @@ module _ (s : Source) (says : Asked s) where
         label-says (length (inCode code (s .live))) k (codeLabel s code k o .answer) (code-label-says e k o code clean))
 
 -- under the source's own headings, where a kind has 7, and 10 with the bytes of an item
-module _ (Kind : Reason → Type 0) (none-left : Kind NoSuchNumber) (s : Source) (says : Asked s) where
+module _ (Kind : Reason → Type 0) (none-left : Kind NoSuchNumber) (s : Source) (says : Apt s) where
   abbrev Roomy : List Address → Type 0
   Roomy views =
       (k : ℕ) (a : Address) → kth views k ≡ some a
@@ -458,31 +463,3 @@ module _ (Kind : Reason → Type 0) (none-left : Kind NoSuchNumber) (pack : List
       → SeriesSays Kind (pointCount pack) (packList pack first count out .answer)
   unfolding packList packListed
   pack-list-says = pack-next Kind (packItem pointLine pack) pack point-item-says
-
--- ---- a pair of files
-
-kept-few : (views : List Address) → length (kept views) ≤ length views
-kept-few [] = omega arith
-kept-few (a ∷ more) = by-test (live a) (kept-few more)
-  where
-    by-test : (t : Bool) → length (kept more) ≤ length more
-        → length (cond t (a ∷ kept more) (kept more)) ≤ suc (length more)
-    by-test true h = omega arith
-    by-test false h = omega arith
-
-views-few : (points : List ℕ) → Accepted pointFormat points → length (addressesIn points) ≤ 20_000
-unfolding wantedCount
-views-few points p =
-    rw (all-views points, views-length points (wantedIn [] points))
-    (omega (arith, count-bound [] points, within-limit pointFormat points (p .is-whole)))
-
-pub pair-asked : (table points : List ℕ) → Asked (pairOf table points)
-pair-asked table points =
-    let Bound : Address → Type 0 = λ a. Bounded (elementsOf (tableLookup table) a) in
-    record {
-      judges = pair-says table points;
-      views = λ e. views-bounded table points (table-accepted table points e);
-      live = λ e. kept-all Bound (addressesIn points) (views-bounded table points (table-accepted table points e));
-      few = λ e. omega (arith, views-few points (points-accepted table points e));
-      few-live = λ e. omega (arith, kept-few (addressesIn points), views-few points (points-accepted table points e));
-    }

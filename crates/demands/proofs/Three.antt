@@ -142,11 +142,11 @@ module _ (s : Source) (code out : List ℕ) where
 
 -- ---- what a pack carries
 
-printed-resolves : (look : Lookup) (a : Address) → Printed look a → resolve look a ≡ elements (elementsOf look a)
+pub printed-resolves : (look : Lookup) (a : Address) → Printed look a → resolve look a ≡ elements (elementsOf look a)
 unfolding resolve
 printed-resolves look a p = rw (eq-eqb (forbidden a) 0 (p .0), eq-eqb (missing look a) 0 (p .1))
 
-all-fine : (look : Lookup) (views : List Address) → AllPrinted look views → firstBad look views ≡ Fine
+pub all-fine : (look : Lookup) (views : List Address) → AllPrinted look views → firstBad look views ≡ Fine
 all-fine look [] p = refl
 all-fine look (a ∷ more) p = rw (printed-resolves look a (p .0), all-fine look more (p .1))
 

@@ -117,8 +117,8 @@ module _ (call other : Call) (c : Typed call) (d : Typed other) (out another : L
     (e : SameTold before (outcomeOf call out .answer) (outcomeOf other another .answer)) where
   pub same-told : asTold (outcomeOf call out .answer) ≡ asTold (outcomeOf other another .answer)
   same-told =
-      sayings-told before call other (outcomeOf call out .answer) (outcomeOf other another .answer) (tells call c out)
-      (tells other d another) (told-apart call out) (told-apart other another) e
+      sayings-told before call other (outcomeOf call out .answer) (outcomeOf other another .answer)
+      (tells call c out) (tells other d another) (told-apart call out) (told-apart other another) e
 
   -- and so is what they say
   pub same-said : (Exception call → ⊥) → (Exception other → ⊥)

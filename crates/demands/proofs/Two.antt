@@ -17,7 +17,7 @@ use Rattle.refusal.specs.declared.Reason.{Reason}
 use Rattle.refusal.specs.declared.Reason.the-variants.{Combination, MissingKey}
 use Rattle.refusal.specs.declared.Answer.{Answer}
 use Rattle.refusal.specs.declared.Answer.the-variants.{Value, Refused}
-use Rattle.refusal.specs.Outcome.{Outcome, said}
+use Rattle.refusal.specs.Outcome.{Outcome, said, afterwards}
 use Rattle.refusal.proofs.Answers.{refused-value}
 use Rattle.refusal.proofs.Outcomes.{answer-of, afterwards-value, afterwards-refused}
 use Rattle.source.specs.Address.{Lookup, Address, Elements}
@@ -26,6 +26,7 @@ use Rattle.source.specs.Same.{AllOf}
 use Rattle.source.proofs.Cases.{Resolving, mixed, lacking, fine, resolving}
 use Rattle.file.specs.Check.{Format, records, checked}
 use Rattle.file.specs.Formats.{tableFormat, pointFormat}
+use Rattle.file.specs.Mainfile.{addresses}
 use Rattle.file.specs.Accepted.{Accepted}
 use Rattle.file.proofs.Accepted.{accepted, accepts}
 use Rattle.label.specs.Label.{roomOutcome, resolvedOutcome}
@@ -48,11 +49,21 @@ use Rattle.pack_open.proofs.Fits.{point-fits}
 use Rattle.changes_source.specs.Rows.{tableLookup}
 use Rattle.changes_source.specs.Addresses.{addressesIn}
 use Rattle.changes_label.proofs.Fits.{views-fit}
-use Rattle.changes_codes.specs.Codes.{codesIn, entryBytes, codesOutcome}
-use Rattle.changes_codes.proofs.Pairs.{fits as entries-fit, falls-short}
+use Rattle.tally.specs.Tally.{Entry}
+use Rattle.tally_bytes.specs.Entries.{entryBytes, entriesOutcome}
+use Rattle.tally_bytes.proofs.Entries.{entries-long, fits as entries-fit, falls-short}
+use Rattle.changes_codes.specs.Codes.{codesIn, codesOutcome}
+use Rattle.changes_codes.specs.Told.{Told}
 use Rattle.changes_codes.proofs.Told.{codes-told}
-use Rattle.changes_codes.proofs.Answered.{entries-long}
-use Rattle.demands.specs.Two.{labelFor, Printing, no-number, forbidden-mix, key-missing, no-room, printed, ViewAsked, CodeAsked, labelAt, PointAsked, refusedAs, Under, a-label, a-rule, a-field, ItemAsked, PointListed, listed, InTurn, CodesAsked, file-refused, files-refused, code-refused, pack-refused, taken, Exactly, Taken, Prints, textFor, ViewExactly, CodeExactly, PointExactly, Bounded, AllBounded, PointsBounded}
+use Rattle.mainfile.specs.Set.{Set}
+use Rattle.mainfile.specs.Accepted.{AcceptedSet}
+use Rattle.mainfile.specs.Rows.{setLookup}
+use Rattle.mainfile.specs.Addresses as Main
+use Rattle.mainfile_sound.proofs.Lengths.{views-fit as addresses-fit}
+use Rattle.mainfile_codes.specs.Codes as MainCodes
+use Rattle.mainfile_codes.specs.Told as MainTold
+use Rattle.mainfile_codes.proofs.Told.{codes-told as addresses-told}
+use Rattle.demands.specs.Two.{labelFor, Printing, no-number, forbidden-mix, key-missing, no-room, printed, ViewAsked, CodeAsked, labelAt, PointAsked, refusedAs, Under, a-label, a-rule, a-field, ItemAsked, PointListed, listed, InTurn, CodesAsked, CodesOfPoints, CodesOfAddresses, file-refused, files-refused, code-refused, pack-refused, taken, Exactly, Taken, Prints, textFor, ViewExactly, CodeExactly, PointExactly, Bounded, AllBounded, PointsBounded}
 
 -- ---- files and packs
 
@@ -264,30 +275,47 @@ module _ (pack : List ℕ) {n : ℕ} (opens : opened pack ≡ Value n) where
 
 -- ---- the list of codes
 
-module _ (points out : List ℕ) where
-  pub codes-asked : CodesAsked points out
-  unfolding codesOutcome
-  codes-asked = by-checked (checked pointFormat points) refl
+-- the file's own refusal first, then its entries, of which something is told where it is accepted
+module _ (f : Format) (file : List ℕ) (Telling : List Entry → Type 0) (es : List Entry) (out : List ℕ)
+    (told : Accepted f file → Telling es) where
+  abbrev answered : Outcome Answer
+  answered = afterwards Refused (checked f file) out (entriesOutcome es out)
+
+  abbrev Asked : Type 0
+  Asked = CodesAsked f file Telling es out answered
+
+  entries-asked : Asked
+  entries-asked = by-checked (checked f file) refl
     where
-      by-checked : (o : Answer) → checked pointFormat points ≡ o → CodesAsked points out
-      by-checked (Value n) e = by-room (accepted pointFormat points n e) (leb bytes (length out)) refl
+      by-checked : (o : Answer) → checked f file ≡ o → Asked
+      by-checked (Value n) e = by-room (accepted f file n e) (leb bytes (length out)) refl
         where
           bytes : ℕ
-          bytes = 8 * length (codesIn points)
+          bytes = 8 * length es
 
-          long : length (entryBytes (codesIn points)) ≡ bytes
-          long = entries-long (codesIn points)
+          long : length (entryBytes es) ≡ bytes
+          long = entries-long es
 
-          by-room : Accepted pointFormat points → (t : Bool) → leb bytes (length out) ≡ t → CodesAsked points out
+          by-room : Accepted f file → (t : Bool) → leb bytes (length out) ≡ t → Asked
           by-room a true h =
               let room = leb-true bytes (length out) h in
-              listed a (codes-told points a) room
+              listed a (told a) room
               (afterwards-value Refused out _ e ∙ (entries-fit _ _ out (omega (arith, long)) ∙ rw long))
           by-room a false h =
               let none = leb-false bytes (length out) h in
-              no-room a (codes-told points a) none
+              no-room a (told a) none
               (afterwards-value Refused out _ e ∙ (falls-short _ _ out (omega (arith, long)) ∙ rw long))
       by-checked (Refused file why) e = file-refused e (afterwards-refused Refused out _ e)
+
+-- of a point file, and of an address file
+pub codes-asked : (points out : List ℕ) → CodesOfPoints points out
+unfolding codesOutcome
+codes-asked points out = entries-asked pointFormat points (Told points) (codesIn points) out (codes-told points)
+
+pub main-codes-asked : (file out : List ℕ) → CodesOfAddresses file out
+unfolding MainCodes.codesOutcome
+main-codes-asked file out =
+    entries-asked addresses file (MainTold.Told file) (MainCodes.codesIn file) out (addresses-told file)
 
 -- ---- exactly where there is a label
 
@@ -363,15 +391,25 @@ exactly-where there back e =
 bounded : (e : Elements) → Fits e → Bounded e
 bounded e f = record { lines = at-most-11-lines e; bytes = at-most-499 e f; each = each-line e f }
 
+-- what follows of each address follows of all
+pub all-then : (P Q : Address → Type 0) → ((a : Address) → P a → Q a) → (views : List Address) → AllOf P views
+    → AllOf Q views
+all-then P Q so [] h = tt
+all-then P Q so (a ∷ more) h = (so a (h .0), all-then P Q so more (h .1))
+
 all-bounded : (look : Lookup) (views : List Address) → AllOf (λ a. Fits (elementsOf look a)) views
     → AllBounded look views
-all-bounded look [] h = tt
-all-bounded look (a ∷ more) h = (bounded (elementsOf look a) (h .0), all-bounded look more (h .1))
+all-bounded look =
+    all-then (λ a. Fits (elementsOf look a)) (λ a. Bounded (elementsOf look a)) (λ a. bounded (elementsOf look a))
 
 -- of every view of a pair of files, the table file being accepted
 pub views-bounded : (table points : List ℕ) → Accepted tableFormat table
     → AllBounded (tableLookup table) (addressesIn points)
 views-bounded table points t = all-bounded (tableLookup table) (addressesIn points) (views-fit table points t)
+
+-- of every address of an accepted set
+pub set-bounded : (s : Set) → AcceptedSet s → AllBounded (setLookup s) (Main.addressesIn s)
+set-bounded s a = all-bounded (setLookup s) (Main.addressesIn s) (addresses-fit s a)
 
 -- of every point of a pack that opens
 pub points-bounded : (pack : List ℕ) → PointsBounded pack

@@ -1,18 +1,17 @@
 -- Document 02, No. 13: rows that no view refers to change no label, no run, no listing, no pack and no refusal.
 -- Assumes nothing.
-use Prim.Native.Nat.{ℕ}
+use Prim.Native.Nat.{ℕ, zero, suc, _+_, _-_, _/_, _≤_}
 use mathlib.Core.Path.{_≡_, refl, sym, ap, ap₂, _∙_}
 use mathlib.Core.List.{List, [], _∷_}
+use native.Mathlib.Omega.{arith}
+use lib.ListN.{length}
 use Rattle.file_record.specs.Parts.{recordAt}
 use Rattle.refusal.specs.declared.Answer.the-variants.{Value, Refused}
 use Rattle.refusal.specs.declared.Verdict.{Verdict}
 use Rattle.refusal.specs.Verdict.{orElse}
-use Rattle.refusal.specs.Outcome.{Outcome}
 use Rattle.refusal.proofs.Outcomes.{afterwards-value}
-use Rattle.file.specs.Check.{records}
 use Rattle.file.specs.Formats.{tableFormat, pointFormat}
 use Rattle.file.specs.Accepted.{Accepted}
-use Rattle.changes_views.specs.Views.{wantedIn}
 use Rattle.source.specs.Address.{Lookup, Address, keysOf}
 use Rattle.source.specs.Same.{AllOf, Agree, AllAgree}
 use Rattle.source.proofs.Same.{resolve-same}
@@ -23,17 +22,24 @@ use Rattle.ask.specs.Labels.{codeFirst, kthLabel, viewLabel, codeLabel}
 use Rattle.ask.specs.Runs.{viewsRun, codeRun}
 use Rattle.ask.specs.Lists.{kthItem, viewItem, codeItem, headings, viewsListed, codeListed, viewsList, codeList}
 use Rattle.ask.proofs.Laws.{in-code-all, kth-same, kth-item-same}
-use Rattle.pack.specs.Layout.{packOf}
 use Rattle.pack.specs.Cutting.{badOf, firstBad, cutWith, cutOutcome, packBuilt}
 use Rattle.pack.specs.Sound.{KeysFit}
 use Rattle.pack_carries.proofs.Same.{AllFit, pack-same}
 use Rattle.changes_source.specs.Rows.{tableLookup}
-use Rattle.changes_source.specs.Addresses.{addressOf, addressesIn, kept}
+use Rattle.changes_source.specs.Addresses.{addressesIn}
 use Rattle.changes_pair.specs.Pair.{pairOf}
-use Rattle.changes_pair.specs.Live.{viewsAt}
-use Rattle.changes_pair.proofs.Live.{all-views, kept-all}
-use Rattle.changes_sound.proofs.Addresses.{eight}
-use Rattle.demands.specs.Unused.{SameRows, Unmoved}
+use Rattle.changes_pair.proofs.Live.{kept-all}
+use Rattle.pack_sound.proofs.Fields.{FieldsSound}
+use Rattle.changes_sound.proofs.Addresses.{views-fields}
+use Rattle.mainfile.specs.Set.{Set}
+use Rattle.mainfile.specs.Accepted.{AcceptedSet}
+use Rattle.mainfile.specs.Addresses as Main
+use Rattle.mainfile.specs.Main.{mainOf}
+use Rattle.mainfile_check.proofs.Laws.{set-accepts}
+use Rattle.mainfile_sound.proofs.Addresses.{views-fields as addresses-fields}
+use Rattle.mainfile_views.specs.Range.{viewsIn}
+use Rattle.demands.specs.Unused.{SameRows, SameInSets, Unmoved}
+use Rattle.demands.proofs.Two.{all-then}
 use Rattle.demands.proofs.Pair.{pair-taken}
 
 -- ---- any source: two look-ups for the same delivery points
@@ -148,19 +154,11 @@ module _ (one other : Source) {m n : ℕ} (t : one .judged ≡ Value m) (u : oth
         packs = packs;
       }
 
--- ---- a pair of files
+-- sound fields have keys of at most eight digits
+fields-fit : (views : List Address) → AllOf FieldsSound views → AllFit views
+fields-fit = all-then FieldsSound (λ a. KeysFit (keysOf a)) (λ a f. f .keys)
 
-fits-at : (points : List ℕ) (places : List ℕ) → AllFit (viewsAt points places)
-unfolding addressOf
-fits-at points [] = tt
-fits-at points (place ∷ places) =
-    let rec = recordAt 168 points place in (
-      (
-        eight rec 42,
-        (eight rec 50, (eight rec 58, (eight rec 66, (eight rec 74, (eight rec 86, (eight rec 94, tt)))))),
-      ),
-      fits-at points places,
-    )
+-- ---- a pair of files
 
 pub unused-rows : (one other points : List ℕ) → Accepted tableFormat one → Accepted tableFormat other
     → Accepted pointFormat points
@@ -170,4 +168,30 @@ unused-rows one other points t u p same =
     unmoved (pairOf one points) (pairOf other points) (pair-taken one points t p) (pair-taken other points u p) refl refl refl
     same
     (kept-all (λ a. Agree (tableLookup one) (tableLookup other) (keysOf a)) (addressesIn points) same)
-    (kept-all (λ a. KeysFit (keysOf a)) (addressesIn points) (rw (all-views points) (fits-at points (wantedIn [] points))))
+    (kept-all (λ a. KeysFit (keysOf a)) (addressesIn points) (fields-fit (addressesIn points) (views-fields points p)))
+
+-- ---- a set
+
+module _ (one other : Set) (same : SameInSets one other) where
+  address-same : (n : ℕ) → 1 ≤ n → n ≤ viewsIn (one .addresses)
+      → Main.addressOf n (recordAt 88 (other .addresses) n) (other .organisations)
+      ≡ Main.addressOf n (recordAt 88 (one .addresses) n) (one .organisations)
+  unfolding Main.addressOf
+  address-same n low high = rw (same .addresses, same .organisations n low high)
+
+  from-same : (k n : ℕ) → 1 ≤ n → n + k ≤ 1 + viewsIn (one .addresses)
+      → Main.addressesFrom other k n ≡ Main.addressesFrom one k n
+  from-same zero n low high = refl
+  from-same (suc k) n low high =
+      ap₂ _∷_ (address-same n low (omega (arith, high))) (from-same k (suc n) (omega arith) (omega (arith, high)))
+
+  views-same : Main.addressesIn other ≡ Main.addressesIn one
+  unfolding Main.addressesIn
+  views-same =
+      ap (λ (file : List ℕ). Main.addressesFrom other (length file / 88 - 2) 1) (same .addresses)
+      ∙ from-same (viewsIn (one .addresses)) 1 (omega arith) (omega arith)
+
+  pub unused-in-sets : AcceptedSet one → AcceptedSet other → Unmoved (mainOf one) (mainOf other)
+  unused-in-sets a b =
+      unmoved (mainOf one) (mainOf other) (set-accepts one a) (set-accepts other b) refl views-same views-same (same .rows)
+      (same .rows) (fields-fit (Main.addressesIn one) (addresses-fields one a))

@@ -3,5 +3,7 @@ pub mod One
 pub mod Two
 pub mod Three
 pub mod Apart
+pub mod Apt
 pub mod Fits
 pub mod Unused
+pub mod Printer

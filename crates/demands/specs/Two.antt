@@ -18,8 +18,9 @@ use Rattle.refusal.specs.Outcome.{Outcome, said}
 use Rattle.source.specs.Address.{Lookup, Address, Elements}
 use Rattle.source.specs.Resolve.{forbidden, missing, elementsOf}
 use Rattle.source.specs.Same.{AllOf}
-use Rattle.file.specs.Check.{checked}
+use Rattle.file.specs.Check.{Format, checked}
 use Rattle.file.specs.Formats.{tableFormat, pointFormat}
+use Rattle.file.specs.Mainfile.{addresses}
 use Rattle.file.specs.Accepted.{Accepted}
 use Rattle.label.specs.Lines.{linesOf}
 use Rattle.label.specs.Label.{labelOf}
@@ -31,8 +32,12 @@ use Rattle.ask.specs.Source.{Source, inCode}
 use Rattle.ask.specs.Labels.{kth, viewLabel, codeLabel}
 use Rattle.pack.specs.Opening.{opened}
 use Rattle.pack.specs.Points.{elementsAt, pointPlace, packLabel}
-use Rattle.changes_codes.specs.Codes.{codesIn, entryBytes, codesOutcome}
+use Rattle.tally.specs.Tally.{Entry}
+use Rattle.tally_bytes.specs.Entries.{entryBytes}
+use Rattle.changes_codes.specs.Codes.{codesIn, codesOutcome}
 use Rattle.changes_codes.specs.Told.{Told}
+use Rattle.mainfile_codes.specs.Codes as MainCodes
+use Rattle.mainfile_codes.specs.Told as MainTold
 
 -- ---- what is written
 
@@ -160,18 +165,27 @@ pub record InTurn (Asked : ℕ → List ℕ → Outcome Answer → Type 0) (list
 -- ---- the list of codes
 
 -- "the outward codes with live views, rising, each 4 bytes and its count in 4 bytes, most significant first; value: how
--- many codes; refusals 1 to 6, then 10": `Told` says that these are the codes, each once with its live views, and no other
-pub data CodesAsked (points out : List ℕ) : Type 0 where
-  file-refused : {file : ℕ} {why : Reason} → checked pointFormat points ≡ Refused file why
-      → codesOutcome points out ≡ said (Refused file why) out
-      → CodesAsked points out
-  no-room : Accepted pointFormat points → Told points (codesIn points) → length out < 8 * length (codesIn points)
-      → codesOutcome points out ≡ said (Refused 0 (Room (8 * length (codesIn points)))) out
-      → CodesAsked points out
-  listed : Accepted pointFormat points → Told points (codesIn points) → 8 * length (codesIn points) ≤ length out
-      → codesOutcome points out
-      ≡ said (Value (length (codesIn points))) (entryBytes (codesIn points) ++ drop (8 * length (codesIn points)) out)
-      → CodesAsked points out
+-- many codes; refusals 1 to 6, then 10": of a file, the entries of its codes, and what these tell of it
+pub data CodesAsked (f : Format) (file : List ℕ) (Telling : List Entry → Type 0) (es : List Entry) (out : List ℕ) (o : Outcome Answer) : Type 0 where
+  file-refused : {blamed : ℕ} {why : Reason} → checked f file ≡ Refused blamed why
+      → o ≡ said (Refused blamed why) out
+      → CodesAsked f file Telling es out o
+  no-room : Accepted f file → Telling es → length out < 8 * length es
+      → o ≡ said (Refused 0 (Room (8 * length es))) out
+      → CodesAsked f file Telling es out o
+  listed : Accepted f file → Telling es → 8 * length es ≤ length out
+      → o ≡ said (Value (length es)) (entryBytes es ++ drop (8 * length es) out)
+      → CodesAsked f file Telling es out o
+
+-- of a point file: `Told` says that these are the codes, each once with its live views, and no other
+abbrev pub CodesOfPoints : (points out : List ℕ) → Type 0
+CodesOfPoints points out =
+    CodesAsked pointFormat points (Told points) (codesIn points) out (codesOutcome points out)
+
+-- of an address file the same, "Every address counts as live."
+abbrev pub CodesOfAddresses : (file out : List ℕ) → Type 0
+CodesOfAddresses file out =
+    CodesAsked addresses file (MainTold.Told file) (MainCodes.codesIn file) out (MainCodes.codesOutcome file out)
 
 -- ---- exactly where there is a label
 

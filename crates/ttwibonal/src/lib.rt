@@ -1,11 +1,13 @@
 // The calls that a C program makes. Each answers one number, which packs the answer of the crate below; see the header,
 // include/ttwibonal.h.
+mod sets;
+
 use changes_items::list_in_code;
 use changes_label::label_in_code;
 use changes_runs::labels_in_code;
 ghost use mathlib.Core.Path.{_≡_};
 ghost use mathlib.Core.List.{[]};
-ghost use Rattle.call.specs.Call.{of-table, of-points, of-views, of-letter, of-live, of-codes, of-label, of-code-label, of-build, of-pack, of-pack-label, of-labels, of-code-labels, of-pack-labels, of-list, of-code-list, of-pack-list, called, comesTo};
+ghost use Rattle.call.specs.Call.{of-table, of-points, of-views, of-letter, of-live, of-codes, of-label, of-code-label, of-build, of-pack, of-pack-label, of-labels, of-code-labels, of-pack-labels, of-list, of-code-list, of-pack-list, pair, called, comesTo};
 
 // How many records a table file has.
 #[no_mangle]
@@ -59,7 +61,7 @@ pub extern "C" fn ttw_codes(points: &[u8], out: &mut [u8]) -> u64
 #[no_mangle]
 pub extern "C" fn ttw_label<'a>(table: &'a [u8], points: &'a [u8], view: u64, out: &mut [u8]) -> u64
     ensures { λ r. ⌜ called r (now (out .exit)) 0
-        ≡ comesTo (of-label (now (table .entry)) (now (points .entry)) view) (now (out .entry)) 0 ⌝ }
+        ≡ comesTo (of-label (pair (now (table .entry)) (now (points .entry))) view) (now (out .entry)) 0 ⌝ }
 {
     refusal::packed_answer(changes_label::label_view(table, points, view as usize, out)) as u64
 }
@@ -74,7 +76,7 @@ pub extern "C" fn ttw_code_label<'a>(
     out: &mut [u8],
 ) -> u64
     ensures { λ r. ⌜ called r (now (out .exit)) 0
-        ≡ comesTo (of-code-label (now (table .entry)) (now (points .entry)) (now (code .entry)) k)
+        ≡ comesTo (of-code-label (pair (now (table .entry)) (now (points .entry))) (now (code .entry)) k)
         (now (out .entry)) 0 ⌝ }
 {
     refusal::packed_answer(label_in_code(table, points, code, k as usize, out)) as u64
@@ -84,7 +86,7 @@ pub extern "C" fn ttw_code_label<'a>(
 #[no_mangle]
 pub extern "C" fn ttw_build(table: &[u8], points: &[u8], code: &[u8], out: &mut [u8]) -> u64
     ensures { λ r. ⌜ called r (now (out .exit)) 0
-        ≡ comesTo (of-build (now (table .entry)) (now (points .entry)) (now (code .entry))) (now (out .entry)) 0 ⌝ }
+        ≡ comesTo (of-build (pair (now (table .entry)) (now (points .entry))) (now (code .entry))) (now (out .entry)) 0 ⌝ }
 {
     refusal::packed_answer(changes_build::build_pack(table, points, code, out)) as u64
 }
@@ -117,7 +119,7 @@ pub extern "C" fn ttw_labels<'a>(
     bytes: &mut u64,
 ) -> u64
     ensures { λ r. ⌜ called r (now (out .exit)) (now (bytes .exit))
-        ≡ comesTo (of-labels (now (table .entry)) (now (points .entry)) first count)
+        ≡ comesTo (of-labels (pair (now (table .entry)) (now (points .entry))) first count)
         (now (out .entry)) (now (bytes .entry)) ⌝ }
 {
     let run = changes_runs::labels_of_views(table, points, first as usize, count as usize, out);
@@ -137,7 +139,7 @@ pub extern "C" fn ttw_code_labels<'a>(
     bytes: &mut u64,
 ) -> u64
     ensures { λ r. ⌜ called r (now (out .exit)) (now (bytes .exit))
-        ≡ comesTo (of-code-labels (now (table .entry)) (now (points .entry)) (now (code .entry)) first count)
+        ≡ comesTo (of-code-labels (pair (now (table .entry)) (now (points .entry))) (now (code .entry)) first count)
         (now (out .entry)) (now (bytes .entry)) ⌝ }
 {
     let run = labels_in_code(table, points, code, first as usize, count as usize, out);
@@ -175,7 +177,7 @@ pub extern "C" fn ttw_list<'a>(
     bytes: &mut u64,
 ) -> u64
     ensures { λ r. ⌜ called r (now (out .exit)) (now (bytes .exit))
-        ≡ comesTo (of-list (now (table .entry)) (now (points .entry)) first count)
+        ≡ comesTo (of-list (pair (now (table .entry)) (now (points .entry))) first count)
         (now (out .entry)) (now (bytes .entry)) ⌝ }
 {
     let list = changes_items::list_of_views(table, points, first as usize, count as usize, out);
@@ -195,7 +197,7 @@ pub extern "C" fn ttw_code_list<'a>(
     bytes: &mut u64,
 ) -> u64
     ensures { λ r. ⌜ called r (now (out .exit)) (now (bytes .exit))
-        ≡ comesTo (of-code-list (now (table .entry)) (now (points .entry)) (now (code .entry)) first count)
+        ≡ comesTo (of-code-list (pair (now (table .entry)) (now (points .entry))) (now (code .entry)) first count)
         (now (out .entry)) (now (bytes .entry)) ⌝ }
 {
     let list = list_in_code(table, points, code, first as usize, count as usize, out);
