@@ -1,4 +1,5 @@
-//! The five commands. What they answer comes from the library's calls.
+//! The commands on a pair of files and on a pack, and what the commands on any
+//! files have in common. What they answer comes from the library's calls.
 
 use crate::arguments::{Arguments, Code};
 use crate::files::{make_folder, read_pack, write_whole};
@@ -6,16 +7,14 @@ use crate::order::in_order;
 use crate::output::{print, printed, send_to, Output};
 use crate::pair::Pair;
 use crate::progress::Progress;
+use crate::source::{Source, Words};
 use crate::stop::{tell, Ended, Outcome, Stop};
 use std::io::Write;
-use std::path::Path;
+use std::path::{Path, PathBuf};
 use std::slice;
 use ttw::ask::{self, Refusal, Run};
-use ttw::listing::{each_item, room, AT_A_TIME};
+use ttw::listing::{each_item, room, AT_A_TIME, PAGE};
 use ttw::words::words;
-
-/// Room that most packs fit into.
-const LIKELY_PACK: usize = 1 << 16;
 
 /// `ttw check`: how many records and views, or what is refused.
 pub fn check(given: &Arguments) -> Outcome {
@@ -29,23 +28,43 @@ pub fn check(given: &Arguments) -> Outcome {
     ))
 }
 
-/// `ttw codes`: each outward code with live views, and how many.
+/// `ttw codes`.
 pub fn codes(given: &Arguments) -> Outcome {
-    let pair = Pair::read_accepted(&given.files)?;
-    let codes = live_codes(&pair)?;
+    print_codes(&Pair::read_accepted(&given.files)?)
+}
+
+/// `ttw labels`.
+pub fn labels(given: &Arguments) -> Outcome {
+    print_labels(given, &given.files, Pair::read_accepted)
+}
+
+/// `ttw pack`.
+pub fn pack(given: &Arguments) -> Outcome {
+    cut_packs(given, &given.files, Pair::read_accepted)
+}
+
+/// Each outward code with live views, and how many.
+pub fn print_codes<S: Source>(source: &S) -> Outcome {
+    let codes = live_codes(source)?;
     let line = |(code, live): &(Code, u64)| format!("{} {live}\n", code.name());
     print(codes.iter().map(line).collect::<String>())
 }
 
 /// The codes with live views, rising.
-fn live_codes(pair: &Pair) -> Result<Vec<(Code, u64)>, Stop> {
-    let codes = ask::codes(&pair.points).map_err(|why| Stop::Refused(words(&why, "files")))?;
+fn live_codes<S: Source>(source: &S) -> Result<Vec<(Code, u64)>, Stop> {
+    let refused = |why| Stop::Refused((S::WORDS)(&why, "files"));
+    let codes = source.codes().map_err(refused)?;
     let named = |(code, live): ([u8; 4], u64)| (Code::new(&code), live);
     Ok(codes.into_iter().map(named).collect())
 }
 
-/// `ttw labels`: one label, a run of them, those of a code, or all.
-pub fn labels(given: &Arguments) -> Outcome {
+/// One label, a run of them, those of a code, or all; the files are read where
+/// the options are right.
+pub fn print_labels<S: Source>(
+    given: &Arguments,
+    files: &[PathBuf],
+    read: impl FnOnce(&[PathBuf]) -> Result<S, Stop>,
+) -> Outcome {
     let (view, code, nth) = (given.view, given.code.as_ref(), given.nth);
     if view.is_some() && (code.is_some() || nth.is_some()) {
         let words = "--view stands alone, without --code and --nth";
@@ -59,40 +78,39 @@ pub fn labels(given: &Arguments) -> Outcome {
         return Err(Stop::could_not(words.to_string()));
     }
     send_to(given.out.as_deref());
-    let pair = Pair::read_accepted(&given.files)?;
+    let source = read(files)?;
     match (view, code, nth) {
-        (Some(view), _, _) => labels_from_view(&pair, view, given.count),
-        (None, Some(code), Some(k)) => labels_from_nth(&pair, code, k, given.count),
-        (None, Some(code), None) => labels_of_code(&pair.table, &pair.points, code),
-        (None, None, _) => labels_of_all(&pair.table, &pair.points),
+        (Some(view), _, _) => labels_from_view(&source, view, given.count),
+        (None, Some(code), Some(k)) => labels_from_nth(&source, code, k, given.count),
+        (None, Some(code), None) => labels_of_code(&source, code),
+        (None, None, _) => labels_of_all(&source),
     }
 }
 
 /// The label of a view, or of so many from it on.
-fn labels_from_view(Pair { table, points }: &Pair, view: u64, count: Option<u64>) -> Outcome {
+fn labels_from_view<S: Source>(source: &S, view: u64, count: Option<u64>) -> Outcome {
     let name = |view| format!("view {view}");
     match count {
-        None => print_one(&name(view), ask::label(table, points, view)),
-        Some(count) => print_run(view, count, name, |first, count, out| {
-            ask::labels(table, points, first, count, out)
+        None => print_one(S::WORDS, &name(view), source.label(view)),
+        Some(count) => print_run(S::WORDS, view, count, name, |first, count, out| {
+            source.labels(first, count, out)
         }),
     }
 }
 
 /// The same for the live views of a code.
-fn labels_from_nth(pair: &Pair, code: &Code, k: u64, count: Option<u64>) -> Outcome {
-    let Pair { table, points } = pair;
+fn labels_from_nth<S: Source>(source: &S, code: &Code, k: u64, count: Option<u64>) -> Outcome {
     let name = |k| format!("{} number {k}", code.name());
     match count {
-        None => print_one(&name(k), ask::code_label(table, points, &code.padded, k)),
-        Some(count) => print_run(k, count, name, |first, count, out| {
-            ask::code_labels(table, points, &code.padded, first, count, out)
+        None => print_one(S::WORDS, &name(k), source.code_label(&code.padded, k)),
+        Some(count) => print_run(S::WORDS, k, count, name, |first, count, out| {
+            source.code_labels(&code.padded, first, count, out)
         }),
     }
 }
 
 /// A label alone, so that it can be sent on as it is.
-fn print_one(subject: &str, label: Result<Vec<u8>, Refusal>) -> Outcome {
+fn print_one(words: Words, subject: &str, label: Result<Vec<u8>, Refusal>) -> Outcome {
     let label = label.map_err(|why| Stop::Refused(words(&why, subject)))?;
     print(label)
 }
@@ -100,6 +118,7 @@ fn print_one(subject: &str, label: Result<Vec<u8>, Refusal>) -> Outcome {
 /// So many labels one behind the other, as the library writes them. A refused
 /// label ends them.
 fn print_run(
+    words: Words,
     first: u64,
     count: u64,
     name: impl Fn(u64) -> String,
@@ -123,11 +142,15 @@ fn print_run(
     })
 }
 
-fn labels_of_code(table: &[u8], points: &[u8], code: &Code) -> Outcome {
+fn labels_of_code<S: Source>(source: &S, code: &Code) -> Outcome {
     let name = code.name();
-    list_items(
-        &format!("code {name}"),
-        |first, count, page| ask::code_list(table, points, &code.padded, first, count, page),
+    let listing = Listing {
+        words: S::WORDS,
+        page: S::PAGE,
+        whole: &format!("code {name}"),
+    };
+    listing.print(
+        |first, count, page| source.code_list(&code.padded, first, count, page),
         |k, _| {
             let name = format!("{name} number {k}");
             (name.clone(), name)
@@ -135,30 +158,46 @@ fn labels_of_code(table: &[u8], points: &[u8], code: &Code) -> Outcome {
     )
 }
 
-fn labels_of_all(table: &[u8], points: &[u8]) -> Outcome {
-    list_items(
-        "files",
-        |first, count, page| ask::list(table, points, first, count, page),
+fn labels_of_all<S: Source>(source: &S) -> Outcome {
+    let listing = Listing {
+        words: S::WORDS,
+        page: S::PAGE,
+        whole: "files",
+    };
+    listing.print(
+        |first, count, page| source.list(first, count, page),
         |view, heading| (heading.to_string(), format!("view {view}")),
     )
 }
 
-/// A list of all labels that a listing has. `names` are the heading of one and
-/// what its refusal is said of, by its number and its heading there.
-fn list_items(
-    whole: &str,
-    ask: impl Fn(u64, u64, &mut [u8]) -> Result<Run, Refusal>,
-    names: impl Fn(u64, &str) -> (String, String),
-) -> Outcome {
-    list(|list| {
-        let ask = |first, count, page: &mut [u8]| {
-            ask(first, count, page).map_err(|why| Stop::Refused(words(&why, whole)))
-        };
-        each_item(ask, |number, item| {
-            let (heading, subject) = names(number, item.heading);
-            list.put(&heading, &subject, item.label)
+/// All labels that a listing has, to be printed as a list.
+struct Listing<'a> {
+    words: Words,
+    /// Bytes of a page.
+    page: usize,
+    /// What a refusal of the whole is said of.
+    whole: &'a str,
+}
+
+impl Listing<'_> {
+    /// Prints what `ask` lists. `names` are the heading of one label and what its
+    /// refusal is said of, by its number and its heading there.
+    fn print(
+        &self,
+        ask: impl Fn(u64, u64, &mut [u8]) -> Result<Run, Refusal>,
+        names: impl Fn(u64, &str) -> (String, String),
+    ) -> Outcome {
+        list(|list| {
+            let ask = |first, count, page: &mut [u8]| {
+                ask(first, count, page).map_err(|why| Stop::Refused((self.words)(&why, self.whole)))
+            };
+            each_item(&mut vec![0; self.page], ask, |number, item| {
+                let (heading, subject) = names(number, item.heading);
+                let said = |why: Refusal| (self.words)(&why, &subject);
+                list.put(&heading, item.label.map_err(said))
+            })
         })
-    })
+    }
 }
 
 /// Labels under their headings. A refused one says why in its place.
@@ -169,12 +208,7 @@ struct List<'a> {
 }
 
 impl List<'_> {
-    fn put(
-        &mut self,
-        heading: &str,
-        subject: &str,
-        label: Result<&[u8], Refusal>,
-    ) -> Result<(), Stop> {
+    fn put(&mut self, heading: &str, label: Result<&[u8], String>) -> Result<(), Stop> {
         writeln!(self.out, "{heading}")?;
         match label {
             Ok(label) => {
@@ -183,7 +217,7 @@ impl List<'_> {
             }
             Err(why) => {
                 self.refused += 1;
-                writeln!(self.out, "refused: {}", words(&why, subject))?;
+                writeln!(self.out, "refused: {why}")?;
             }
         }
         Ok(())
@@ -205,23 +239,23 @@ fn list(fill: impl FnOnce(&mut List) -> Result<(), Stop>) -> Outcome {
     Ok(Ended::after(refused))
 }
 
-/// `ttw pack`: the pack of one code, or of every code with live views.
-pub fn pack(given: &Arguments) -> Outcome {
+/// The pack of one code, or of every code with live views; the files are read
+/// where the options are right.
+pub fn cut_packs<S: Source>(
+    given: &Arguments,
+    files: &[PathBuf],
+    read: impl FnOnce(&[PathBuf]) -> Result<S, Stop>,
+) -> Outcome {
     let Some(folder) = &given.out else {
         return Err(Stop::could_not("pack needs --out FOLDER".to_string()));
     };
     match (&given.code, given.all) {
-        (Some(code), false) => {
-            let pair = Pair::read_accepted(&given.files)?;
-            cut(&pair, slice::from_ref(code), folder)
-        }
+        (Some(code), false) => cut(&read(files)?, slice::from_ref(code), folder),
         (None, true) => {
-            let pair = Pair::read_accepted(&given.files)?;
-            let codes: Vec<Code> = live_codes(&pair)?
-                .into_iter()
-                .map(|(code, _)| code)
-                .collect();
-            cut(&pair, &codes, folder)
+            let source = read(files)?;
+            let codes = live_codes(&source)?.into_iter();
+            let codes: Vec<Code> = codes.map(|(code, _)| code).collect();
+            cut(&source, &codes, folder)
         }
         _ => Err(Stop::could_not(
             "pack needs either --code or --all".to_string(),
@@ -231,15 +265,16 @@ pub fn pack(given: &Arguments) -> Outcome {
 
 /// Cuts the packs of these codes into a folder and tells how many. Only a folder
 /// that cannot be made ends the run before.
-fn cut(pair: &Pair, codes: &[Code], folder: &Path) -> Outcome {
+fn cut<S: Source>(source: &S, codes: &[Code], folder: &Path) -> Outcome {
     let mut packs = Packs {
+        words: S::WORDS,
         folder,
         progress: Progress::new(codes.len()),
         written: 0,
         refused: 0,
         failed: 0,
     };
-    let ask = |code: &Code| ask::build(&pair.table, &pair.points, &code.padded, LIKELY_PACK);
+    let ask = |code: &Code| source.build(&code.padded);
     let ended = in_order(codes, ask, |code, pack| packs.take(code, pack));
     packs.tell_counts();
     ended.map(|()| match packs.failed {
@@ -251,6 +286,7 @@ fn cut(pair: &Pair, codes: &[Code], folder: &Path) -> Outcome {
 /// Packs on their way into a folder. A code that is refused and a pack that
 /// cannot be written are told, and the others go on.
 struct Packs<'a> {
+    words: Words,
     folder: &'a Path,
     progress: Progress,
     written: u64,
@@ -266,7 +302,8 @@ impl Packs<'_> {
             Ok(pack) => pack,
             Err(why) => {
                 self.refused += 1;
-                self.tell(&Stop::Refused(words(&why, &format!("code {name}"))));
+                let words = (self.words)(&why, &format!("code {name}"));
+                self.tell(&Stop::Refused(words));
                 return Ok(());
             }
         };
@@ -312,14 +349,20 @@ pub fn show(given: &Arguments) -> Outcome {
     ask::pack(&pack).map_err(|why| Stop::Refused(words(&why, "pack")))?;
     let name = |k| format!("point {k}");
     match (given.nth, given.count) {
-        (Some(k), None) => print_one(&name(k), ask::pack_label(&pack, k)),
-        (Some(k), Some(count)) => print_run(k, count, name, |first, count, out| {
+        (Some(k), None) => print_one(words, &name(k), ask::pack_label(&pack, k)),
+        (Some(k), Some(count)) => print_run(words, k, count, name, |first, count, out| {
             ask::pack_labels(&pack, first, count, out)
         }),
-        (None, _) => list_items(
-            "pack",
-            |first, count, page| ask::pack_list(&pack, first, count, page),
-            |k, _| (name(k), name(k)),
-        ),
+        (None, _) => {
+            let listing = Listing {
+                words,
+                page: PAGE,
+                whole: "pack",
+            };
+            listing.print(
+                |first, count, page| ask::pack_list(&pack, first, count, page),
+                |k, _| (name(k), name(k)),
+            )
+        }
     }
 }

@@ -22,15 +22,16 @@ pub struct Item<'a> {
 }
 
 /// Hands on all items from number 1 on, each with its number. `ask` is a listing
-/// of so many from a number on; it ends where there is no such number.
+/// of so many from a number on; it ends where there is no such number. `page` is
+/// the room for what is asked for at a time.
 pub fn each_item<E>(
+    page: &mut [u8],
     mut ask: impl FnMut(u64, u64, &mut [u8]) -> Result<Run, E>,
     mut take: impl FnMut(u64, Item) -> Result<(), E>,
 ) -> Result<(), E> {
-    let mut page = vec![0; PAGE];
     let mut next = 1;
     loop {
-        let listed = ask(next, u64::MAX, &mut page)?;
+        let listed = ask(next, u64::MAX, page)?;
         for item in items(&page[..listed.bytes]) {
             take(next, item)?;
             next += 1;

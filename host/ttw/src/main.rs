@@ -13,6 +13,7 @@ mod output;
 mod pair;
 mod part;
 mod progress;
+mod source;
 mod stop;
 mod system;
 

@@ -1,9 +1,11 @@
 //! The two Changes files of a command.
 
 use crate::files::{name_of, read_changes};
+use crate::source::{Source, Words};
 use crate::stop::Stop;
 use std::path::PathBuf;
-use ttw::ask::{self, Refusal};
+use ttw::ask::{self, Refusal, Run};
+use ttw::listing;
 use ttw::words::words;
 
 /// Bytes of a record in each file.
@@ -51,6 +53,56 @@ impl Pair {
     fn looks_swapped(&self) -> bool {
         has_header(&self.points, TABLE_RECORD, ask::table)
             && has_header(&self.table, POINT_RECORD, ask::points)
+    }
+}
+
+impl Source for Pair {
+    const WORDS: Words = words;
+    const PAGE: usize = listing::PAGE;
+    const LIKELY_PACK: usize = 1 << 16;
+
+    fn codes(&self) -> Result<Vec<([u8; 4], u64)>, Refusal> {
+        ask::codes(&self.points)
+    }
+
+    fn label(&self, view: u64) -> Result<Vec<u8>, Refusal> {
+        ask::label(&self.table, &self.points, view)
+    }
+
+    fn code_label(&self, code: &[u8], k: u64) -> Result<Vec<u8>, Refusal> {
+        ask::code_label(&self.table, &self.points, code, k)
+    }
+
+    fn labels(&self, first: u64, count: u64, out: &mut [u8]) -> Result<Run, Refusal> {
+        ask::labels(&self.table, &self.points, first, count, out)
+    }
+
+    fn code_labels(
+        &self,
+        code: &[u8],
+        first: u64,
+        count: u64,
+        out: &mut [u8],
+    ) -> Result<Run, Refusal> {
+        ask::code_labels(&self.table, &self.points, code, first, count, out)
+    }
+
+    fn list(&self, first: u64, count: u64, out: &mut [u8]) -> Result<Run, Refusal> {
+        ask::list(&self.table, &self.points, first, count, out)
+    }
+
+    fn code_list(
+        &self,
+        code: &[u8],
+        first: u64,
+        count: u64,
+        out: &mut [u8],
+    ) -> Result<Run, Refusal> {
+        ask::code_list(&self.table, &self.points, code, first, count, out)
+    }
+
+    fn build(&self, code: &[u8]) -> Result<Vec<u8>, Refusal> {
+        ask::build(&self.table, &self.points, code, Self::LIKELY_PACK)
     }
 }
 

@@ -54,7 +54,7 @@ fn pages_for(items: &[String]) -> usize {
         assert_eq!(Some((number, &item)), expected.next());
         Ok(())
     };
-    assert_eq!(each_item(ask, take), Ok(()));
+    assert_eq!(each_item(&mut vec![0; PAGE], ask, take), Ok(()));
     assert_eq!(expected.next(), None);
     pages
 }
