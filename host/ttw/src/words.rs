@@ -7,11 +7,53 @@ use crate::ask::Refusal;
 /// A refusal as one line. `subject` is what was asked about, as `view 3`; a
 /// refusal of a file names the file instead.
 pub fn words(refusal: &Refusal, subject: &str) -> String {
-    let who = match refusal.file {
-        1 => "table".to_string(),
-        2 => "points".to_string(),
-        _ if refusal.second > 0 => format!("{subject}: view {}", refusal.second),
-        _ => subject.to_string(),
+    told(refusal, subject, &PAIR)
+}
+
+/// The same of what was asked of a Mainfile set.
+pub fn main_words(refusal: &Refusal, subject: &str) -> String {
+    told(refusal, subject, &MAIN)
+}
+
+/// The names of a Mainfile set's files, in their order.
+pub const MAIN_NAMES: [&str; 7] = [
+    "locality",
+    "thoroughfare",
+    "descriptor",
+    "building",
+    "sub building",
+    "organisation",
+    "address",
+];
+
+/// What a refusal says of the files that were asked.
+struct Files {
+    /// Their names, by the number of the file to blame.
+    names: &'static [&'static str],
+    /// The most records of each.
+    most: &'static str,
+    /// The key that finds nothing, by its field.
+    missing: fn(u64) -> String,
+}
+
+const PAIR: Files = Files {
+    names: &["table", "points"],
+    most: "20,000",
+    missing,
+};
+
+const MAIN: Files = Files {
+    names: &MAIN_NAMES,
+    most: "1,000,000",
+    missing: missing_in_a_set,
+};
+
+fn told(refusal: &Refusal, subject: &str, files: &Files) -> String {
+    let blamed = usize::from(refusal.file).checked_sub(1);
+    let who = match blamed.and_then(|file| files.names.get(file)) {
+        Some(name) => name.to_string(),
+        None if refusal.second > 0 => format!("{subject}: view {}", refusal.second),
+        None => subject.to_string(),
     };
     let detail = match refusal.number {
         8 => format!(", rule {}", refusal.detail),
@@ -20,13 +62,19 @@ pub fn words(refusal: &Refusal, subject: &str) -> String {
         _ => String::new(),
     };
     let number = refusal.number;
-    format!("{who}: {} (refusal {number}{detail})", reason(refusal))
+    format!(
+        "{who}: {} (refusal {number}{detail})",
+        reason(refusal, files)
+    )
 }
 
-fn reason(refusal: &Refusal) -> String {
+fn reason(refusal: &Refusal, files: &Files) -> String {
     let detail = refusal.detail;
     match refusal.number {
-        1 => "the length is not that of 2 to 20,000 whole records".to_string(),
+        1 => format!(
+            "the length is not that of 2 to {} whole records",
+            files.most
+        ),
         2 => format!("record {detail} is not the header of such a file"),
         3 => format!("record {detail}, the last, is not a trailer with the right count"),
         4 => format!("record {detail} is malformed at byte {}", refusal.second),
@@ -34,7 +82,7 @@ fn reason(refusal: &Refusal) -> String {
         6 => format!("record {detail} lacks its organisation record, or is a stray one"),
         7 => "there is none of that number".to_string(),
         8 => forbidden(detail).to_string(),
-        9 => missing(detail),
+        9 => (files.missing)(detail),
         10 => format!("the room is too short, {detail} bytes are needed"),
         11 => damaged(detail).to_string(),
         12 => "not an outward code, such as AB1 or EC1N in capitals".to_string(),
@@ -51,21 +99,40 @@ fn forbidden(rule: u64) -> &'static str {
     }
 }
 
-/// The key that finds nothing.
+/// The names of the keys of refusal 9 behind the first, with the file of a set
+/// that has their rows.
+const KEYS: [(&str, &str); 6] = [
+    ("thoroughfare", "thoroughfare"),
+    ("descriptor", "descriptor"),
+    ("dependent thoroughfare", "thoroughfare"),
+    ("dependent thoroughfare's descriptor", "descriptor"),
+    ("building name", "building"),
+    ("sub building", "sub building"),
+];
+
+/// The key that finds nothing in a table file.
 fn missing(field: u64) -> String {
-    let name = match field {
-        1 => {
-            return "the locality's key is zero or has no row in force in the table file"
-                .to_string()
+    match key(field) {
+        Some((name, _)) => format!("the {name}'s key has no row in force in the table file"),
+        None => "the locality's key is zero or has no row in force in the table file".to_string(),
+    }
+}
+
+/// The key that finds nothing in a Mainfile set, or the organisation.
+fn missing_in_a_set(field: u64) -> String {
+    match key(field) {
+        Some((name, file)) => format!("the {name}'s key has no row in the {file} file"),
+        None if field == 8 => {
+            "the organisation that it needs has no row in the organisation file".to_string()
         }
-        2 => "thoroughfare",
-        3 => "descriptor",
-        4 => "dependent thoroughfare",
-        5 => "dependent thoroughfare's descriptor",
-        6 => "building name",
-        _ => "sub building",
-    };
-    format!("the {name}'s key has no row in force in the table file")
+        None => "the locality's key is zero or has no row in the locality file".to_string(),
+    }
+}
+
+/// A key behind the locality's, by its field.
+fn key(field: u64) -> Option<(&'static str, &'static str)> {
+    let place = field.checked_sub(2)?;
+    KEYS.get(usize::try_from(place).ok()?).copied()
 }
 
 /// The step of the pack check that fails.
