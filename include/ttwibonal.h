@@ -1,4 +1,4 @@
-/* Ttwibonal: reads Royal Mail's Changes files, prints labels and cuts packs for handsets.
+/* Ttwibonal: reads Royal Mail's Changes files and Mainfile sets, prints labels and cuts packs for handsets.
  *
  * A slice is a pointer and a length; a length of 0 takes any pointer, null too. `bytes`, where a call takes it, is the
  * place of a number and may not be null. Every call may be made with any bytes and any numbers, and has nothing to check
@@ -7,8 +7,9 @@
  * memory, or opens a file. What a call writes (`out`, `*bytes`) may overlap nothing else that it is lent.
  *
  * Stack: a call on files takes less than 2,048 bytes, labels and listings from files less than 4,096, opening a pack,
- * labels or listings from a pack less than 80 KiB, building a pack or listing codes less than 192 KiB. A thread that makes
- * such a call needs its stack sized for that.
+ * labels or listings from a pack less than 80 KiB, building a pack or listing codes less than 192 KiB. A call on a Mainfile
+ * set takes what that call on a pair of files does, but building a pack from a set takes less than 1 MiB. A thread that
+ * makes such a call needs its stack sized for that.
  *
  * Each call answers one number. Take it apart with the macros below and never compare whole words: later calls fill bits
  * that are 0 today.
@@ -36,7 +37,8 @@ extern "C" {
 
 /* The refusal's number, 0 where there is a value. It has a name, one of enum ttw_refused. */
 #define TTW_REFUSAL(answer) ((answer) >> 56)
-/* The file to blame: 1 the table file, 2 the point file, 0 no file. */
+/* The file to blame: 1 the table file, 2 the point file, 0 no file. Of a Mainfile set 1 to 7, in the order of struct
+ * ttw_main. */
 #define TTW_FILE(answer) (((answer) >> 52) & 15u)
 /* The refusal's second detail: the byte for 4, the view where building gives 8 or 9, the labels or items written where a
  * run or a listing stops, otherwise 0. */
@@ -217,6 +219,211 @@ uint64_t ttw_pack_labels(const uint8_t *pack, size_t pack_len, uint64_t first, u
  * with 7 or 10. */
 uint64_t ttw_pack_list(const uint8_t *pack, size_t pack_len, uint64_t first, uint64_t count, uint8_t *out,
                        size_t out_len, uint64_t *bytes);
+
+/* Mainfile. A set is seven files, laid out as the Programmers' Guide's chapter 5 has them, without line ends:
+ *
+ *   no.  file          bytes of a record  its header says
+ *   1    localities    151                LOCALITY
+ *   2    thoroughfares  68                THOROUGH
+ *   3    descriptors    30                THDESCRI
+ *   4    buildings      58                BUILDING
+ *   5    sub buildings  38                SUBBUILD
+ *   6    organisations 153                ORGANISA
+ *   7    addresses      88                ADDRESS
+ *
+ * A view is an address, numbered from 1 in file order, and each is live. A small user with an organisation key above zero
+ * has the organisation of type S with that key, a large user the organisation of type L with its address key. Labels are
+ * printed, and packs written, by the rules that hold for a pair of files.
+ *
+ * Refusals of the files, in the order in which they are tried: file 1 wholly, then file 2, up to file 7, and of each
+ *   1 the length is not 2 to 1,000,000 whole records (detail 0)
+ *   2 the header is malformed (1)
+ *   3 the trailer's identifier or count is wrong (the last record)
+ *   then record by record
+ *   4 the record is malformed (the second detail is the byte, as above)
+ *   5 it is not above the record before: by its key in files 1 to 5, by type and key in file 6, by postcode, address key and
+ *     organisation key in file 7, all compared as bytes
+ * There is no 6. Then, for a label and in this order, 12 where a code is given, 7, 8, 9 and 10 as above. A key has a row in
+ * force where its file has the row; and 9 has one more field, the last:
+ *   8 the address is a large user, or a small user with an organisation key above zero, and its organisation has no row
+ *
+ * Each call takes the seven files, a pointer and a length each, in this order. Who keeps them in a struct ttw_main asks the
+ * call of the same name with _of behind it, which takes a pointer to that. In C++ too it is called struct ttw_main: ttw_main
+ * alone is the call.
+ *
+ *     struct ttw_main set;
+ *     set.localities = localities;
+ *     set.localities_len = localities_len;
+ *     and so on up to
+ *     set.addresses_len = addresses_len;
+ *     uint64_t answer = ttw_main_of(&set);
+ *     if (TTW_REFUSAL(answer) != 0)
+ *         printf("file %u is refused\n", (unsigned)TTW_FILE(answer));
+ */
+
+/* A Mainfile set: its files in their order, each with its length in bytes. */
+struct ttw_main {
+    const uint8_t *localities;
+    size_t localities_len;
+    const uint8_t *thoroughfares;
+    size_t thoroughfares_len;
+    const uint8_t *descriptors;
+    size_t descriptors_len;
+    const uint8_t *buildings;
+    size_t buildings_len;
+    const uint8_t *sub_buildings;
+    size_t sub_buildings_len;
+    const uint8_t *organisations;
+    size_t organisations_len;
+    const uint8_t *addresses;
+    size_t addresses_len;
+};
+
+/* How many views a set has. Refusals: 1 to 5, files 1 to 7. */
+uint64_t ttw_main(const uint8_t *localities, size_t localities_len, const uint8_t *thoroughfares,
+                  size_t thoroughfares_len, const uint8_t *descriptors, size_t descriptors_len,
+                  const uint8_t *buildings, size_t buildings_len, const uint8_t *sub_buildings,
+                  size_t sub_buildings_len, const uint8_t *organisations, size_t organisations_len,
+                  const uint8_t *addresses, size_t addresses_len);
+
+/* How many addresses an outward code has, asked of the address file alone. The code is 4 bytes, padded with spaces.
+ * Refusals: 1 to 5, file 7; then 12, the code is malformed. */
+uint64_t ttw_main_live(const uint8_t *addresses, size_t addresses_len, const uint8_t *code, size_t code_len);
+
+/* The outward codes of the address file, asked of it alone, written into `out` as ttw_codes writes them. Refusals: 1 to 5,
+ * file 7; then 10, `out` is shorter than that (the bytes needed). A refused call leaves all of `out` as it was. */
+uint64_t ttw_main_codes(const uint8_t *addresses, size_t addresses_len, uint8_t *out, size_t out_len);
+
+/* Labels, runs and listings of a set are what they are of a pair of files, and write what those do. An item of a listing
+ * begins with the line `view N`: there is no letter. 512 bytes hold any item. */
+
+/* The label of a view, counted from 1: how many bytes were written. */
+uint64_t ttw_main_label(const uint8_t *localities, size_t localities_len, const uint8_t *thoroughfares,
+                        size_t thoroughfares_len, const uint8_t *descriptors, size_t descriptors_len,
+                        const uint8_t *buildings, size_t buildings_len, const uint8_t *sub_buildings,
+                        size_t sub_buildings_len, const uint8_t *organisations, size_t organisations_len,
+                        const uint8_t *addresses, size_t addresses_len, uint64_t view, uint8_t *out, size_t out_len);
+
+/* The label of the k-th address of an outward code, k counted from 1 in file order: how many bytes were written. */
+uint64_t ttw_main_code_label(const uint8_t *localities, size_t localities_len, const uint8_t *thoroughfares,
+                             size_t thoroughfares_len, const uint8_t *descriptors, size_t descriptors_len,
+                             const uint8_t *buildings, size_t buildings_len, const uint8_t *sub_buildings,
+                             size_t sub_buildings_len, const uint8_t *organisations, size_t organisations_len,
+                             const uint8_t *addresses, size_t addresses_len, const uint8_t *code, size_t code_len,
+                             uint64_t k, uint8_t *out, size_t out_len);
+
+/* The labels of `count` views from view `first` on, counted from 1: how many labels were written. */
+uint64_t ttw_main_labels(const uint8_t *localities, size_t localities_len, const uint8_t *thoroughfares,
+                         size_t thoroughfares_len, const uint8_t *descriptors, size_t descriptors_len,
+                         const uint8_t *buildings, size_t buildings_len, const uint8_t *sub_buildings,
+                         size_t sub_buildings_len, const uint8_t *organisations, size_t organisations_len,
+                         const uint8_t *addresses, size_t addresses_len, uint64_t first, uint64_t count, uint8_t *out,
+                         size_t out_len, uint64_t *bytes);
+
+/* The labels of `count` addresses of an outward code from the `first` on, counted from 1 in file order: how many labels
+ * were written. */
+uint64_t ttw_main_code_labels(const uint8_t *localities, size_t localities_len, const uint8_t *thoroughfares,
+                              size_t thoroughfares_len, const uint8_t *descriptors, size_t descriptors_len,
+                              const uint8_t *buildings, size_t buildings_len, const uint8_t *sub_buildings,
+                              size_t sub_buildings_len, const uint8_t *organisations, size_t organisations_len,
+                              const uint8_t *addresses, size_t addresses_len, const uint8_t *code, size_t code_len,
+                              uint64_t first, uint64_t count, uint8_t *out, size_t out_len, uint64_t *bytes);
+
+/* `count` views from view `first` on, counted from 1: how many items were written. */
+uint64_t ttw_main_list(const uint8_t *localities, size_t localities_len, const uint8_t *thoroughfares,
+                       size_t thoroughfares_len, const uint8_t *descriptors, size_t descriptors_len,
+                       const uint8_t *buildings, size_t buildings_len, const uint8_t *sub_buildings,
+                       size_t sub_buildings_len, const uint8_t *organisations, size_t organisations_len,
+                       const uint8_t *addresses, size_t addresses_len, uint64_t first, uint64_t count, uint8_t *out,
+                       size_t out_len, uint64_t *bytes);
+
+/* `count` addresses of an outward code from the `first` on, counted from 1 in file order: how many items were written. N
+ * is the view's number in the file here too. */
+uint64_t ttw_main_code_list(const uint8_t *localities, size_t localities_len, const uint8_t *thoroughfares,
+                            size_t thoroughfares_len, const uint8_t *descriptors, size_t descriptors_len,
+                            const uint8_t *buildings, size_t buildings_len, const uint8_t *sub_buildings,
+                            size_t sub_buildings_len, const uint8_t *organisations, size_t organisations_len,
+                            const uint8_t *addresses, size_t addresses_len, const uint8_t *code, size_t code_len,
+                            uint64_t first, uint64_t count, uint8_t *out, size_t out_len, uint64_t *bytes);
+
+/* The pack of an outward code, written into `out` as ttw_build writes it: how many bytes were written. Each address with
+ * an organisation has a row for it of its own, also where two share one.
+ * Refusals, in this order: the files', 12 the code is malformed, then
+ *   8 or 9 as for labels, of the first address of the code that has one; the second detail is the view's number
+ *  10 `out` is shorter than the pack (the bytes needed: lend no bytes to learn how many)
+ */
+uint64_t ttw_main_build(const uint8_t *localities, size_t localities_len, const uint8_t *thoroughfares,
+                        size_t thoroughfares_len, const uint8_t *descriptors, size_t descriptors_len,
+                        const uint8_t *buildings, size_t buildings_len, const uint8_t *sub_buildings,
+                        size_t sub_buildings_len, const uint8_t *organisations, size_t organisations_len,
+                        const uint8_t *addresses, size_t addresses_len, const uint8_t *code, size_t code_len,
+                        uint8_t *out, size_t out_len);
+
+/* The fourteen arguments of a set, for the calls above. */
+#define TTW_MAIN_FILES(set)                                                                                  \
+    (set)->localities, (set)->localities_len, (set)->thoroughfares, (set)->thoroughfares_len,                \
+        (set)->descriptors, (set)->descriptors_len, (set)->buildings, (set)->buildings_len,                  \
+        (set)->sub_buildings, (set)->sub_buildings_len, (set)->organisations, (set)->organisations_len,      \
+        (set)->addresses, (set)->addresses_len
+
+/* The same calls, asked of a struct. */
+static inline uint64_t ttw_main_of(const struct ttw_main *set)
+{
+    return ttw_main(TTW_MAIN_FILES(set));
+}
+
+static inline uint64_t ttw_main_live_of(const struct ttw_main *set, const uint8_t *code, size_t code_len)
+{
+    return ttw_main_live(set->addresses, set->addresses_len, code, code_len);
+}
+
+static inline uint64_t ttw_main_codes_of(const struct ttw_main *set, uint8_t *out, size_t out_len)
+{
+    return ttw_main_codes(set->addresses, set->addresses_len, out, out_len);
+}
+
+static inline uint64_t ttw_main_label_of(const struct ttw_main *set, uint64_t view, uint8_t *out, size_t out_len)
+{
+    return ttw_main_label(TTW_MAIN_FILES(set), view, out, out_len);
+}
+
+static inline uint64_t ttw_main_code_label_of(const struct ttw_main *set, const uint8_t *code, size_t code_len,
+                                              uint64_t k, uint8_t *out, size_t out_len)
+{
+    return ttw_main_code_label(TTW_MAIN_FILES(set), code, code_len, k, out, out_len);
+}
+
+static inline uint64_t ttw_main_labels_of(const struct ttw_main *set, uint64_t first, uint64_t count, uint8_t *out,
+                                          size_t out_len, uint64_t *bytes)
+{
+    return ttw_main_labels(TTW_MAIN_FILES(set), first, count, out, out_len, bytes);
+}
+
+static inline uint64_t ttw_main_code_labels_of(const struct ttw_main *set, const uint8_t *code, size_t code_len,
+                                               uint64_t first, uint64_t count, uint8_t *out, size_t out_len,
+                                               uint64_t *bytes)
+{
+    return ttw_main_code_labels(TTW_MAIN_FILES(set), code, code_len, first, count, out, out_len, bytes);
+}
+
+static inline uint64_t ttw_main_list_of(const struct ttw_main *set, uint64_t first, uint64_t count, uint8_t *out,
+                                        size_t out_len, uint64_t *bytes)
+{
+    return ttw_main_list(TTW_MAIN_FILES(set), first, count, out, out_len, bytes);
+}
+
+static inline uint64_t ttw_main_code_list_of(const struct ttw_main *set, const uint8_t *code, size_t code_len,
+                                             uint64_t first, uint64_t count, uint8_t *out, size_t out_len,
+                                             uint64_t *bytes)
+{
+    return ttw_main_code_list(TTW_MAIN_FILES(set), code, code_len, first, count, out, out_len, bytes);
+}
+
+static inline uint64_t ttw_main_build_of(const struct ttw_main *set, const uint8_t *code, size_t code_len, uint8_t *out,
+                                         size_t out_len)
+{
+    return ttw_main_build(TTW_MAIN_FILES(set), code, code_len, out, out_len);
+}
 
 #ifdef __cplusplus
 }
