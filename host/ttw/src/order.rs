@@ -9,9 +9,9 @@ use std::thread::{self, Builder};
 /// How many questions a core takes at a time.
 const AT_A_TIME: usize = 4;
 
-/// Bytes of a stack. The header says what the library takes, at most 192 KiB for
-/// building; the rest is for what stands above it.
-const STACK: usize = 1 << 20;
+/// Bytes of a stack. The header says what the library takes, at most 1 MiB for
+/// building from a Mainfile set; the rest is for what stands above it.
+const STACK: usize = 2 << 20;
 
 /// Memory that a thread takes before it begins. Where the C library does not get
 /// it, it ends the process.
