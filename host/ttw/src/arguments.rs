@@ -74,6 +74,24 @@ pub struct Arguments {
     pub version: bool,
 }
 
+impl Arguments {
+    /// The options that were given, but those that every command has.
+    pub fn options(&self) -> impl Iterator<Item = &'static str> {
+        let given = [
+            ("--all", self.all),
+            ("--view", self.view.is_some()),
+            ("--nth", self.nth.is_some()),
+            ("--count", self.count.is_some()),
+            ("--code", self.code.is_some()),
+            ("--out", self.out.is_some()),
+        ];
+        given
+            .into_iter()
+            .filter(|given| given.1)
+            .map(|given| given.0)
+    }
+}
+
 /// Reads the arguments behind a command's name; `options` are the ones that it
 /// takes.
 pub fn read(given: &[OsString], options: &[&str]) -> Result<Arguments, Stop> {

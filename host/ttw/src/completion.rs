@@ -5,7 +5,8 @@ use crate::help::TOPICS;
 use crate::{Command, COMMANDS};
 
 /// The script that bash reads. A word that begins with `-` becomes an option of
-/// the command, any other a file; behind an option comes what it takes.
+/// the command, any other a verb where the command begins with one, or a file;
+/// behind an option comes what it takes.
 pub fn script() -> String {
     let commands: Vec<&str> = COMMANDS.iter().map(|command| command.name).collect();
     let commands = commands.join(" ");
@@ -17,7 +18,7 @@ pub fn script() -> String {
     format!(
         r#"# Completion of ttw for bash, as `ttw help --bash` prints it.
 _ttw() {{
-    local word=${{COMP_WORDS[COMP_CWORD]}} before=${{COMP_WORDS[COMP_CWORD - 1]}} options=
+    local word=${{COMP_WORDS[COMP_CWORD]}} before=${{COMP_WORDS[COMP_CWORD - 1]}} options= verbs=
     # Of --out=FILE bash makes three words.
     [ "$word" != = ] || word=
     [ "$before" != = ] || before=${{COMP_WORDS[COMP_CWORD - 2]}}
@@ -33,6 +34,10 @@ _ttw() {{
         ;;
     *) return ;;
     esac
+    if [ -n "$verbs" ] && [ "$COMP_CWORD" -eq 2 ] && [[ $word != -* ]]; then
+        mapfile -t COMPREPLY < <(compgen -W "$verbs" -- "$word")
+        return
+    fi
     case $before in
     {plain}) return ;;
     {places}) ;;
@@ -50,11 +55,15 @@ complete -o filenames -F _ttw ttw
     )
 }
 
-/// A command with its options, as a case of the script.
+/// A command with its options and its verbs, as a case of the script.
 fn options_of(command: &Command) -> String {
     let always = with(|takes| takes == Takes::NothingAnywhere);
     let options = [command.options, &always].concat().join(" ");
-    format!("    {}) options='{options}' ;;\n", command.name)
+    let verbs = match command.verbs {
+        [] => String::new(),
+        verbs => format!(" verbs='{}'", verbs.join(" ")),
+    };
+    format!("    {}) options='{options}'{verbs} ;;\n", command.name)
 }
 
 /// The options that take such a thing.

@@ -18,7 +18,9 @@ pub const STANDARD: &str = "-";
 /// given by mistake does not fill the memory.
 const CHANGES_READ: u64 = 20_000 * 169 + 1;
 
-/// No pack of a pair of files comes near this length.
+/// No pack of a pair of files comes near this length. Each address takes at most
+/// 536 bytes of a pack with the rows that it alone uses, so that no pack of a
+/// Mainfile set with less than 125,000 addresses in the code is as long.
 const PACK_READ: u64 = 64 << 20;
 
 /// A Changes file, or as much of it as is needed to refuse it.
@@ -42,6 +44,23 @@ pub fn read_pack(path: &Path) -> Result<Vec<u8>, Stop> {
 fn read_at_most(file: io::Result<File>, most: u64, name: &str) -> Result<Vec<u8>, Stop> {
     let mut bytes = Vec::new();
     file.and_then(|file| file.take(most).read_to_end(&mut bytes))
+        .map_err(|why| Stop::could_not(format!("cannot read {name}: {why}")))?;
+    Ok(bytes)
+}
+
+/// A file whose first bytes were read already, or as much of it as is needed to
+/// refuse it. Its length is asked for first, so that no byte is moved once it
+/// was read.
+pub fn read_whole(front: Vec<u8>, file: File, most: usize, name: &str) -> Result<Vec<u8>, Stop> {
+    let mut bytes = front;
+    let length = file
+        .metadata()
+        .map_or(0, |there| there.len())
+        .min(most as u64);
+    bytes.reserve_exact((length as usize).saturating_sub(bytes.len()));
+    let left = most.saturating_sub(bytes.len()) as u64;
+    file.take(left)
+        .read_to_end(&mut bytes)
         .map_err(|why| Stop::could_not(format!("cannot read {name}: {why}")))?;
     Ok(bytes)
 }

@@ -2,7 +2,7 @@
 
 /// `ttw --help`.
 pub const OVERVIEW: &str = "\
-ttw prints labels from Royal Mail's Changes files and cuts packs for handsets.
+ttw prints labels from Royal Mail's files and cuts packs for handsets.
 
   ttw check  CHANGES1 CHANGES2              are both files accepted?
   ttw codes  CHANGES1 CHANGES2              outward codes with live views
@@ -10,6 +10,8 @@ ttw prints labels from Royal Mail's Changes files and cuts packs for handsets.
              [--count N] [--out FILE]
   ttw pack   CHANGES1 CHANGES2 (--code AB1 | --all) --out FOLDER
   ttw show   PACK [--nth K [--count N]] [--out FILE]
+  ttw main   check|codes|labels|pack FILES.. [OPTIONS]
+                                            the same of a Mainfile set
 
   ttw help TOPIC           a command, or: files, refusals, status
   ttw help --man, --bash   the same as a man page; completion for bash
@@ -87,21 +89,46 @@ given for the pack, it is read from standard input.
   --out FILE   into a file, not to standard output: see ttw help labels
 ";
 
+pub const MAIN: &str = "\
+ttw main (check | codes | labels | pack) FILES..
+         [--view N | --code AB1 [--nth K]] [--count N] [--all] [--out PLACE]
+
+Does of a Mainfile set what the commands of these names do of two Changes files.
+FILES are the seven files of the set in any order, or the one folder that holds
+them. What each file is, its header says, whatever its name; a file that is
+missing or is given more than once is named. Each is read once.
+
+  check    how many records each file has, and how many views there are
+  codes    each outward code, and how many addresses it has
+  labels   takes --view, --code, --nth, --count and --out: see ttw help labels
+  pack     takes --code, --all and --out: see ttw help pack
+
+A view is a record of the address file, numbered from 1, and each is live: there
+are no amendment letters. What else stands in a folder is passed over, as long
+as none of the seven is missing.
+";
+
 const FILES: &str = "\
 CHANGES1 is the table file: localities, thoroughfares, descriptors, building
 names and sub building names, 169 bytes a record. CHANGES2 is the point file
 (Single Changes too): delivery points and organisations, 168 bytes a record.
 Both come without line ends, with a header first and a trailer last.
+A Mainfile set is seven files: localities (151 bytes a record), thoroughfares
+(68), descriptors (30), buildings (58), sub buildings (38), organisations (153)
+and addresses (88), each with a header and a trailer and without line ends.
 A PACK is a file that ttw pack has cut; - is one on standard input.
 ";
 
 const REFUSALS: &str = "\
- 1  a file's length is not that of 2 to 20,000 whole records
+ 1  a file's length is not that of 2 to 20,000 whole records; of a Mainfile set
+    2 to 1,000,000
  2  its header is malformed
  3  its trailer is malformed, or has another count
  4  a record is malformed; the byte is counted from the first of the record
  5  a record is not above the record before it: by its first 24 bytes in a table
-    file, by its first 42 in a point file
+    file, by its first 42 in a point file; in a Mainfile set by key, an
+    organisation by type and key, an address by postcode, address key and
+    organisation key
  6  a record lacks its organisation record, or is a stray one
  7  no view or point of that number
  8  a forbidden combination: 1 sub building without building name or number,
@@ -110,7 +137,8 @@ const REFUSALS: &str = "\
  9  a key has no row in force in the table file (none at all, or the last one has
     the letter B or D), or the locality's key is zero: 1 locality, 2 thoroughfare,
     3 descriptor, 4 dependent thoroughfare, 5 its descriptor, 6 building name,
-    7 sub building
+    7 sub building; in a Mainfile set a key has no row in its file, and 8: an
+    address has no row for the organisation that it needs
 10  the room is too short
 11  a pack is damaged: 1 its end, 2 its rows, 3 its points
 12  not an outward code

@@ -6,6 +6,7 @@ mod commands;
 mod completion;
 mod files;
 mod help;
+mod main_commands;
 mod man;
 mod memory;
 mod order;
@@ -13,6 +14,7 @@ mod output;
 mod pair;
 mod part;
 mod progress;
+mod seven;
 mod source;
 mod stop;
 mod system;
@@ -23,50 +25,65 @@ use std::ffi::OsString;
 use std::process::ExitCode;
 use stop::{Outcome, Stop};
 
-/// A command: its files, the options that it takes, its help and its work.
+/// A command: what its first word may be, how many files it takes (none where it
+/// sees to them itself), the options that it takes, its help and its work.
 struct Command {
     name: &'static str,
-    files: usize,
+    verbs: &'static [&'static str],
+    files: Option<usize>,
     options: &'static [&'static str],
     help: &'static str,
     run: fn(&Arguments) -> Outcome,
 }
 
-const COMMANDS: [Command; 5] = [
+const COMMANDS: [Command; 6] = [
     Command {
         name: "check",
-        files: 2,
+        verbs: &[],
+        files: Some(2),
         options: &[],
         help: help::CHECK,
         run: commands::check,
     },
     Command {
         name: "codes",
-        files: 2,
+        verbs: &[],
+        files: Some(2),
         options: &[],
         help: help::CODES,
         run: commands::codes,
     },
     Command {
         name: "labels",
-        files: 2,
+        verbs: &[],
+        files: Some(2),
         options: &["--view", "--code", "--nth", "--count", "--out"],
         help: help::LABELS,
         run: commands::labels,
     },
     Command {
         name: "pack",
-        files: 2,
+        verbs: &[],
+        files: Some(2),
         options: &["--code", "--all", "--out"],
         help: help::PACK,
         run: commands::pack,
     },
     Command {
         name: "show",
-        files: 1,
+        verbs: &[],
+        files: Some(1),
         options: &["--nth", "--count", "--out"],
         help: help::SHOW,
         run: commands::show,
+    },
+    Command {
+        name: "main",
+        verbs: &main_commands::VERBS,
+        files: None,
+        options: &["--view", "--code", "--nth", "--count", "--all", "--out"],
+        help: help::MAIN,
+        run: main_commands::run,
     },
 ];
 
@@ -105,8 +122,8 @@ fn run_command(command: &Command, rest: &[OsString]) -> Outcome {
     if given.version {
         return print_version();
     }
-    if given.files.len() != command.files {
-        let (wanted, got) = (command.files, given.files.len());
+    let got = given.files.len();
+    if let Some(wanted) = command.files.filter(|wanted| *wanted != got) {
         let words = format!("{} takes files: {wanted}, given: {got}", command.name);
         return Err(misused(&words, &format!("help {}", command.name)));
     }

@@ -30,7 +30,7 @@ fn topics(folder: &Folder) -> (Vec<String>, Vec<String>) {
         .1;
     let listed = listed.lines().next().expect("their line");
     let topics = listed.split(", ").map(str::to_string).collect();
-    assert_eq!(commands.len(), 5, "{commands:?}");
+    assert_eq!(commands.len(), 6, "{commands:?}");
     (commands, topics)
 }
 
@@ -91,7 +91,7 @@ fn the_man_page_has_its_sections() {
         "EXIT STATUS",
     ];
     assert_eq!(sections, expected);
-    assert_eq!(page.matches("\n.SS ttw ").count(), 5);
+    assert_eq!(page.matches("\n.SS ttw ").count(), 6);
 }
 
 /// The words of a text, one space between them.
@@ -180,6 +180,17 @@ fn bash_offers_the_options_that_help_names() {
     }
     let some = offered(&folder, &["ttw", "labels", "a", "b", "--co"]);
     assert_eq!(set(some), set(["--code", "--count"]));
+}
+
+#[test]
+fn bash_offers_what_is_done_with_a_set_and_then_files() {
+    let folder = Folder::new();
+    folder.put("code list", b"");
+    let verbs = ["check", "codes", "labels", "pack"];
+    assert_eq!(set(offered(&folder, &["ttw", "main", ""])), set(verbs));
+    assert_eq!(offered(&folder, &["ttw", "main", "co"]), ["codes"]);
+    let files = offered(&folder, &["ttw", "main", "codes", "co"]);
+    assert_eq!(set(files), set(["code list", "completion"]));
 }
 
 #[test]

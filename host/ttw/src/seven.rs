@@ -1,0 +1,246 @@
+//! The seven files of a Mainfile set, told apart by their headers.
+
+use crate::files::{name_of, read_whole};
+use crate::progress::Progress;
+use crate::source::{Source, Words};
+use crate::stop::Stop;
+use std::fs::{self, File};
+use std::io::{self, Read};
+use std::path::{Path, PathBuf};
+use ttw::ask::{Refusal, Run};
+use ttw::main_calls::FILES;
+use ttw::main_set::MainSet;
+use ttw::words::{main_words, MAIN_NAMES};
+
+/// What is known of a file: bytes of its record, and what its header says, where.
+struct Kind {
+    record: usize,
+    at: usize,
+    says: &'static [u8; 8],
+}
+
+const fn kind(record: usize, at: usize, says: &'static [u8; 8]) -> Kind {
+    Kind { record, at, says }
+}
+
+/// The kinds in the set's order.
+const KINDS: [Kind; FILES] = [
+    kind(151, 8, b"LOCALITY"),
+    kind(68, 8, b"THOROUGH"),
+    kind(30, 8, b"THDESCRI"),
+    kind(58, 8, b"BUILDING"),
+    kind(38, 8, b"SUBBUILD"),
+    kind(153, 8, b"ORGANISA"),
+    kind(88, 15, b"ADDRESS "),
+];
+
+/// Bytes of a file that tell its kind.
+const FRONT: u64 = 23;
+
+/// The most records of a file. One byte more is read, so that a longer file is
+/// refused.
+const MOST_RECORDS: usize = 1_000_000;
+
+/// Seven files as they were read.
+pub struct Seven {
+    files: [Vec<u8>; FILES],
+}
+
+impl Seven {
+    /// Reads seven files in any order, or those of one folder, that the library
+    /// accepts.
+    pub fn read_accepted(given: &[PathBuf]) -> Result<Seven, Stop> {
+        let seven = Seven::read(given)?;
+        let views = seven.set().views();
+        views.map_err(|why| Stop::Refused(main_words(&why, "files")))?;
+        Ok(seven)
+    }
+
+    /// Reads each file once, into memory that fits it.
+    fn read(given: &[PathBuf]) -> Result<Seven, Stop> {
+        let mut progress = Progress::new(FILES);
+        let mut files: [Vec<u8>; FILES] = Default::default();
+        for (index, begun) in told_apart(given)?.into_iter().enumerate() {
+            progress.step(&format!("reading the {} file", MAIN_NAMES[index]));
+            let most = MOST_RECORDS * KINDS[index].record + 1;
+            let read = begun.rest(most);
+            if read.is_err() {
+                progress.clear();
+            }
+            files[index] = read?;
+        }
+        progress.clear();
+        Ok(Seven { files })
+    }
+
+    fn set(&self) -> MainSet<'_> {
+        MainSet(self.files.each_ref().map(Vec::as_slice))
+    }
+
+    /// A line for each file with its records, the last with the views too.
+    pub fn counts(&self) -> Result<String, Stop> {
+        let refused = |why| Stop::Refused(main_words(&why, "files"));
+        let views = self.set().views().map_err(refused)?;
+        let named = MAIN_NAMES.iter().zip(&KINDS).zip(&self.files);
+        let line = |((name, kind), file): ((&&str, &Kind), &Vec<u8>)| {
+            format!("{name}: {} records", file.len() / kind.record)
+        };
+        let lines: Vec<String> = named.map(line).collect();
+        Ok(format!("{}, {views} views\n", lines.join("\n")))
+    }
+}
+
+impl Source for Seven {
+    const WORDS: Words = main_words;
+    const PAGE: usize = 1 << 24;
+    const LIKELY_PACK: usize = 1 << 21;
+
+    fn codes(&self) -> Result<Vec<([u8; 4], u64)>, Refusal> {
+        self.set().codes()
+    }
+
+    fn label(&self, view: u64) -> Result<Vec<u8>, Refusal> {
+        self.set().label(view)
+    }
+
+    fn code_label(&self, code: &[u8], k: u64) -> Result<Vec<u8>, Refusal> {
+        self.set().code_label(code, k)
+    }
+
+    fn labels(&self, first: u64, count: u64, out: &mut [u8]) -> Result<Run, Refusal> {
+        self.set().labels(first, count, out)
+    }
+
+    fn code_labels(
+        &self,
+        code: &[u8],
+        first: u64,
+        count: u64,
+        out: &mut [u8],
+    ) -> Result<Run, Refusal> {
+        self.set().code_labels(code, first, count, out)
+    }
+
+    fn list(&self, first: u64, count: u64, out: &mut [u8]) -> Result<Run, Refusal> {
+        self.set().list(first, count, out)
+    }
+
+    fn code_list(
+        &self,
+        code: &[u8],
+        first: u64,
+        count: u64,
+        out: &mut [u8],
+    ) -> Result<Run, Refusal> {
+        self.set().code_list(code, first, count, out)
+    }
+
+    fn build(&self, code: &[u8]) -> Result<Vec<u8>, Refusal> {
+        self.set().build(code, Self::LIKELY_PACK)
+    }
+}
+
+/// A file of which the first bytes were read.
+struct Begun {
+    name: String,
+    file: File,
+    front: Vec<u8>,
+}
+
+impl Begun {
+    fn open(path: &Path) -> Result<Begun, Stop> {
+        let name = name_of(path);
+        let mut front = Vec::new();
+        let begun = File::open(path).and_then(|mut file| {
+            (&mut file).take(FRONT).read_to_end(&mut front)?;
+            Ok(file)
+        });
+        match begun {
+            Ok(file) => Ok(Begun { name, file, front }),
+            Err(why) => Err(Stop::could_not(format!("cannot read {name}: {why}"))),
+        }
+    }
+
+    /// The place of its kind in a set, by what its header says. Whether the
+    /// header is right in all else is the library's to say.
+    fn kind(&self) -> Option<usize> {
+        let says = |kind: &Kind| self.front.get(kind.at..kind.at + 8) == Some(kind.says);
+        KINDS.iter().position(says)
+    }
+
+    /// All its bytes, or as many as are needed to refuse it.
+    fn rest(self, most: usize) -> Result<Vec<u8>, Stop> {
+        read_whole(self.front, self.file, most, &self.name)
+    }
+}
+
+/// The files in the set's order, each begun.
+fn told_apart(given: &[PathBuf]) -> Result<[Begun; FILES], Stop> {
+    let (paths, is_folder) = match given {
+        [one] if one.is_dir() => (files_in(one)?, true),
+        files => (files.to_vec(), false),
+    };
+    let mut found: [Vec<Begun>; FILES] = Default::default();
+    let mut strange = Vec::new();
+    for path in &paths {
+        let begun = Begun::open(path)?;
+        match begun.kind() {
+            Some(kind) => found[kind].push(begun),
+            None => strange.push(begun.name),
+        }
+    }
+    let faults = faults(&found, &strange, is_folder);
+    if !faults.is_empty() {
+        return Err(Stop::could_not(faults.join("; ")));
+    }
+    Ok(found.map(|mut of_a_kind| of_a_kind.pop().expect("one of each kind")))
+}
+
+/// What is wrong with the files that were given: of some kind none or more than
+/// one, or of none of the kinds. What else stands in a folder is passed over
+/// where it lacks nothing.
+fn faults(found: &[Vec<Begun>], strange: &[String], is_folder: bool) -> Vec<String> {
+    let mut faults = Vec::new();
+    let named = || MAIN_NAMES.iter().zip(found);
+    let missing = named().filter(|(_, files)| files.is_empty());
+    let missing: Vec<&str> = missing.map(|(name, _)| *name).collect();
+    match missing.as_slice() {
+        [] => {}
+        [one] => faults.push(format!("the {one} file is missing")),
+        some => faults.push(format!("these files are missing: {}", some.join(", "))),
+    }
+    for (name, files) in named().filter(|(_, files)| files.len() > 1) {
+        let files: Vec<&str> = files.iter().map(|begun| begun.name.as_str()).collect();
+        let twice = format!("the {name} file is given more than once: ");
+        faults.push(twice + &files.join(", "));
+    }
+    match strange {
+        _ if is_folder && faults.is_empty() => {}
+        many if is_folder && many.len() > missing.len() => {
+            let count = many.len();
+            faults.push(format!("{count} files there begin as none of the seven"));
+        }
+        some => faults.extend(
+            some.iter()
+                .map(|name| format!("{name} begins as none of the seven files")),
+        ),
+    }
+    faults
+}
+
+/// The plain files of a folder in the order of their names, but for hidden ones.
+fn files_in(folder: &Path) -> Result<Vec<PathBuf>, Stop> {
+    let paths = || -> io::Result<Vec<PathBuf>> {
+        let mut paths = Vec::new();
+        for entry in fs::read_dir(folder)? {
+            let entry = entry?;
+            let hidden = entry.file_name().as_encoded_bytes().starts_with(b".");
+            if !hidden && entry.path().is_file() {
+                paths.push(entry.path());
+            }
+        }
+        paths.sort();
+        Ok(paths)
+    };
+    paths().map_err(|why| Stop::could_not(format!("cannot read {}: {why}", name_of(folder))))
+}
