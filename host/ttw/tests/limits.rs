@@ -3,7 +3,7 @@
 
 mod support;
 
-use paper::make::{exact_pair, worked_pair, Rng};
+use paper::make::{exact_pair, set_of_pair, worked_pair, Rng};
 use std::fs;
 use support::faults::Faults;
 use support::{is_emulated, Folder, Run, NOT_WRITTEN};
@@ -90,9 +90,11 @@ fn memory_of_any_length_is_a_message_or_enough() {
     let folder = Folder::with_pair(&worked_pair());
     fs::create_dir(folder.0.join("packs")).expect("a folder");
     folder.put("packs/AB1.pack", b"older");
+    folder.put_set(&set_of_pair(&worked_pair()).files);
     let faults = Faults::new(&folder);
     let commands = [
         &["check", "changes1", "changes2"][..],
+        &["main", "check", "set"],
         &["codes", "changes1", "changes2"],
         &LABELS,
         &CUT,

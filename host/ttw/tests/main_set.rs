@@ -7,20 +7,13 @@ use paper::mainfile;
 use paper::make::{damaged_main, exact_set, main_set, padded, samples, MainSet, Place, Rng};
 use std::collections::BTreeMap;
 use std::fs;
-use support::{Folder, Run};
+use support::{is_installed, Folder, Run, SET};
 use ttw::ask::Refusal;
 use ttw::words::{main_words, MAIN_NAMES};
 
-/// Names for the files that say nothing of their kinds, in the set's order.
-const NAMES: [&str; 7] = ["g", "f", "e", "d", "c", "b", "a"];
-
-/// The files of a set in a folder of their own, `set`.
 fn desk(files: &[Vec<u8>; 7]) -> Folder {
     let folder = Folder::new();
-    fs::create_dir(folder.0.join("set")).expect("a folder");
-    for (name, file) in NAMES.iter().zip(files) {
-        folder.put(&format!("set/{name}"), file);
-    }
+    folder.put_set(files);
     folder
 }
 
@@ -31,7 +24,7 @@ fn asked(folder: &Folder, command: &str, options: &[&str]) -> Run {
 
 /// The paths of the files, in the order of these places.
 fn paths(places: impl IntoIterator<Item = usize>) -> Vec<String> {
-    let path = |place: usize| format!("set/{}", NAMES[place]);
+    let path = |place: usize| format!("set/{}", SET[place]);
     places.into_iter().map(path).collect()
 }
 
@@ -181,6 +174,22 @@ fn a_longer_file_is_refused_and_fills_no_memory() {
     folder
         .shell(line)
         .only_tells(1, &format!("descriptor: {length}"));
+}
+
+#[test]
+fn reading_shows_progress_on_a_terminal_alone() {
+    let folder = desk(&samples::main_set().files);
+    assert_eq!(asked(&folder, "check", &[]).told, "");
+    if !is_installed("script") {
+        return; // There is no other terminal to try it on.
+    }
+    let check = "\"$TTW\" main check set";
+    let on_terminal = folder.shell(&format!("script -qec '{check}' /dev/null </dev/null"));
+    assert_eq!(on_terminal.status, Some(0), "{on_terminal:?}");
+    for (name, number) in MAIN_NAMES.iter().zip(1..) {
+        let shown = format!("\r\u{1b}[Kreading the {name} file ({number} of 7)");
+        assert!(on_terminal.out.contains(&shown), "{on_terminal:?}");
+    }
 }
 
 /// What `ttw main labels` prints of a listing by the second program.

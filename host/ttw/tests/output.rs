@@ -3,15 +3,20 @@
 
 mod support;
 
-use paper::make::{exact_pair, worked_pair, Rng};
+use paper::make::{exact_pair, set_of_pair, worked_pair, Rng};
 use std::process::Command;
 use support::faults::Faults;
 use support::{compiled_handset, run, Folder, PRINTING_LABELS};
 
-/// What prints no labels, each way once.
-const PRINTING_OTHERS: [&str; 11] = [
+/// What prints no labels of a pair or a pack, each way once.
+const PRINTING_OTHERS: [&str; 16] = [
     "check changes1 changes2",
     "codes changes1 changes2",
+    "main check set",
+    "main codes set",
+    "main labels set",
+    "main labels set --view 1",
+    "main labels set --code AB1 --nth 1 --count 1",
     "help",
     "help pack",
     "help files",
@@ -29,7 +34,9 @@ fn printing() -> impl Iterator<Item = &'static str> {
 }
 
 fn desk() -> Folder {
-    Folder::with_pack(&worked_pair())
+    let folder = Folder::with_pack(&worked_pair());
+    folder.put_set(&set_of_pair(&worked_pair()).files);
+    folder
 }
 
 #[test]

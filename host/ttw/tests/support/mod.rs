@@ -38,6 +38,9 @@ pub const PRINTING_LABELS: [&str; 9] = [
     "show AB1.pack --nth 1 --count 1",
 ];
 
+/// The names of a set's files in its folder, in the set's order.
+pub const SET: [&str; 7] = ["g", "f", "e", "d", "c", "b", "a"];
+
 /// A folder of its own for one test, removed with all it holds.
 pub struct Folder(pub PathBuf);
 
@@ -71,6 +74,15 @@ impl Folder {
         let cut = folder.shell("\"$TTW\" pack changes1 changes2 --code AB1 --out .");
         cut.only_tells(0, "packs written: 1, codes refused: 0");
         folder
+    }
+
+    /// The files of a Mainfile set in a folder below this one, `set`, under names
+    /// that say nothing of their kinds.
+    pub fn put_set(&self, files: &[Vec<u8>; 7]) {
+        fs::create_dir(self.0.join("set")).expect("a new folder");
+        for (name, file) in SET.iter().zip(files) {
+            self.put(&format!("set/{name}"), file);
+        }
     }
 
     /// The names of the files in a folder below this one, sorted.
