@@ -141,7 +141,7 @@ pub(crate) fn telling(room: usize) -> Vec<u8> {
 
 /// Asks both programs to print into a buffer that is full of telling bytes, and compares answer and buffer.
 #[track_caller]
-fn printed(
+pub(crate) fn printed(
     call: &str,
     file: &[u8],
     room: usize,
@@ -169,7 +169,7 @@ pub(crate) fn lent(bytes: &[u8], call: impl FnOnce(&[u8]) -> u64) -> u64 {
 
 /// Fails where the library's answer isn't the second program's.
 #[track_caller]
-fn same(call: &str, file: &[u8], answer: u64, plain: Result<u64, Refusal>) -> u64 {
+pub(crate) fn same(call: &str, file: &[u8], answer: u64, plain: Result<u64, Refusal>) -> u64 {
     assert!(
         answer == packed(plain),
         "{call}: the library answers {answer:#x}, the second program {plain:?}, for {} bytes: {}",

@@ -5,6 +5,7 @@ pub mod annotated;
 pub mod around;
 pub mod c;
 pub mod leaves;
+pub mod main_sets;
 pub mod packs;
 pub mod rooms;
 pub mod runs;

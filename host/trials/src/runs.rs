@@ -126,7 +126,11 @@ pub fn pack_list(pack: &[u8], asked: Asked) -> u64 {
 
 /// An item put together from a call for its label: its line, then the label or
 /// its refusal. A file, a pack or a number that is refused is answered as it is.
-fn item(line: impl Fn() -> String, label: impl Fn(&mut [u8]) -> u64, out: &mut [u8]) -> u64 {
+pub(crate) fn item(
+    line: impl Fn() -> String,
+    label: impl Fn(&mut [u8]) -> u64,
+    out: &mut [u8],
+) -> u64 {
     let mut room = [0; 499];
     let answer = label(&mut room);
     let mut text = line().into_bytes();
@@ -144,8 +148,8 @@ fn item(line: impl Fn() -> String, label: impl Fn(&mut [u8]) -> u64, out: &mut [
 
 /// What a run leaves behind.
 #[derive(PartialEq, Eq)]
-struct Left {
-    answer: u64,
+pub(crate) struct Left {
+    pub(crate) answer: u64,
     out: Vec<u8>,
     bytes: u64,
 }
@@ -162,7 +166,7 @@ fn left(room: usize, run: impl FnOnce(&mut [u8], &mut u64) -> u64) -> Left {
 }
 
 #[track_caller]
-fn same_thrice(
+pub(crate) fn same_thrice(
     asked: Asked,
     library: impl FnOnce(&mut [u8], &mut u64) -> u64,
     one: impl Fn(u64, &mut [u8]) -> u64,
@@ -175,7 +179,7 @@ fn same_thrice(
 }
 
 #[track_caller]
-fn same_twice(
+pub(crate) fn same_twice(
     asked: Asked,
     library: impl FnOnce(&mut [u8], &mut u64) -> u64,
     plain: impl FnOnce(&mut [u8]) -> Result<Run, Refusal>,
