@@ -24,13 +24,25 @@ impl Folder {
 
     /// The program of that name, `tests/NAME.c`, compiled into the folder.
     pub fn program(&self, name: &str) -> Command {
+        self.compiled(name, "cc", &["-std=c11"])
+    }
+
+    /// The same, compiled as C++; none where there is no such compiler.
+    pub fn cpp_program(&self, name: &str) -> Option<Command> {
+        let there = Command::new("c++").arg("--version").output().is_ok();
+        there.then(|| self.compiled(name, "c++", &["-x", "c++", "-std=c++11"]))
+    }
+
+    fn compiled(&self, name: &str, compiler: &str, language: &[&str]) -> Command {
         let here = Path::new(env!("CARGO_MANIFEST_DIR"));
         let program = self.0.join(name);
-        let mut cc = Command::new("cc");
-        cc.args(["-std=c11", "-Wall", "-Wextra", "-Werror", "-pedantic"])
+        let mut cc = Command::new(compiler);
+        cc.args(["-Wall", "-Wextra", "-Werror", "-pedantic"])
+            .args(language)
             .arg("-I")
             .arg(here.join("../../include"))
             .arg(here.join(format!("tests/{name}.c")))
+            .args(["-x", "none"])
             .arg(here.join("../../target/staticlib/libttwibonal.a"))
             .args(["-lpthread", "-o"])
             .arg(&program);

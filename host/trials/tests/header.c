@@ -1,5 +1,5 @@
-/* Asks every call of the library about the pair of files that it is given, and
- * prints what it answers, taken apart by the header's macros. */
+/* Asks every call of the library on a pair of files and on a pack about those that it is
+ * given, and prints what it answers, taken apart by the header's macros. */
 #include "ttwibonal.h"
 
 #include <inttypes.h>

@@ -1,5 +1,6 @@
-//! The header: a C program that uses every call of it is compiled without a
-//! warning, linked with the library and run on document 01's pair.
+//! The header: a C program that uses every call of it on a pair of files and on a
+//! pack is compiled without a warning, linked with the library and run on
+//! document 01's pair.
 
 use paper::make::worked_pair;
 use trials::c::{printed, Folder};

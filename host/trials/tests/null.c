@@ -1,6 +1,7 @@
 /* Asks every call of the library with an empty slice in each of its places, once with a null pointer and once with
  * another, and prints a line for each: the call, the slice, the answer's refusal, file and detail, and whether both
- * answers and all that was lent are the same. The table file, the point file and the pack are given as arguments. */
+ * answers and all that was lent are the same. The table file, the point file, the pack and the seven files of a Mainfile
+ * set are given as arguments. */
 #include "ttwibonal.h"
 
 #include <inttypes.h>
@@ -9,6 +10,8 @@
 
 #define ROOM 4096
 #define KNOWN 0xA5
+/* The files of a Mainfile set. */
+#define FILES 7
 
 struct slice {
     uint8_t *bytes;
@@ -18,10 +21,12 @@ struct slice {
 /* What a call is lent. */
 struct lent {
     struct slice table, points, pack, code, out;
+    struct slice main[FILES];
     uint64_t bytes;
 };
 
 static uint8_t table[ROOM], points[ROOM], pack[ROOM], out[ROOM];
+static uint8_t files[FILES][ROOM];
 static uint8_t code[4] = {'A', 'B', '1', ' '};
 /* A place of no bytes that is not null. */
 static uint8_t nothing[1];
@@ -87,7 +92,78 @@ static uint64_t ask_pack_list(struct lent *l)
     return ttw_pack_list(l->pack.bytes, l->pack.length, 1, 1, l->out.bytes, l->out.length, &l->bytes);
 }
 
-/* A call, and the letters of the slices that it takes: table, points, pack (k), code, out. */
+/* The set as the header's struct has it. */
+static struct ttw_main set_of(const struct lent *l)
+{
+    struct ttw_main set = {l->main[0].bytes, l->main[0].length, l->main[1].bytes, l->main[1].length, l->main[2].bytes,
+                           l->main[2].length, l->main[3].bytes, l->main[3].length, l->main[4].bytes, l->main[4].length,
+                           l->main[5].bytes, l->main[5].length, l->main[6].bytes, l->main[6].length};
+
+    return set;
+}
+static uint64_t ask_main(struct lent *l)
+{
+    struct ttw_main set = set_of(l);
+
+    return ttw_main_of(&set);
+}
+static uint64_t ask_main_live(struct lent *l)
+{
+    struct ttw_main set = set_of(l);
+
+    return ttw_main_live_of(&set, l->code.bytes, l->code.length);
+}
+static uint64_t ask_main_codes(struct lent *l)
+{
+    struct ttw_main set = set_of(l);
+
+    return ttw_main_codes_of(&set, l->out.bytes, l->out.length);
+}
+static uint64_t ask_main_label(struct lent *l)
+{
+    struct ttw_main set = set_of(l);
+
+    return ttw_main_label_of(&set, 1, l->out.bytes, l->out.length);
+}
+static uint64_t ask_main_code_label(struct lent *l)
+{
+    struct ttw_main set = set_of(l);
+
+    return ttw_main_code_label_of(&set, l->code.bytes, l->code.length, 1, l->out.bytes, l->out.length);
+}
+static uint64_t ask_main_labels(struct lent *l)
+{
+    struct ttw_main set = set_of(l);
+
+    return ttw_main_labels_of(&set, 1, 1, l->out.bytes, l->out.length, &l->bytes);
+}
+static uint64_t ask_main_code_labels(struct lent *l)
+{
+    struct ttw_main set = set_of(l);
+
+    return ttw_main_code_labels_of(&set, l->code.bytes, l->code.length, 1, 1, l->out.bytes, l->out.length, &l->bytes);
+}
+static uint64_t ask_main_list(struct lent *l)
+{
+    struct ttw_main set = set_of(l);
+
+    return ttw_main_list_of(&set, 1, 1, l->out.bytes, l->out.length, &l->bytes);
+}
+static uint64_t ask_main_code_list(struct lent *l)
+{
+    struct ttw_main set = set_of(l);
+
+    return ttw_main_code_list_of(&set, l->code.bytes, l->code.length, 1, 1, l->out.bytes, l->out.length, &l->bytes);
+}
+static uint64_t ask_main_build(struct lent *l)
+{
+    struct ttw_main set = set_of(l);
+
+    return ttw_main_build_of(&set, l->code.bytes, l->code.length, l->out.bytes, l->out.length);
+}
+
+/* A call, and the letters of the slices that it takes: table, points, pack (k), code, out; the files of a set by their
+ * numbers. */
 static const struct call {
     const char *name;
     uint64_t (*ask)(struct lent *);
@@ -110,6 +186,16 @@ static const struct call {
     {"ttw_pack_label", ask_pack_label, "ko"},
     {"ttw_pack_labels", ask_pack_labels, "ko"},
     {"ttw_pack_list", ask_pack_list, "ko"},
+    {"ttw_main", ask_main, "1234567"},
+    {"ttw_main_live", ask_main_live, "7c"},
+    {"ttw_main_codes", ask_main_codes, "7o"},
+    {"ttw_main_label", ask_main_label, "1234567o"},
+    {"ttw_main_code_label", ask_main_code_label, "1234567co"},
+    {"ttw_main_labels", ask_main_labels, "1234567o"},
+    {"ttw_main_code_labels", ask_main_code_labels, "1234567co"},
+    {"ttw_main_list", ask_main_list, "1234567o"},
+    {"ttw_main_code_list", ask_main_code_list, "1234567co"},
+    {"ttw_main_build", ask_main_build, "1234567co"},
 };
 
 static struct slice *slice_of(struct lent *lent, char letter)
@@ -123,8 +209,10 @@ static struct slice *slice_of(struct lent *lent, char letter)
         return &lent->pack;
     case 'c':
         return &lent->code;
-    default:
+    case 'o':
         return &lent->out;
+    default:
+        return &lent->main[letter - '1'];
     }
 }
 
@@ -184,13 +272,15 @@ int main(int argc, char **argv)
     size_t i;
     const char *letter;
 
-    if (argc != 4)
+    if (argc != 4 + FILES)
         return 2;
     memset(out, KNOWN, sizeof out);
     memset(nothing, KNOWN, sizeof nothing);
     whole.table = load(argv[1], table);
     whole.points = load(argv[2], points);
     whole.pack = load(argv[3], pack);
+    for (i = 0; i < FILES; i++)
+        whole.main[i] = load(argv[4 + i], files[i]);
     whole.code.bytes = code;
     whole.code.length = sizeof code;
     whole.out.bytes = out;

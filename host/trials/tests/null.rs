@@ -1,11 +1,11 @@
 //! A null pointer with length 0: each call takes it for each of its slices, and
 //! answers as it does for any other slice of no bytes.
 
-use paper::make::{worked_pack, worked_pair};
+use paper::make::{set_of_pair, worked_pack, worked_pair, MainSet};
 use trials::c::{printed, Folder};
 
 /// Call and slice, then the answer's refusal, file and detail. Slices: t table,
-/// p points, k pack, c code, o out.
+/// p points, k pack, c code, o out, 1 to 7 the files of a Mainfile set.
 const ANSWERS: &str = "\
 ttw_table t: 1 1 0
 ttw_points p: 1 2 0
@@ -49,6 +49,43 @@ ttw_pack_list k: 11 0 1
 ttw_pack_list o: 10 0 60
 ";
 
+/// The calls on a Mainfile set: which of its files they take, by their numbers,
+/// whether they take a code, and the bytes that they need where they write.
+const MAIN: [(&str, std::ops::RangeInclusive<u8>, bool, Option<u64>); 10] = [
+    ("ttw_main", 1..=7, false, None),
+    ("ttw_main_live", 7..=7, true, None),
+    ("ttw_main_codes", 7..=7, false, Some(8)),
+    ("ttw_main_label", 1..=7, false, Some(52)),
+    ("ttw_main_code_label", 1..=7, true, Some(52)),
+    ("ttw_main_labels", 1..=7, false, Some(52)),
+    ("ttw_main_code_labels", 1..=7, true, Some(52)),
+    ("ttw_main_list", 1..=7, false, Some(59)),
+    ("ttw_main_code_list", 1..=7, true, Some(59)),
+    ("ttw_main_build", 1..=7, true, Some(129)),
+];
+
+/// All answers: those of these calls behind the others.
+fn answers() -> String {
+    let mut answers = ANSWERS.to_string();
+    for (call, files, code, room) in MAIN {
+        files.for_each(|file| answers += &format!("{call} {file}: 1 {file} 0\n"));
+        if code {
+            answers += &format!("{call} c: 12 0 0\n");
+        }
+        if let Some(room) = room {
+            answers += &format!("{call} o: 10 0 {room}\n");
+        }
+    }
+    answers
+}
+
+/// The set that says what the worked pair's first view says.
+fn worked_set() -> MainSet {
+    let made = set_of_pair(&worked_pair());
+    let first = made.addresses.into_iter().take(1).collect();
+    MainSet::new(made.rows, Vec::new(), first)
+}
+
 #[test]
 fn every_call_takes_a_null_pointer_with_length_0() {
     let folder = Folder::new("null");
@@ -58,7 +95,10 @@ fn every_call_takes_a_null_pointer_with_length_0() {
         .arg(folder.file("changes1", &pair.table))
         .arg(folder.file("changes2", &pair.points))
         .arg(folder.file("pack", &worked_pack()));
-    assert_eq!(printed(&mut program), ANSWERS);
+    for (number, file) in worked_set().files.iter().enumerate() {
+        program.arg(folder.file(&format!("main{number}"), file));
+    }
+    assert_eq!(printed(&mut program), answers());
 }
 
 /// So that a call that is added is tried too.
@@ -69,7 +109,8 @@ fn the_calls_tried_are_those_of_the_header() {
         .lines()
         .filter_map(|line| line.strip_prefix("uint64_t ")?.split('(').next());
     let mut declared: Vec<&str> = declared.collect();
-    let asked = ANSWERS.lines().filter_map(|line| line.split(' ').next());
+    let answers = answers();
+    let asked = answers.lines().filter_map(|line| line.split(' ').next());
     let mut asked: Vec<&str> = asked.collect();
     declared.sort_unstable();
     asked.sort_unstable();
