@@ -1,11 +1,12 @@
 //! Calls on several threads at once, on the same slices: each answers as it
 //! does alone.
 
-use paper::make::{exact_pair, Rng};
+use paper::make::{exact_pair, exact_set, Rng};
 use std::thread;
 use ttw::ask::{self, Refusal, Run};
+use ttw::main_set::MainSet;
 
-/// What all thirteen calls answer about a pair, a pack and a number.
+/// What the calls on a pair and on a pack answer about a number.
 #[derive(Debug, PartialEq, Eq)]
 struct Answers {
     counts: [Result<u64, Refusal>; 5],
@@ -43,6 +44,46 @@ fn answers(table: &[u8], points: &[u8], pack: &[u8], k: u64) -> Answers {
             run(|out| ask::pack_labels(pack, k, 40, out)),
         ],
     }
+}
+
+/// What the calls on a Mainfile set answer about a number.
+fn set_answers(set: MainSet, k: u64) -> (Vec<Result<Vec<u8>, Refusal>>, Vec<u64>) {
+    let code = b"AB1 ";
+    let mut out = vec![0; 2_000];
+    let mut runs = Vec::new();
+    for listed in [
+        set.labels(k, 9, &mut out),
+        set.code_labels(code, k, 9, &mut out),
+        set.list(k, 9, &mut out),
+        set.code_list(code, k, 9, &mut out),
+    ] {
+        runs.push(listed.map_or(0, |run| run.bytes as u64));
+    }
+    runs.extend([set.views(), set.live(code)].map(|count| count.unwrap_or(0)));
+    let texts = vec![
+        set.label(k),
+        set.code_label(code, k),
+        set.build(code, 0),
+        Ok(out),
+    ];
+    (texts, runs)
+}
+
+#[test]
+fn calls_on_a_set_answer_on_eight_threads_as_they_do_alone() {
+    let made = exact_set(&mut Rng::new(18), 200);
+    let set = MainSet(made.set());
+    let numbers = 0..30u64;
+    let alone: Vec<_> = numbers.clone().map(|k| set_answers(set, k)).collect();
+    thread::scope(|scope| {
+        for _ in 0..8 {
+            scope.spawn(|| {
+                for (k, alone) in numbers.clone().zip(&alone) {
+                    assert!(set_answers(set, k) == *alone, "{k}");
+                }
+            });
+        }
+    });
 }
 
 #[test]

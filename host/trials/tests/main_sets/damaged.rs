@@ -4,9 +4,10 @@ use paper::make::{
     damaged_main, exact_set, main_breaks, main_file_of, main_set, samples, scratch, Organisation,
     Place, Rng, TableRow, View,
 };
-use paper::{packed, Refusal};
+use paper::{mainfile, packed, Refusal};
 use trials::main_sets::{ask_all, live, views, with_file, WIDTHS};
 use trials::rooms::refusal;
+use ttw::main_calls;
 
 /// Files for each refusal and place.
 const ROUNDS: u64 = 8;
@@ -112,6 +113,32 @@ fn every_file_cut_at_every_byte() {
             };
             let answer = views(with_file(&good, file, &whole[..length]));
             assert_eq!(answer, packed(Err(why)), "{file} {length}");
+        }
+    }
+}
+
+/// A file of spaces is whole records up to the limit, and then has no header.
+#[test]
+fn lengths_are_2_to_1_000_000_whole_records() {
+    let good = samples::main_set();
+    let spaces = vec![b' '; 153 * 1_000_001];
+    for (file, width) in (1..=7).zip(WIDTHS) {
+        for (bytes, number) in [
+            (0, 1),
+            (width, 1),
+            (2 * width - 1, 1),
+            (2 * width, 2),
+            (2 * width + 1, 1),
+            (20_001 * width, 2),
+            (1_000_000 * width, 2),
+            (1_000_000 * width + 1, 1),
+            (1_000_001 * width, 1),
+        ] {
+            let set = with_file(&good, file, &spaces[..bytes]);
+            let why = Refusal::of_file(file, number, u64::from(number == 2));
+            // Not lent with a copy beside: these files are long.
+            assert_eq!(main_calls::views(set), packed(Err(why)), "{file} {bytes}");
+            assert_eq!(mainfile::views(set), Err(why));
         }
     }
 }
