@@ -3,14 +3,16 @@
 use crate::edge::{Edge, Flush};
 use crate::files::{number_of, Files};
 use crate::reached::Reached;
-use crate::{files, limits, mutate};
+use crate::sets::SetFiles;
+use crate::{files, limits, mutate, sets};
 use paper::make::{self, Rng};
-use paper::{packed, packed_run, Refusal, Run};
-use ttw::calls;
+use paper::{mainfile, packed, packed_run, Refusal, Run};
+use ttw::{calls, main_calls};
 
 /// The inputs of a case.
 pub struct Case {
     pub files: Files,
+    pub set: SetFiles,
     /// A pack that may be mutated, and one at a limit.
     pub packs: [Vec<u8>; 2],
     /// The number of a point.
@@ -28,13 +30,17 @@ pub fn make(seed: u64, number: u64) -> Case {
     let mut pack = pack_of(&mut rng, &files.pair, &files.code);
     mutate::pack(&mut rng, &mut pack);
     let limit = &limits::ALL[number as usize % limits::ALL.len()];
+    let packs = [pack, limits::pack(&mut rng, limit)];
+    let (point, room) = (number_of(&mut rng, 8), rng.below(600));
+    let (count, run_room) = (number_of(&mut rng, 8), rng.below(2_000));
     Case {
         files,
-        packs: [pack, limits::pack(&mut rng, limit)],
-        point: number_of(&mut rng, 8),
-        room: rng.below(600),
-        count: number_of(&mut rng, 8),
-        run_room: rng.below(2_000),
+        set: sets::of_case(&mut rng, number),
+        packs,
+        point,
+        room,
+        count,
+        run_room,
     }
 }
 
@@ -59,6 +65,7 @@ pub fn run(case: &Case, reached: &mut Reached) {
         lent.ask_runs(case, reached);
         lent.ask_lists(case, reached);
         lent.ask_build(case, reached);
+        LentSet::new(case, flush).ask(case, reached);
         for pack in &case.packs {
             ask_pack(case, pack, flush, reached);
         }
@@ -211,6 +218,116 @@ impl Lent {
             paper::build(&case.files.table, &case.files.points, &case.files.code, out)
         };
         let mut build = |room| written("build", self.flush, room, &ours, &plain, reached);
+        let answer = build(case.room);
+        if answer >> 56 == 10 {
+            let needed = answer as u32 as usize;
+            build(needed);
+            build(needed - 1);
+        }
+    }
+}
+
+/// A case's Mainfile set, lent at an edge.
+struct LentSet {
+    flush: Flush,
+    files: [Edge; 7],
+    code: Edge,
+}
+
+impl LentSet {
+    fn new(case: &Case, flush: Flush) -> LentSet {
+        let files = case.set.files.each_ref();
+        LentSet {
+            flush,
+            files: files.map(|file| Edge::readable(file, flush)),
+            code: Edge::readable(&case.set.code, flush),
+        }
+    }
+
+    /// Every call on the set.
+    fn ask(&self, case: &Case, reached: &mut Reached) {
+        self.ask_counts(case, reached);
+        self.ask_written(case, reached);
+        self.ask_runs(case, reached);
+        self.ask_build(case, reached);
+    }
+
+    /// The files as they are lent.
+    fn set(&self) -> mainfile::Set<'_> {
+        self.files.each_ref().map(Edge::bytes)
+    }
+
+    /// The calls that only read.
+    fn ask_counts(&self, case: &Case, reached: &mut Reached) {
+        let (set, code) = (self.set(), self.code.bytes());
+        let plain = mainfile::views(case.set.set()).map(|views| views as u64);
+        same("main", main_calls::views(set), plain, reached);
+        let plain = mainfile::live(&case.set.files[6], &case.set.code);
+        let plain = plain.map(|count| count as u64);
+        same("main live", main_calls::live(set[6], code), plain, reached);
+    }
+
+    /// The calls that write codes or a label.
+    fn ask_written(&self, case: &Case, reached: &mut Reached) {
+        let (set, code) = (self.set(), self.code.bytes());
+        let (plain_set, plain_code) = (case.set.set(), case.set.code.as_slice());
+        let (view, k) = (case.set.view, case.set.nth);
+        let mut written = |call, ours: &dyn Fn(&mut [u8]) -> u64, plain: &Plain| {
+            written(call, self.flush, case.room, ours, plain, reached)
+        };
+        written(
+            "main codes",
+            &|out| main_calls::codes(set[6], out),
+            &|out| mainfile::codes(plain_set[6], out),
+        );
+        written(
+            "main label",
+            &|out| main_calls::label(set, view, out),
+            &|out| mainfile::label(plain_set, view, out),
+        );
+        written(
+            "main code label",
+            &|out| main_calls::code_label(set, code, k, out),
+            &|out| mainfile::code_label(plain_set, plain_code, k, out),
+        );
+    }
+
+    /// The calls that print a run of labels, or list views.
+    fn ask_runs(&self, case: &Case, reached: &mut Reached) {
+        let (set, code) = (self.set(), self.code.bytes());
+        let (plain_set, plain_code) = (case.set.set(), case.set.code.as_slice());
+        let (view, k, count) = (case.set.view, case.set.nth, case.count);
+        let mut run = |call, ours: &Ours, plain: &PlainRun| {
+            run_written(call, self.flush, case.run_room, ours, plain, reached)
+        };
+        run(
+            "main labels",
+            &|out, bytes| main_calls::labels(set, view, count, out, bytes),
+            &|out| mainfile::labels(plain_set, view, count, out),
+        );
+        run(
+            "main code labels",
+            &|out, bytes| main_calls::code_labels(set, code, k, count, out, bytes),
+            &|out| mainfile::code_labels(plain_set, plain_code, k, count, out),
+        );
+        run(
+            "main list",
+            &|out, bytes| main_calls::list(set, view, count, out, bytes),
+            &|out| mainfile::list(plain_set, view, count, out),
+        );
+        run(
+            "main code list",
+            &|out, bytes| main_calls::code_list(set, code, k, count, out, bytes),
+            &|out| mainfile::code_list(plain_set, plain_code, k, count, out),
+        );
+    }
+
+    /// Building, with some room, with just enough, and with a byte less.
+    fn ask_build(&self, case: &Case, reached: &mut Reached) {
+        let (set, code) = (self.set(), self.code.bytes());
+        let ours = |out: &mut [u8]| main_calls::build(set, code, out);
+        let plain = |out: &mut [u8]| mainfile::build(case.set.set(), &case.set.code, out);
+        let mut build = |room| written("main build", self.flush, room, &ours, &plain, reached);
         let answer = build(case.room);
         if answer >> 56 == 10 {
             let needed = answer as u32 as usize;

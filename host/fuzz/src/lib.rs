@@ -2,10 +2,10 @@
 //! compiler's back end and the boundary to C, and that is what is tried here.
 //!
 //! A case is made from a seed and a number, so that it can be run again alone.
-//! Its inputs are accepted pairs and packs, mutated by structure and by bytes,
-//! and others that are made by hand: records malformed in every field, files
-//! damaged at a place, views that cannot be printed, files of as many records as
-//! there may be and of one more, and for every case a pack with one field at a
+//! Its inputs are accepted pairs, Mainfile sets and packs, mutated by structure
+//! and by bytes, and others that are made by hand: records malformed in every
+//! field, files damaged at a place, views that cannot be printed, Changes files of
+//! as many records as there may be and of one more, and for every case a pack with one field at a
 //! limit, one limit after the other. Every slice lies flush against memory that no one may touch, first at its end and
 //! then at its start, and what a call may only read cannot be written.
 
@@ -16,4 +16,5 @@ pub mod limits;
 pub mod malformed;
 pub mod mutate;
 pub mod reached;
+pub mod sets;
 pub mod trap;

@@ -80,7 +80,12 @@ fn cut(rng: &mut Rng, bytes: &mut Vec<u8>) {
 /// hidden behind refusal 3.
 fn recount(bytes: &mut [u8], width: usize) {
     let records = bytes.len() / width;
-    let identifier = if width == 169 { 9 } else { 14 };
+    let identifier = match width {
+        169 => 9,
+        168 => 14,
+        88 => 15,
+        _ => 8,
+    };
     if records >= 2 && bytes.len().is_multiple_of(width) {
         let count = format!("{records:08}");
         let at = bytes.len() - width + identifier;

@@ -1,8 +1,9 @@
 //! What the calls were answered with, and what enough cases have to reach.
 
-use crate::malformed;
+use crate::{malformed, sets};
 use std::collections::BTreeMap;
 use std::fmt;
+use ttw::words::MAIN_NAMES;
 
 /// After so many cases each kind of answer comes.
 pub const ENOUGH: u64 = 2_000;
@@ -32,10 +33,12 @@ impl fmt::Display for Kind {
             return write!(out, "{call}: value");
         }
         write!(out, "{call}: refusal {number}")?;
-        match self.file {
-            1 => write!(out, " of the table")?,
-            2 => write!(out, " of the points")?,
-            _ => {}
+        let names: &[&str] = match call.starts_with("main") {
+            true => &MAIN_NAMES,
+            false => &["table", "points"],
+        };
+        if let Some(file) = self.file.checked_sub(1) {
+            write!(out, " of the {}", names[usize::from(file)])?;
         }
         match number {
             4 if *detail > 0 => write!(out, ", byte {detail}"),
@@ -113,8 +116,9 @@ fn kind(call: &'static str, number: u8, file: u8, detail: u64) -> Kind {
 }
 
 /// The refusals that each call gives besides a value: those of a table file (t),
-/// of a point file (p), of a view's rows (v), of a pack (k); and single ones.
-const CALLS: [(&str, &str, &[u8]); 17] = [
+/// of a point file (p), of a view's rows (v), of a pack (k), of a Mainfile set (m),
+/// of its addresses alone (a), of an address's rows (w); and single ones.
+const CALLS: [(&str, &str, &[u8]); 27] = [
     ("table", "t", &[]),
     ("points", "p", &[]),
     ("views", "p", &[]),
@@ -132,6 +136,16 @@ const CALLS: [(&str, &str, &[u8]); 17] = [
     ("pack label", "k", &[7, 10]),
     ("pack labels", "k", &[7, 10]),
     ("pack list", "k", &[7, 10]),
+    ("main", "m", &[]),
+    ("main live", "a", &[12]),
+    ("main codes", "a", &[10]),
+    ("main label", "mw", &[7, 10]),
+    ("main code label", "mw", &[7, 10, 12]),
+    ("main labels", "mw", &[7, 10]),
+    ("main code labels", "mw", &[7, 10, 12]),
+    ("main list", "m", &[7, 10]),
+    ("main code list", "m", &[7, 10, 12]),
+    ("main build", "mw", &[10, 12]),
 ];
 
 /// Every kind of answer that there is; of malformed records each byte for the
@@ -141,6 +155,9 @@ pub fn wanted() -> Vec<Kind> {
     let table = malformed::bytes(1).into_iter().map(at("table", 1));
     let points = malformed::bytes(2).into_iter().map(at("points", 2));
     let mut wanted: Vec<Kind> = table.chain(points).collect();
+    for file in 1..=7 {
+        wanted.extend(sets::bytes(file).into_iter().map(at("main", file)));
+    }
     for (call, groups, single) in CALLS {
         let mut add = |number, file, details: std::ops::RangeInclusive<u64>| {
             wanted.extend(details.map(|detail| kind(call, number, file, detail)));
@@ -152,6 +169,13 @@ pub fn wanted() -> Vec<Kind> {
                 't' => (1..=5).for_each(|number| add(number, 1, 0..=0)),
                 'p' => (1..=6).for_each(|number| add(number, 2, 0..=0)),
                 'v' => [(8, 3), (9, 7)]
+                    .into_iter()
+                    .for_each(|(number, last)| add(number, 0, 1..=last)),
+                'm' => (1..=7)
+                    .flat_map(|file| (1..=5).map(move |number| (number, file)))
+                    .for_each(|(number, file)| add(number, file, 0..=0)),
+                'a' => (1..=5).for_each(|number| add(number, 7, 0..=0)),
+                'w' => [(8, 3), (9, 8)]
                     .into_iter()
                     .for_each(|(number, last)| add(number, 0, 1..=last)),
                 _ => add(11, 0, 1..=3),

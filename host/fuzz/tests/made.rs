@@ -3,7 +3,7 @@
 
 use fuzz::limits;
 use fuzz::reached::{wanted, Kind, Reached, ENOUGH};
-use fuzz::{case, malformed};
+use fuzz::{case, malformed, sets};
 use paper::make::Rng;
 use paper::Refusal;
 use std::collections::BTreeSet;
@@ -71,7 +71,7 @@ fn enough_cases_have_both_files_at_the_most_records_and_beyond() {
 fn nothing_reached_is_everything_missing_and_all_of_it_nothing() {
     let mut reached = Reached::default();
     assert_eq!(reached.missing(), wanted());
-    assert!(wanted().len() >= 250, "{}", wanted().len());
+    assert!(wanted().len() >= 700, "{}", wanted().len());
     for Kind {
         call,
         number,
@@ -89,4 +89,6 @@ fn nothing_reached_is_everything_missing_and_all_of_it_nothing() {
         "the double dependent locality"
     );
     assert!(malformed::bytes(2).contains(&107), "the concatenation");
+    assert!(sets::bytes(6).contains(&9), "the organisation's type");
+    assert!(sets::bytes(7).contains(&79), "an address's concatenation");
 }
