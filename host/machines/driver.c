@@ -33,10 +33,22 @@
     CALL(ttw_pack, READ(0))                                                                   \
     CALL(ttw_pack_label, READ(0), NUMBER(0), WRITE(0))                                        \
     CALL(ttw_pack_labels, READ(0), NUMBER(0), NUMBER(1), WRITE(0), TELL(1))                   \
-    CALL(ttw_pack_list, READ(0), NUMBER(0), NUMBER(1), WRITE(0), TELL(1))
+    CALL(ttw_pack_list, READ(0), NUMBER(0), NUMBER(1), WRITE(0), TELL(1))                     \
+    CALL(ttw_main, SET)                                                                       \
+    CALL(ttw_main_live, READ(0), READ(1))                                                     \
+    CALL(ttw_main_codes, READ(0), WRITE(0))                                                   \
+    CALL(ttw_main_label, SET, NUMBER(0), WRITE(0))                                            \
+    CALL(ttw_main_code_label, SET, READ(7), NUMBER(0), WRITE(0))                              \
+    CALL(ttw_main_labels, SET, NUMBER(0), NUMBER(1), WRITE(0), TELL(1))                       \
+    CALL(ttw_main_code_labels, SET, READ(7), NUMBER(0), NUMBER(1), WRITE(0), TELL(1))         \
+    CALL(ttw_main_list, SET, NUMBER(0), NUMBER(1), WRITE(0), TELL(1))                         \
+    CALL(ttw_main_code_list, SET, READ(7), NUMBER(0), NUMBER(1), WRITE(0), TELL(1))           \
+    CALL(ttw_main_build, SET, READ(7), WRITE(0))
 
-/* What these lines are made of: a slice to read or to write, a number, a place for a number. */
+/* What these lines are made of: a slice to read or to write, the seven files of a Mainfile set, a number, a place for a
+ * number. */
 #define READ(i) told->reads[i].bytes, told->reads[i].length
+#define SET READ(0), READ(1), READ(2), READ(3), READ(4), READ(5), READ(6)
 #define WRITE(i) told->writes[i].bytes, told->writes[i].length
 #define NUMBER(i) told->numbers[i]
 #define TELL(i) (uint64_t *)(void *)told->writes[i].bytes
@@ -173,8 +185,8 @@ static const struct call *take_call(void)
     exit(2);
 }
 
-/* The stack on which a call runs, in words. */
-#define STACK ((size_t)64 << 10)
+/* The stack on which a call runs, in words: more than the 1 MiB that the header allows. */
+#define STACK ((size_t)160 << 10)
 #define UNTOUCHED_WORD 0xA5A5A5A5A5A5A5A5u
 static _Alignas(65536) uint64_t stack[STACK];
 

@@ -3,6 +3,7 @@
 //! gets an entry here and a line in `driver.c`.
 
 use fuzz::case::Case;
+use paper::mainfile::{self, Set};
 use paper::{packed, packed_run, Refusal, Run};
 
 /// A call of the header.
@@ -34,8 +35,11 @@ const LABELS: u64 = 4_096;
 const PACKS: u64 = 80 << 10;
 /// building a pack or listing codes less than this.
 const BUILDING: u64 = 192 << 10;
+/// Building a pack from a Mainfile set takes less than this, any other call on a
+/// set what that call on a pair of files does.
+const BUILDING_FROM_A_SET: u64 = 1 << 20;
 
-pub const CALLS: [Call; 17] = [
+pub const CALLS: [Call; 27] = [
     Call {
         name: "ttw_table",
         stack: FILES,
@@ -156,6 +160,78 @@ pub const CALLS: [Call; 17] = [
             told(list, &mut w[1])
         },
     },
+    Call {
+        name: "ttw_main",
+        stack: FILES,
+        lend: |case| lent(&set(case), &[], &[]),
+        plain: |r, _, _| count(mainfile::views(set_of(r))),
+    },
+    Call {
+        name: "ttw_main_live",
+        stack: FILES,
+        lend: |case| lent(&[&case.set.files[6], &case.set.code], &[], &[]),
+        plain: |r, _, _| count(mainfile::live(&r[0], &r[1])),
+    },
+    Call {
+        name: "ttw_main_codes",
+        stack: BUILDING,
+        lend: |case| lent(&[&case.set.files[6]], &[], &[case.room]),
+        plain: |r, _, w| count(mainfile::codes(&r[0], &mut w[0])),
+    },
+    Call {
+        name: "ttw_main_label",
+        stack: LABELS,
+        lend: |case| lent(&set(case), &[case.set.view], &[case.room]),
+        plain: |r, n, w| count(mainfile::label(set_of(r), n[0], &mut w[0])),
+    },
+    Call {
+        name: "ttw_main_code_label",
+        stack: LABELS,
+        lend: |case| lent(&set_and_code(case), &[case.set.nth], &[case.room]),
+        plain: |r, n, w| count(mainfile::code_label(set_of(r), &r[7], n[0], &mut w[0])),
+    },
+    Call {
+        name: "ttw_main_labels",
+        stack: LABELS,
+        lend: |case| lent_to_run(&set(case), case.set.view, case),
+        plain: |r, n, w| {
+            let run = mainfile::labels(set_of(r), n[0], n[1], &mut w[0]);
+            told(run, &mut w[1])
+        },
+    },
+    Call {
+        name: "ttw_main_code_labels",
+        stack: LABELS,
+        lend: |case| lent_to_run(&set_and_code(case), case.set.nth, case),
+        plain: |r, n, w| {
+            let run = mainfile::code_labels(set_of(r), &r[7], n[0], n[1], &mut w[0]);
+            told(run, &mut w[1])
+        },
+    },
+    Call {
+        name: "ttw_main_list",
+        stack: LABELS,
+        lend: |case| lent_to_run(&set(case), case.set.view, case),
+        plain: |r, n, w| {
+            let list = mainfile::list(set_of(r), n[0], n[1], &mut w[0]);
+            told(list, &mut w[1])
+        },
+    },
+    Call {
+        name: "ttw_main_code_list",
+        stack: LABELS,
+        lend: |case| lent_to_run(&set_and_code(case), case.set.nth, case),
+        plain: |r, n, w| {
+            let list = mainfile::code_list(set_of(r), &r[7], n[0], n[1], &mut w[0]);
+            told(list, &mut w[1])
+        },
+    },
+    Call {
+        name: "ttw_main_build",
+        stack: BUILDING_FROM_A_SET,
+        lend: |case| lent(&set_and_code(case), &[], &[case.room]),
+        plain: |r, _, w| count(mainfile::build(set_of(r), &r[7], &mut w[0])),
+    },
 ];
 
 /// The slices of a call on a pair of files.
@@ -166,6 +242,21 @@ fn pair(case: &Case) -> [&Vec<u8>; 2] {
 /// The slices of a call on a pair of files and a code.
 fn files(case: &Case) -> [&Vec<u8>; 3] {
     [&case.files.table, &case.files.points, &case.files.code]
+}
+
+/// The slices of a call on a Mainfile set.
+fn set(case: &Case) -> [&Vec<u8>; 7] {
+    case.set.files.each_ref()
+}
+
+/// The slices of a call on a Mainfile set and a code.
+fn set_and_code(case: &Case) -> [&Vec<u8>; 8] {
+    std::array::from_fn(|place| case.set.files.get(place).unwrap_or(&case.set.code))
+}
+
+/// The first slices to read, as the second program takes a set.
+fn set_of(reads: &[Vec<u8>]) -> Set<'_> {
+    std::array::from_fn(|place| reads[place].as_slice())
 }
 
 /// Slices, numbers, and so many telling bytes for each slice to write.

@@ -37,6 +37,10 @@ enum Put {
     Pair(Vec<u8>, Vec<u8>, u64),
     /// A pack and the number of a point.
     Pack(Vec<u8>, u64),
+    /// A file of a Mainfile set, by its place in it.
+    MainFile(usize, Vec<u8>),
+    /// A Mainfile set and the number of a view.
+    Set([Vec<u8>; 7], u64),
 }
 
 impl Put {
@@ -49,6 +53,10 @@ impl Put {
                 (case.files.view, case.files.nth) = (view, view);
             }
             Put::Pack(pack, point) => (case.packs[0], case.point) = (pack, point),
+            Put::MainFile(place, file) => case.set.files[place] = file,
+            Put::Set(files, view) => {
+                (case.set.files, case.set.view, case.set.nth) = (files, view, view)
+            }
         }
         case
     }
@@ -79,6 +87,10 @@ fn puts() -> Vec<Put> {
     puts.extend(damaged.map(|damaged| Put::Pack(damaged.pack, 1)));
     puts.extend(sample_views());
     puts.extend(kept_packs(&mut rng));
+    puts.extend(damaged_main_files(&mut rng));
+    let samples = make::samples::main_set();
+    let views = 1..=samples.addresses.len() as u64;
+    puts.extend(views.map(|view| Put::Set(samples.files.clone(), view)));
     puts
 }
 
@@ -91,6 +103,22 @@ fn damaged_files(rng: &mut Rng) -> Vec<Put> {
             let points = make::damaged_points(rng, number, place);
             puts.extend(table.map(|damaged| Put::Table(damaged.file)));
             puts.extend(points.map(|damaged| Put::Points(damaged.file)));
+        }
+    }
+    puts
+}
+
+/// The same of a Mainfile set, once.
+fn damaged_main_files(rng: &mut Rng) -> Vec<Put> {
+    let mut puts = Vec::new();
+    for place in Place::ALL {
+        for number in 1..=5 {
+            for file in 1..=7 {
+                let damaged = make::damaged_main(rng, file, number, place);
+                let put =
+                    |damaged: make::Damaged| Put::MainFile(usize::from(file) - 1, damaged.file);
+                puts.extend(damaged.map(put));
+            }
         }
     }
     puts
@@ -141,8 +169,8 @@ fn packs_below(folder: &Path) -> Vec<Vec<u8>> {
     packs
 }
 
-/// The largest files that are accepted, and the pack of their commonest code.
-/// Every call gives a value.
+/// The largest Changes files that are accepted, the pack of their commonest code,
+/// and a Mainfile set as long as these. Every call gives a value.
 pub fn largest() -> Case {
     let pair = make::exact_pair(&mut Rng::new(SEED), 20_000, 20_000);
     let code = b"AB1 ".to_vec();
@@ -151,6 +179,8 @@ pub fn largest() -> Case {
     pack.truncate(length);
     let mut case = Put::Pair(pair.table, pair.points, 5).into_case(fuzzed_case(1));
     (case.files.code, case.packs[0], case.point) = (code, pack, 5);
+    case = Put::Set(make::long_set(20_000), 5).into_case(case);
+    case.set.code = b"AB10".to_vec();
     case.room = length;
     (case.count, case.run_room) = (40, 40 * 499);
     case
