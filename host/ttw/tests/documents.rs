@@ -9,7 +9,7 @@ use std::process::Command;
 use support::pages::{blocks, documents, rows, text_of, Block};
 use support::{names_in, root, run, Folder, TTW};
 use ttw::ask::Refusal;
-use ttw::words::words;
+use ttw::words::{main_words, words};
 
 /// A folder in which a reader might stand: the repository's own places, `ttw`
 /// and the library installed. `rt` has proved everything before these tests
@@ -204,30 +204,37 @@ fn refusal(number: u8, file: u8, second: u64, detail: u64) -> Refusal {
     }
 }
 
+/// How a refusal is said: one of files or a pack, or one of a Mainfile set.
+type Words = fn(&Refusal, &str) -> String;
+
 /// Each message of docs/REFUSALS.md, as the command makes it.
 fn messages() -> Vec<String> {
-    let all = [
-        (refusal(1, 1, 0, 0), "files"),
-        (refusal(2, 1, 0, 1), "files"),
-        (refusal(3, 2, 0, 47), "files"),
-        (refusal(4, 2, 83, 12), "files"),
-        (refusal(5, 2, 0, 1204), "files"),
-        (refusal(6, 2, 0, 7), "files"),
-        (refusal(7, 0, 0, 0), "view 42"),
-        (refusal(7, 0, 0, 0), "AB1 number 0"),
-        (refusal(7, 0, 0, 0), "point 3"),
-        (refusal(8, 0, 0, 1), "view 37"),
-        (refusal(8, 0, 0, 2), "view 38"),
-        (refusal(8, 0, 0, 3), "view 39"),
-        (refusal(9, 0, 0, 1), "view 36"),
-        (refusal(9, 0, 35, 6), "code AB1"),
-        (refusal(10, 0, 0, 129), "AB1"),
-        (refusal(11, 0, 0, 1), "pack"),
-        (refusal(11, 0, 0, 2), "pack"),
-        (refusal(11, 0, 0, 3), "pack"),
-        (refusal(12, 0, 0, 0), "code ab1"),
+    let all: [(Words, Refusal, &str); 22] = [
+        (words, refusal(1, 1, 0, 0), "files"),
+        (main_words, refusal(1, 4, 0, 0), "files"),
+        (words, refusal(2, 1, 0, 1), "files"),
+        (words, refusal(3, 2, 0, 47), "files"),
+        (words, refusal(4, 2, 83, 12), "files"),
+        (words, refusal(5, 2, 0, 1204), "files"),
+        (words, refusal(6, 2, 0, 7), "files"),
+        (words, refusal(7, 0, 0, 0), "view 42"),
+        (words, refusal(7, 0, 0, 0), "AB1 number 0"),
+        (words, refusal(7, 0, 0, 0), "point 3"),
+        (words, refusal(8, 0, 0, 1), "view 37"),
+        (words, refusal(8, 0, 0, 2), "view 38"),
+        (words, refusal(8, 0, 0, 3), "view 39"),
+        (words, refusal(9, 0, 0, 1), "view 36"),
+        (words, refusal(9, 0, 35, 6), "code AB1"),
+        (main_words, refusal(9, 0, 0, 2), "view 40"),
+        (main_words, refusal(9, 0, 0, 8), "view 46"),
+        (words, refusal(10, 0, 0, 129), "AB1"),
+        (words, refusal(11, 0, 0, 1), "pack"),
+        (words, refusal(11, 0, 0, 2), "pack"),
+        (words, refusal(11, 0, 0, 3), "pack"),
+        (words, refusal(12, 0, 0, 0), "code ab1"),
     ];
-    all.map(|(why, subject)| words(&why, subject)).to_vec()
+    all.map(|(words, why, subject)| words(&why, subject))
+        .to_vec()
 }
 
 #[test]
