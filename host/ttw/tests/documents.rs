@@ -317,6 +317,31 @@ fn the_page_for_trainers_has_every_sample() {
     assert_eq!(shown, expected);
 }
 
+/// The labels of a listing, or their refusals, a slash between lines.
+fn listed(name: &str) -> Vec<String> {
+    let text = text_of(name);
+    let items = text.split("view ").skip(1);
+    let label = |item: &str| item.lines().skip(1).collect::<Vec<&str>>().join(" / ");
+    items.map(label).collect()
+}
+
+#[test]
+fn the_page_for_trainers_has_every_sample_of_a_set() {
+    let (of_a_pair, of_a_set) = (
+        listed("samples/labels.txt"),
+        listed("samples/main-labels.txt"),
+    );
+    assert_eq!(of_a_set[..26], of_a_pair[..26]);
+    let shown = rows(&text_of("docs/TRAINING.md"), "| address |");
+    assert!(shown.iter().all(|cells| !cells[2].is_empty()));
+    let shown: Vec<String> = shown.iter().map(|cells| cells[..2].join(" | ")).collect();
+    let views = of_a_set.iter().zip(1..).skip(26);
+    let expected: Vec<String> = views
+        .map(|(label, view)| format!("{view} | {label}"))
+        .collect();
+    assert_eq!(shown, expected);
+}
+
 #[test]
 fn each_landing_and_the_table_of_times_name_each_other() {
     let table = "docs/landings/TIMES.md";
