@@ -8,6 +8,8 @@ mod chunks;
 mod command;
 mod input;
 mod plain;
+mod plain_build;
+mod plain_fields;
 mod plain_files;
 mod plain_label;
 mod plain_pack;

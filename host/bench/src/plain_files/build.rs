@@ -1,20 +1,15 @@
 //! A pack cut from files.
 
-use super::check::{check_code, live_in, needed, number, views_in, Point, Row, MOST};
-use super::rows::{in_force, number_in, rows_by};
+use super::check::{live_in, needed, views_in, Point, Row, MOST};
+use super::rows::{in_force, rows_by};
 use super::Files;
-use crate::plain_label::{trimmed, Sheet};
+use crate::plain_build::{row_len, Area, Places, PointPlaces, ABSENT};
+use crate::plain_fields::{check_code, number};
+use crate::plain_label::Sheet;
 use paper::Refusal;
 
-/// The offset that means absent, and what marks a row as used.
-const ABSENT: u32 = u32::MAX;
-
-/// The bytes of a point and of the trailer.
-const POINT: usize = 57;
-const TRAILER: usize = 21;
-
 /// Where the texts of a row of each type stand.
-fn texts_of(row: &Row) -> &'static [(usize, usize)] {
+fn texts_of(row: &Row) -> Places {
     match row[0] {
         b'1' => &[(69, 99), (99, 134), (134, 169)],
         b'2' => &[(24, 84)],
@@ -25,25 +20,18 @@ fn texts_of(row: &Row) -> &'static [(usize, usize)] {
 }
 
 /// Where the texts of an organisation stand.
-const ORGANISATION: &[(usize, usize)] = &[(42, 102), (102, 162)];
+const ORGANISATION: Places = &[(42, 102), (102, 162)];
 
-fn row_len(record: &[u8], texts: &[(usize, usize)]) -> usize {
-    let lens = texts
-        .iter()
-        .map(|(start, end)| 1 + trimmed(&record[*start..*end]).len());
-    1 + lens.sum::<usize>()
-}
-
-impl Sheet<'_> {
-    fn row(&mut self, kind: u8, record: &[u8], texts: &[(usize, usize)]) {
-        self.byte(kind);
-        for (start, end) in texts {
-            let text = trimmed(&record[*start..*end]);
-            self.byte(text.len() as u8);
-            self.put(text);
-        }
-    }
-}
+/// Where a point's fields stand in a view.
+const POINT: PointPlaces = PointPlaces {
+    postcode: 14,
+    postcode_type: 23,
+    address_key: 24,
+    organisation_key: 32,
+    number: 82,
+    concatenation: 106,
+    po_box: 107,
+};
 
 /// The names of the rows as numbers, and where each used row starts: one place
 /// for each record.
@@ -78,20 +66,9 @@ impl Index {
     }
 }
 
-/// What is written before the points: the rows and their bytes.
-struct Area {
-    rows: usize,
-    bytes: usize,
-    points: usize,
-}
-
 /// Marks the rows of the views of a code; or the first 8 or 9, with its view.
 fn mark(index: &mut Index, rows: &[Row], points: &[Point], code: &[u8]) -> Result<Area, Refusal> {
-    let mut area = Area {
-        rows: 0,
-        bytes: 0,
-        points: 0,
-    };
+    let mut area = Area::default();
     for place in live_in(points, code) {
         let view = &points[place];
         let found = index.rows_of(rows, view).map_err(|refusal| Refusal {
@@ -123,19 +100,6 @@ fn place(index: &mut Index, rows: &[Row], area: &mut Area) -> usize {
     at
 }
 
-fn put_point(sheet: &mut Sheet, view: &Point, offsets: [u32; 8]) {
-    sheet.put(&view[14..21]);
-    sheet.put(&view[23..24]);
-    sheet.four(number(&view[24..32]) as u32);
-    sheet.four(number(&view[32..40]) as u32);
-    sheet.put(&number_in(view).to_be_bytes());
-    sheet.put(&view[106..107]);
-    sheet.put(&view[107..113]);
-    for offset in offsets {
-        sheet.four(offset);
-    }
-}
-
 /// Writes rows, points and trailer.
 fn write(
     index: &Index,
@@ -163,15 +127,9 @@ fn write(
             offsets[7] = organisation as u32;
             organisation += row_len(&points[place + 1], ORGANISATION);
         }
-        put_point(sheet, view, offsets);
+        sheet.point(&POINT, view, offsets);
     }
-    let length = sheet.at + TRAILER;
-    sheet.four(area.rows as u32);
-    sheet.four(area.bytes as u32);
-    sheet.four(area.points as u32);
-    sheet.put(code);
-    sheet.four(length as u32);
-    sheet.byte(1);
+    area.put_trailer(code, sheet);
     Ok(())
 }
 
@@ -183,7 +141,7 @@ impl Files<'_> {
         let mut index = Index::new(rows);
         let mut area = mark(&mut index, rows, points, code)?;
         place(&mut index, rows, &mut area);
-        let length = area.bytes + POINT * area.points + TRAILER;
+        let length = area.length();
         if out.len() < length {
             return Err(Refusal::new(10, length as u64));
         }

@@ -1,6 +1,9 @@
 //! Whether a file is accepted, in one pass over its records.
 
-use crate::chunks::chunks;
+use crate::plain_fields::{
+    all, begins, blank, check_code, digits, filled, is_digit, is_mark, is_one, optional, refused,
+    text, Frame, AMENDMENT, INWARD,
+};
 use crate::plain_label::from;
 use paper::fields::outward_fault;
 use paper::Refusal;
@@ -12,113 +15,29 @@ pub type Point = [u8; 168];
 /// The most records of a file.
 pub const MOST: usize = 20_000;
 
-/// The places A to Z of letters, a bit for each.
-const fn letters(allowed: &[u8]) -> u32 {
-    let (mut bits, mut i) = (0, 0);
-    while i < allowed.len() {
-        bits |= 1 << (allowed[i] - b'A');
-        i += 1;
+const fn frame(mark: usize, name: &'static [u8; 8]) -> Frame {
+    Frame {
+        most: MOST,
+        mark,
+        digits: 0,
+        name,
     }
-    bits
-}
-
-const INWARD: u32 = letters(b"ABDEFGHJLNPQRSTUWXYZ");
-const AMENDMENT: u32 = letters(b"BCDI");
-
-/// Whether a byte is one of these letters.
-fn is_one(byte: u8, allowed: u32) -> bool {
-    let place = byte.wrapping_sub(b'A');
-    (place < 26) & (allowed >> (place & 31) & 1 == 1)
-}
-
-fn is_digit(byte: u8) -> bool {
-    byte.wrapping_sub(b'0') < 10
-}
-
-/// Whether all bytes pass a test. No byte ends the loop.
-fn all(bytes: &[u8], test: impl Fn(u8) -> bool) -> bool {
-    bytes.iter().fold(true, |all, byte| all & test(*byte))
-}
-
-fn digits(bytes: &[u8]) -> bool {
-    all(bytes, is_digit)
-}
-
-fn blank(bytes: &[u8]) -> bool {
-    all(bytes, |byte| byte == b' ')
-}
-
-/// Whether all bytes may stand in a text.
-fn text(bytes: &[u8]) -> bool {
-    all(bytes, |byte| {
-        (byte.wrapping_sub(32) < 95) & (byte.wrapping_sub(b'a') > 25)
-    })
-}
-
-/// Whether a text that may not be blank is well formed.
-fn filled(bytes: &[u8]) -> bool {
-    text(bytes) & (bytes[0] != b' ')
-}
-
-/// Whether a text that may be blank is well formed.
-fn optional(bytes: &[u8]) -> bool {
-    text(bytes) & ((bytes[0] != b' ') | blank(bytes))
-}
-
-fn is_mark(byte: u8) -> bool {
-    (byte == b'Y') | (byte == b' ')
-}
-
-/// The records of a file, where header and trailer are as they must be.
-fn framed<'a, const WIDTH: usize>(
-    file: &'a [u8],
-    front: usize,
-    name: &[u8],
-) -> Option<&'a [[u8; WIDTH]]> {
-    let (records, rest) = chunks(file);
-    let [first, .., last] = records else {
-        return None;
-    };
-    let identified = |record: &[u8; WIDTH], byte: u8| {
-        let identifier = &record[..front];
-        all(identifier, |other| other == byte) | blank(identifier)
-    };
-    let count = &last[front..front + 8];
-    let framed = rest.is_empty()
-        && records.len() <= MOST
-        && identified(first, 0)
-        && first[front..front + 8] == *name
-        && identified(last, 255)
-        && digits(count)
-        && number(count) == records.len() as u64;
-    framed.then_some(records)
-}
-
-/// The number that digits say.
-pub fn number(digits: &[u8]) -> u64 {
-    digits.iter().fold(0, |number, digit| {
-        number * 10 + u64::from(digit.wrapping_sub(b'0'))
-    })
 }
 
 /// The records of a table file, or its first refusal.
 pub fn table_records(table: &[u8]) -> Result<&[Row], Refusal> {
-    let accepted = framed(table, 9, b"CHANGES1").filter(|records| are_rows(records));
+    let accepted = frame(9, b"CHANGES1")
+        .records(table)
+        .filter(|records| are_rows(records));
     accepted.map_or_else(|| refused(paper::check_table(table)), Ok)
 }
 
 /// The records of a point file, or its first refusal.
 pub fn point_records(points: &[u8]) -> Result<&[Point], Refusal> {
-    let accepted = framed(points, 14, b"CHANGES2").filter(|records| are_points(records));
+    let accepted = frame(14, b"CHANGES2")
+        .records(points)
+        .filter(|records| are_points(records));
     accepted.map_or_else(|| refused(paper::check_points(points)), Ok)
-}
-
-/// The refusal of a file that is not accepted.
-fn refused<T>(answer: Result<usize, Refusal>) -> Result<T, Refusal> {
-    match answer {
-        Err(refusal) => Err(refusal),
-        Ok(_) => panic!("one of the two is wrong about a file"),
-    }
 }
 
 pub fn check_table(table: &[u8]) -> Result<usize, Refusal> {
@@ -156,11 +75,6 @@ fn is_locality(row: &Row) -> bool {
     let (dependent, double) = (&row[99..134], &row[134..]);
     let alone = blank(dependent) & !blank(double);
     text(&row[69..]) & (row[69] != b' ') & begins(dependent) & begins(double) & !alone
-}
-
-/// Whether a text of such bytes is blank or begins with none.
-fn begins(bytes: &[u8]) -> bool {
-    (bytes[0] != b' ') | blank(bytes)
 }
 
 /// Whether the records between header and trailer are points that rise, each
@@ -240,14 +154,6 @@ pub fn is_live(view: &Point) -> bool {
 /// Whether a view is live and of that code.
 pub fn is_live_of(view: &Point, code: &[u8]) -> bool {
     (view[14..18] == *code) & is_live(view)
-}
-
-/// A malformed code is refused with 12.
-pub fn check_code(code: &[u8]) -> Result<(), Refusal> {
-    match outward_fault(code) {
-        0 => Ok(()),
-        _ => Err(Refusal::new(12, 0)),
-    }
 }
 
 pub fn views(points: &[u8]) -> Result<usize, Refusal> {

@@ -1,8 +1,9 @@
 //! Labels and listings printed from files.
 
-use super::check::{check_code, is_live_of, needed, views_in};
+use super::check::{is_live_of, needed, views_in};
 use super::rows::{number_in, rows_of};
 use super::Files;
+use crate::plain_fields::check_code;
 use crate::plain_label::{from, item, label, only, run, trimmed, Sheet};
 use paper::{Elements, Refusal, Run};
 

@@ -17,6 +17,7 @@ mod tests;
 
 pub use check::{check_points, check_table, letter, live, views};
 pub use codes::codes;
+pub use rows::forbidden;
 
 use check::{point_records, table_records, Point, Row};
 use paper::Refusal;

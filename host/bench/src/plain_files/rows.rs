@@ -1,6 +1,7 @@
 //! The rows that a view refers to, found by halves, and refusals 8 and 9.
 
-use super::check::{number, Point, Row};
+use super::check::{Point, Row};
+use crate::plain_fields::number;
 use paper::Refusal;
 
 /// Where the keys of a view start, and the types of the rows that they name.
@@ -33,7 +34,7 @@ pub fn number_in(view: &Point) -> u16 {
 }
 
 /// Refusal 8 of a view: which keys it has decides.
-fn forbidden(given: [bool; 7], numbered: bool) -> u64 {
+pub fn forbidden(given: [bool; 7], numbered: bool) -> u64 {
     let [_, street, descriptor, dependent, second, name, sub] = given;
     if sub & !(name | numbered) {
         1
