@@ -1,7 +1,7 @@
 //! Times each exported call beside the same call of a plain version, on the same
 //! input and in the same run, and prints one table. Then runs and listings over
-//! whole files and packs, the command over a whole file, and the pack's size beside
-//! a database of the same rows.
+//! whole files and packs, the command over a whole file, the pack's size beside a
+//! database of the same rows, and each call on a Mainfile set of full length.
 
 mod asked;
 mod chunks;
@@ -12,8 +12,10 @@ mod plain_build;
 mod plain_fields;
 mod plain_files;
 mod plain_label;
+mod plain_main;
 mod plain_pack;
 mod same;
+mod sets;
 mod sqlite;
 
 use asked::{Call, Question};
@@ -65,9 +67,9 @@ fn timed(work: impl FnOnce() -> u64) -> f64 {
 
 /// Times these by turns: the least of each in microseconds, since whatever else the
 /// machine does only adds to it.
-fn by_turns<const N: usize>(mut all: [&mut dyn FnMut() -> u64; N]) -> [f64; N] {
+fn by_turns<const N: usize>(runs: usize, mut all: [&mut dyn FnMut() -> u64; N]) -> [f64; N] {
     let mut least = [f64::INFINITY; N];
-    for _ in 0..RUNS {
+    for _ in 0..runs {
         for (least, work) in least.iter_mut().zip(&mut all) {
             *least = least.min(timed(work));
         }
@@ -88,14 +90,17 @@ fn times(call: &Call, input: &Input) -> Times {
         |room, bytes| ask(call.plain, room, bytes),
     );
     let mut other = room.clone();
-    let [library, plain, bare] = by_turns([
-        &mut || ask(call.library, &mut room, &mut 0),
-        &mut || ask(call.plain, &mut other, &mut 0),
-        &mut || {
-            let file = call.pass.map_or(&[][..], |pass| (pass.file)(input));
-            bare_pass(black_box(file))
-        },
-    ]);
+    let [library, plain, bare] = by_turns(
+        RUNS,
+        [
+            &mut || ask(call.library, &mut room, &mut 0),
+            &mut || ask(call.plain, &mut other, &mut 0),
+            &mut || {
+                let file = call.pass.map_or(&[][..], |pass| (pass.file)(input));
+                bare_pass(black_box(file))
+            },
+        ],
+    );
     Times {
         library,
         plain,
@@ -130,9 +135,9 @@ fn print_call(call: &Call, inputs: &[Input]) {
 }
 
 /// One run or listing over so many labels: the time of both sides, and what a label
-/// costs beyond a run of none, which is the check.
+/// costs beyond a run of none, which is the check. So often it is timed, and so many times the plain version it may take.
 fn print_whole(
-    what: &str,
+    (what, runs, most): (&str, usize, f64),
     count: u64,
     library: impl Fn(u64, &mut [u8], &mut u64) -> u64,
     plain: impl Fn(u64, &mut [u8], &mut u64) -> u64,
@@ -145,16 +150,19 @@ fn print_whole(
         |room, bytes| plain(count, room, bytes),
     );
     let mut other = room.clone();
-    let [ours, theirs, check, other_check] = by_turns([
-        &mut || library(count, &mut room, &mut 0),
-        &mut || plain(count, &mut other, &mut 0),
-        &mut || library(0, &mut [], &mut 0),
-        &mut || plain(0, &mut [], &mut 0),
-    ]);
+    let [ours, theirs, check, other_check] = by_turns(
+        runs,
+        [
+            &mut || library(count, &mut room, &mut 0),
+            &mut || plain(count, &mut other, &mut 0),
+            &mut || library(0, &mut [], &mut 0),
+            &mut || plain(0, &mut [], &mut 0),
+        ],
+    );
     let each = |whole: f64, check: f64| (whole - check) * 1e3 / count as f64;
     println!(
         "{what}, {count}: {ours:.0} beside {theirs:.0}, ratio {}; beyond the check {:.0} ns each beside {:.0}",
-        barred(ours / theirs, MOST_RATIO),
+        barred(ours / theirs, most),
         each(ours, check),
         each(theirs, other_check)
     );
@@ -176,7 +184,12 @@ fn print_whole_pair(what: &str, pair: &Pair) {
             }
         };
         let what = format!("{name}, {what}");
-        print_whole(&what, pair.views.len() as u64, ask(library), ask(plain));
+        print_whole(
+            (&what, RUNS, MOST_RATIO),
+            pair.views.len() as u64,
+            ask(library),
+            ask(plain),
+        );
     }
 }
 
@@ -197,7 +210,12 @@ fn print_whole_pack(
             move |count, room: &mut [u8], bytes: &mut u64| run(pack, 1, count, room, bytes)
         };
         let what = format!("{name}, its pack");
-        print_whole(&what, *last_point, ask(library), ask(plain));
+        print_whole(
+            (&what, RUNS, MOST_RATIO),
+            *last_point,
+            ask(library),
+            ask(plain),
+        );
     }
 }
 
@@ -217,7 +235,7 @@ fn print_hard_packs() {
         let mut library = || calls::pack(black_box(&pack));
         let mut plain = || plain::pack(black_box(&pack));
         assert_eq!(library(), plain(), "{what}");
-        let [ours, theirs] = by_turns([&mut library, &mut plain]);
+        let [ours, theirs] = by_turns(RUNS, [&mut library, &mut plain]);
         let ratio = barred(ours / theirs, MOST_RATIO);
         println!("ttw_pack, {what}: {ours:.0} beside {theirs:.0}, ratio {ratio}");
     }
@@ -234,11 +252,14 @@ fn print_many_codes() {
         |room, _| plain::codes(&points, room),
     );
     let mut other = room.clone();
-    let [ours, theirs, check] = by_turns([
-        &mut || calls::codes(black_box(&points), &mut room),
-        &mut || plain::codes(black_box(&points), &mut other),
-        &mut || calls::points(black_box(&points)),
-    ]);
+    let [ours, theirs, check] = by_turns(
+        RUNS,
+        [
+            &mut || calls::codes(black_box(&points), &mut room),
+            &mut || plain::codes(black_box(&points), &mut other),
+            &mut || calls::points(black_box(&points)),
+        ],
+    );
     println!(
         "ttw_codes, every view another code: {ours:.0} beside {theirs:.0}, ratio {}; {} times the check, bar {MOST_CODES:.0}",
         barred(ours / theirs, MOST_RATIO),
@@ -302,4 +323,5 @@ fn main() {
     command::print_labels(&largest.pair);
     print_every_code();
     print_sizes(&inputs);
+    sets::print_all();
 }

@@ -6,7 +6,7 @@ use crate::plain_pack::Pack;
 use paper::{packed, packed_run, Refusal};
 
 /// An answer as the one number that the library answers.
-fn answer(answer: Result<usize, Refusal>) -> u64 {
+pub fn answer(answer: Result<usize, Refusal>) -> u64 {
     packed(answer.map(|value| value as u64))
 }
 
