@@ -13,8 +13,9 @@ use std::time::{Duration, Instant};
 /// quadratic one would.
 const LONGEST: Duration = Duration::from_secs(2);
 
-/// The same for files of a Mainfile set.
-const LONGEST_MAIN: Duration = Duration::from_secs(5);
+/// The same for files of a Mainfile set, of which a run took 12 s under an
+/// emulator on a machine that had other work.
+const LONGEST_MAIN: Duration = Duration::from_secs(30);
 
 fn timed<T>(name: &str, call: impl FnOnce() -> T) -> T {
     timed_within(LONGEST, name, call)
