@@ -8,8 +8,8 @@
  *
  * Stack: a call on files takes less than 2,048 bytes, labels and listings from files less than 4,096, opening a pack,
  * labels or listings from a pack less than 80 KiB, building a pack or listing codes less than 192 KiB. A call on a Mainfile
- * set takes what that call on a pair of files does, but building a pack from a set takes less than 1 MiB. A thread that
- * makes such a call needs its stack sized for that.
+ * set takes what that call on a pair of files does, but labels and listings from a set take less than 6,144 bytes, and
+ * building a pack from a set takes less than 1 MiB. A thread that makes such a call needs its stack sized for that.
  *
  * Each call answers one number. Take it apart with the macros below and never compare whole words: later calls fill bits
  * that are 0 today.

@@ -35,8 +35,10 @@ const LABELS: u64 = 4_096;
 const PACKS: u64 = 80 << 10;
 /// building a pack or listing codes less than this.
 const BUILDING: u64 = 192 << 10;
-/// Building a pack from a Mainfile set takes less than this, any other call on a
-/// set what that call on a pair of files does.
+/// Labels and listings from a Mainfile set take less than this,
+const LABELS_FROM_A_SET: u64 = 6_144;
+/// building a pack from a set less than this, any other call on a set what that
+/// call on a pair of files does.
 const BUILDING_FROM_A_SET: u64 = 1 << 20;
 
 pub const CALLS: [Call; 27] = [
@@ -180,19 +182,19 @@ pub const CALLS: [Call; 27] = [
     },
     Call {
         name: "ttw_main_label",
-        stack: LABELS,
+        stack: LABELS_FROM_A_SET,
         lend: |case| lent(&set(case), &[case.set.view], &[case.room]),
         plain: |r, n, w| count(mainfile::label(set_of(r), n[0], &mut w[0])),
     },
     Call {
         name: "ttw_main_code_label",
-        stack: LABELS,
+        stack: LABELS_FROM_A_SET,
         lend: |case| lent(&set_and_code(case), &[case.set.nth], &[case.room]),
         plain: |r, n, w| count(mainfile::code_label(set_of(r), &r[7], n[0], &mut w[0])),
     },
     Call {
         name: "ttw_main_labels",
-        stack: LABELS,
+        stack: LABELS_FROM_A_SET,
         lend: |case| lent_to_run(&set(case), case.set.view, case),
         plain: |r, n, w| {
             let run = mainfile::labels(set_of(r), n[0], n[1], &mut w[0]);
@@ -201,7 +203,7 @@ pub const CALLS: [Call; 27] = [
     },
     Call {
         name: "ttw_main_code_labels",
-        stack: LABELS,
+        stack: LABELS_FROM_A_SET,
         lend: |case| lent_to_run(&set_and_code(case), case.set.nth, case),
         plain: |r, n, w| {
             let run = mainfile::code_labels(set_of(r), &r[7], n[0], n[1], &mut w[0]);
@@ -210,7 +212,7 @@ pub const CALLS: [Call; 27] = [
     },
     Call {
         name: "ttw_main_list",
-        stack: LABELS,
+        stack: LABELS_FROM_A_SET,
         lend: |case| lent_to_run(&set(case), case.set.view, case),
         plain: |r, n, w| {
             let list = mainfile::list(set_of(r), n[0], n[1], &mut w[0]);
@@ -219,7 +221,7 @@ pub const CALLS: [Call; 27] = [
     },
     Call {
         name: "ttw_main_code_list",
-        stack: LABELS,
+        stack: LABELS_FROM_A_SET,
         lend: |case| lent_to_run(&set_and_code(case), case.set.nth, case),
         plain: |r, n, w| {
             let list = mainfile::code_list(set_of(r), &r[7], n[0], n[1], &mut w[0]);

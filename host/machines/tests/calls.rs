@@ -42,6 +42,7 @@ fn the_header_says_how_much_stack_a_call_may_take() {
         "labels and listings from files less than 4,096",
         "opening a pack, labels or listings from a pack less than 80 KiB",
         "building a pack or listing codes less than 192 KiB",
+        "labels and listings from a set take less than 6,144 bytes",
         "building a pack from a set takes less than 1 MiB",
     ] {
         assert!(said.contains(promise), "{promise}");
@@ -49,5 +50,5 @@ fn the_header_says_how_much_stack_a_call_may_take() {
     let mut allowed: Vec<u64> = CALLS.iter().map(|call| call.stack).collect();
     allowed.sort();
     allowed.dedup();
-    assert_eq!(allowed, [2_048, 4_096, 80 << 10, 192 << 10, 1 << 20]);
+    assert_eq!(allowed, [2_048, 4_096, 6_144, 80 << 10, 192 << 10, 1 << 20]);
 }
