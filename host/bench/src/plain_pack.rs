@@ -337,7 +337,7 @@ mod tests {
     #[test]
     fn scratched_packs() {
         let mut rng = Rng::new(37);
-        for n in 0..3_000 {
+        for n in 0..1_000 {
             let mut pack = pack_draft(&mut rng, 5).bytes();
             scratch(&mut rng, &mut pack);
             compare(&pack, &format!("pack {n}"));

@@ -27,9 +27,9 @@ impl Folder {
         self.compiled(name, "cc", &["-std=c11"])
     }
 
-    /// The same, compiled as C++; none where there is no such compiler.
+    /// The same, compiled as C++; none where no such compiler is there for the machine that `cc` compiles for.
     pub fn cpp_program(&self, name: &str) -> Option<Command> {
-        let there = Command::new("c++").arg("--version").output().is_ok();
+        let there = machine_of("c++").is_some_and(|machine| machine_of("cc") == Some(machine));
         there.then(|| self.compiled(name, "c++", &["-x", "c++", "-std=c++11"]))
     }
 
@@ -56,6 +56,12 @@ impl Drop for Folder {
         // A folder that stays behind is no reason to fail.
         let _ = fs::remove_dir_all(&self.0);
     }
+}
+
+/// The machine that a compiler compiles for; none where there is no such compiler.
+fn machine_of(compiler: &str) -> Option<Vec<u8>> {
+    let output = Command::new(compiler).arg("-dumpmachine").output().ok()?;
+    Some(output.stdout)
 }
 
 /// What a command printed; it has to end well and to print no error.

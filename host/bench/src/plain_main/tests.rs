@@ -7,7 +7,7 @@ use paper::make::{damaged_main, main_set, scratch, MainSet, Place, Rng};
 use ttw::main_calls;
 
 /// How many random sets, and how many files of each kind of damage.
-const SETS: u64 = 60;
+const SETS: u64 = 20;
 const DAMAGED: usize = 5;
 
 /// Asks both for the same, in buffers of several lengths.
