@@ -80,8 +80,9 @@ fn a_run_over_the_largest_files_takes_milliseconds() {
 }
 
 #[test]
-fn each_file_of_a_mainfile_set_is_accepted_at_its_limit() {
-    for file in 1..=7 {
+fn files_of_a_mainfile_set_are_accepted_at_their_limit() {
+    // One of each shape: localities, descriptors, organisations, addresses.
+    for file in [1, 3, 6, 7] {
         let bytes = long_file(file, 1_000_000);
         let index = usize::from(file) - 1;
         let mut set = Set::default();
