@@ -29,8 +29,8 @@ fn place_kind(file: &[u8], kind: u8, bits: &[u32], blocks: &mut [u32], start: us
     place_rows(file, row_shelf(kind), bits, blocks, start)
 }
 
-// Gives each block of the five files its start, were all marked rows written one after the other. Bits and blocks are named by
-// the first letter of their file.
+// Gives each block of the five files its start, were all marked rows written one after the other. Bits and blocks are named
+// by the first letter of their file.
 pub fn place_set(
     localities: &[u8],
     thoroughfares: &[u8],
@@ -62,8 +62,8 @@ pub fn place_set(
         (setMarks (rowFiles (now (localities .entry)) (now (thoroughfares .entry)) (now (descriptors .entry))
         (now (buildings .entry)) (now («sub_buildings» .entry))) (now («l_bits» .entry)) (now («t_bits» .entry))
         (now («d_bits» .entry)) (now («b_bits» .entry)) (now («s_bits» .entry))) ⌝ }
-    ensures placed { λ r. ⌜ SetBlocks (rowFiles (now (localities .entry)) (now (thoroughfares .entry)) (now (descriptors .entry))
-        (now (buildings .entry)) (now («sub_buildings» .entry)))
+    ensures placed { λ r. ⌜ SetBlocks (rowFiles (now (localities .entry)) (now (thoroughfares .entry))
+        (now (descriptors .entry)) (now (buildings .entry)) (now («sub_buildings» .entry)))
         (now («l_bits» .entry)) (now («t_bits» .entry)) (now («d_bits» .entry)) (now («b_bits» .entry))
         (now («s_bits» .entry)) (now («l_blocks» .exit)) (now («t_blocks» .exit)) (now («d_blocks» .exit))
         (now («b_blocks» .exit)) (now («s_blocks» .exit)) ⌝ }
