@@ -17,7 +17,8 @@ const ROOM: u8 = 10;
 pub struct Refusal {
     /// 1 to 12.
     pub number: u8,
-    /// The file to blame: 1 the table file, 2 the point file, 0 no file.
+    /// The file to blame: 1 the table file, 2 the point file; of a set 1 to 7;
+    /// 0 no file.
     pub file: u8,
     /// The byte of a malformed record; the view, where building a pack is
     /// refused because of one; the labels before, where a run stops.
@@ -106,19 +107,7 @@ pub fn code_label(table: &[u8], points: &[u8], code: &[u8], k: u64) -> Result<Ve
 /// is too short, so that no bound has to be known here; `likely` spares that
 /// round where it is long enough.
 pub fn build(table: &[u8], points: &[u8], code: &[u8], likely: usize) -> Result<Vec<u8>, Refusal> {
-    let mut out = vec![0; likely];
-    let mut built = answer(calls::build(table, points, code, &mut out));
-    if let Err(Refusal {
-        number: ROOM,
-        detail,
-        ..
-    }) = built
-    {
-        out.resize(detail as usize, 0);
-        built = answer(calls::build(table, points, code, &mut out));
-    }
-    out.truncate(built? as usize);
-    Ok(out)
+    fitting(likely, |out| calls::build(table, points, code, out))
 }
 
 /// How many points a pack has.
@@ -173,7 +162,7 @@ runs! {
 
 /// What a run's answer says, or a listing's: a label's own refusal stops it, any other refuses
 /// the whole.
-fn run(call: impl FnOnce(&mut u64) -> u64) -> Result<Run, Refusal> {
+pub(crate) fn run(call: impl FnOnce(&mut u64) -> u64) -> Result<Run, Refusal> {
     let mut bytes = 0;
     let (labels, stop) = match answer(call(&mut bytes)) {
         Ok(labels) => (labels, None),
@@ -189,8 +178,26 @@ fn run(call: impl FnOnce(&mut u64) -> u64) -> Result<Run, Refusal> {
     })
 }
 
+/// What a call writes that answers with its length. How much room it needs is
+/// learnt from its refusal.
+pub(crate) fn fitting(likely: usize, call: impl Fn(&mut [u8]) -> u64) -> Result<Vec<u8>, Refusal> {
+    let mut out = vec![0; likely];
+    let mut written = answer(call(&mut out));
+    if let Err(Refusal {
+        number: ROOM,
+        detail,
+        ..
+    }) = written
+    {
+        out.resize(detail as usize, 0);
+        written = answer(call(&mut out));
+    }
+    out.truncate(written? as usize);
+    Ok(out)
+}
+
 /// The label that a call prints into a fresh buffer.
-fn printed(call: impl FnOnce(&mut [u8]) -> u64) -> Result<Vec<u8>, Refusal> {
+pub(crate) fn printed(call: impl FnOnce(&mut [u8]) -> u64) -> Result<Vec<u8>, Refusal> {
     let mut out = vec![0; LABEL];
     let length = answer(call(&mut out))?;
     out.truncate(length as usize);

@@ -1,12 +1,8 @@
 //! The calls on a Mainfile set with their answers taken apart: a value, or a
 //! refusal.
 
-use crate::ask::{answer, Refusal, Run, LABEL, NO_SUCH};
+use crate::ask::{answer, fitting, printed, run, Refusal, Run};
 use crate::main_calls::{self, Set, FILES};
-
-/// The refusal of a lent buffer that is too short; its detail is the bytes
-/// needed.
-const ROOM: u8 = 10;
 
 /// Where the address file stands in a set.
 const ADDRESSES: usize = FILES - 1;
@@ -90,48 +86,4 @@ impl MainSet<'_> {
     pub fn build(&self, code: &[u8], likely: usize) -> Result<Vec<u8>, Refusal> {
         fitting(likely, |out| main_calls::build(self.0, code, out))
     }
-}
-
-/// What a call writes that answers with its length. How much room it needs is
-/// learnt from its refusal.
-fn fitting(likely: usize, call: impl Fn(&mut [u8]) -> u64) -> Result<Vec<u8>, Refusal> {
-    let mut out = vec![0; likely];
-    let mut written = answer(call(&mut out));
-    if let Err(Refusal {
-        number: ROOM,
-        detail,
-        ..
-    }) = written
-    {
-        out.resize(detail as usize, 0);
-        written = answer(call(&mut out));
-    }
-    out.truncate(written? as usize);
-    Ok(out)
-}
-
-/// The label that a call prints into a fresh buffer.
-fn printed(call: impl FnOnce(&mut [u8]) -> u64) -> Result<Vec<u8>, Refusal> {
-    let mut out = vec![0; LABEL];
-    let length = answer(call(&mut out))?;
-    out.truncate(length as usize);
-    Ok(out)
-}
-
-/// What a run's answer says, or a listing's: a label's own refusal stops it, any
-/// other refuses the whole.
-fn run(call: impl FnOnce(&mut u64) -> u64) -> Result<Run, Refusal> {
-    let mut bytes = 0;
-    let (labels, stop) = match answer(call(&mut bytes)) {
-        Ok(labels) => (labels, None),
-        Err(why) if (NO_SUCH..=ROOM).contains(&why.number) => {
-            (why.second, Some(Refusal { second: 0, ..why }))
-        }
-        Err(why) => return Err(why),
-    };
-    Ok(Run {
-        labels,
-        bytes: bytes as usize,
-        stop,
-    })
 }
