@@ -45,31 +45,38 @@ fn what_is_here_is_what_is_wanted() {
 }
 
 #[test]
-fn the_logic_has_to_be_that_one_and_the_kit_may_be_another() {
-    let logic = pin("logic");
+fn the_logic_has_to_be_one_of_those_and_the_kit_may_be_another() {
+    let pinned = pin("logics");
+    let logics: Vec<&str> = pinned.split(' ').collect();
+    assert!(logics.iter().all(|logic| logic.len() == 16), "{logics:?}");
     let rust = format!("rustc {}.0 (a date)", pin("rust-version"));
-    let right = |kit: &str| format!("{kit} logic {logic}");
+    let right = |kit: &str, logic: &str| format!("{kit} logic {logic}");
     for kit in ["rattle-kit-5", "rattle-kit-5b", "rattle-kit-99"] {
-        let run = compared(Some(&right(kit)), Some(&rust));
-        assert_eq!((run.status, run.told.as_str()), (Some(0), ""), "{kit}");
+        for logic in &logics {
+            let run = compared(Some(&right(kit, logic)), Some(&rust));
+            assert_eq!((run.status, run.told.as_str()), (Some(0), ""), "{kit}");
+        }
     }
-    let longer = format!("{}f", right("rattle-kit-5b"));
+    let wanted = format!("wanted is logic {} ({PINS})", logics.join(" or "));
+    let longer = format!("{}f", right("rattle-kit-5b", logics[0]));
     for kit in [
         "rattle-kit-5b logic 0123456789abcdef",
         &longer,
+        &right("rattle-kit-5b", &pinned),
         "rattle-kit-5b",
     ] {
-        let told = format!("Rattle: here is {kit}, wanted is logic {logic} ({PINS})");
+        let told = format!("Rattle: here is {kit}, {wanted}");
         compared(Some(kit), Some(&rust)).only_tells(1, &told);
     }
-    let none = "no rt that says its version";
-    let told = format!("Rattle: here is {none}, wanted is logic {logic} ({PINS})");
+    let told = format!("Rattle: here is no rt that says its version, {wanted}");
     compared(None, Some(&rust)).only_tells(1, &told);
 }
 
 #[test]
 fn an_older_rust_is_told_and_a_later_one_will_do() {
-    let kit = format!("rattle-kit-5b logic {}", pin("logic"));
+    let logics = pin("logics");
+    let logic = logics.split(' ').next().expect("a logic");
+    let kit = format!("rattle-kit-5b logic {logic}");
     let least = pin("rust-version");
     let minor: u32 = least["1.".len()..].parse().expect("1 and a number");
     let wanted = format!("wanted is rustc {least} or later ({PINS})");

@@ -191,7 +191,7 @@ fn something_is_said_where_it_takes_a_while_all_the_same() {
     folder.put("slow", b"");
     let run = prove(
         &folder,
-        "sed -i 's/sleep 2.5/sleep 4/' rt; scripts/prove top",
+        "sed -i 's/^patience=.*/patience=1/' scripts/prove; scripts/prove top",
     );
     let lines: Vec<&str> = run.told.lines().collect();
     let first = "Looking whether 3 crates are still proved, less than a minute where all ";
