@@ -49,10 +49,14 @@ numbersIn p =
 abbrev pub plainIn : List ℕ → DeliveryPoint → List ℕ
 plainIn own p = numbersIn p ++ (markOf (p .concatenation) ∷ part own (p .«po_box») (p .«po_box» + 6))
 
--- a point, behind "postcode 7": the offsets of its keys' rows, and its organisation's row, which stands at `at` if it has one
+-- "postcode 7", and "the suffix standing after the postcode"
+abbrev pub frontIn : List ℕ → DeliveryPoint → List ℕ
+frontIn own p = part own (p .postcode) (p .postcode + 7) ++ part own (p .suffix) (p .suffix + 2)
+
+-- a point, behind postcode and suffix: the offsets of its keys' rows, and its organisation's row, which stands at `at` if it has one
 unfoldable pub pointWith : (own : List ℕ) → DeliveryPoint → (offsets : List ℕ) → ℕ → List ℕ
 pointWith own p offsets at =
-    part own (p .postcode) (p .postcode + 7)
+    frontIn own p
     ++ (plainIn own p ++ (offsetBytes offsets ++ bytesOf 4 (organisationOffset p at)))
 
 -- the same by the starts of the rows

@@ -21,7 +21,7 @@ use Rattle.pack.specs.Layout.{Entry, organisationEntries, keyRefs, organisation
 use Rattle.pack_carries.specs.Used.{refersIn, refers}
 use Rattle.pack_carries.proofs.Rows.{and-both}
 use Rattle.build.specs.Plan.{Packed, rowsOf, organisationRow}
-use Rattle.build.specs.Bytes.{offsetsFor, offsetBytes, plainIn, pointWith, pointsIn}
+use Rattle.build.specs.Bytes.{offsetsFor, offsetBytes, frontIn, plainIn, pointWith, pointsIn}
 use Rattle.build_exact.specs.Started.{AllSay, none-says, one-says, Rising}
 use Rattle.build_exact.proofs.Orders.{or-left, or-right}
 use Rattle.build_exact.proofs.Organisations.{Standing, organisation-ref, stand-on}
@@ -38,6 +38,12 @@ module _ {own others : List ℕ} {p : DeliveryPoint} {a : Address} (s : Says own
       sym
       (rw (whole, take-add 4 3 (drop at own), drop-drop 4 at own)
       (ap₂ _++_ (rw first at (s .outward)) (rw second at (s .inward))))
+
+  -- and the suffix stands behind it, whatever follows
+  front-is : (more : List ℕ) → postcodeOf a ++ (a .suffix ++ more) ≡ frontIn own p ++ more
+  front-is more =
+      ap₂ (λ l m. l ++ (m ++ more)) postcode-is (sym (s .suffix))
+      ∙ sym (append-assoc (part own (p .postcode) (p .postcode + 7)) (part own (p .suffix) (p .suffix + 2)) more)
 
   plain-is : plainOf a ≡ plainIn own p
   plain-is =
@@ -90,7 +96,8 @@ module _ (st : Stock) (starts : List ℕ) (es : List Entry) where
         let organisation =
         organisation-ref s es (organisationEntries as′) at (stand (ref 6 (a .view)) (omega (arith, s .view, rise .0))) in
         ap₂ _++_
-        (ap₂ _++_ (postcode-is (s .says))
+        (front-is (s .says) _
+        ∙ ap (λ l. frontIn own (d .point) ++ l)
         (ap₂ _++_ (plain-is (s .says))
         (refs-last es (keyRefs (keysOf a)) (organisationRef (a .view) (a .organisation)) ∙ ap₂ _++_ keys organisation)))
         (points-are (at + length (organisationRow others (d .point))) (d .view) rest (rise .1 .1)

@@ -19,6 +19,7 @@ use Rattle.pack_carries.proofs.Trailer.{trailer-long}
 use Rattle.build.specs.Plan.{Packed, rowsOf, organisationRow, organisationRows, organisationCount}
 use Rattle.build.specs.Rows.{rowBytesAt, isMarked, bytesTo, countTo, rowsFrom}
 use Rattle.build.specs.Placed.{Placed}
+use Rattle.build.specs.Within.{FieldsWithin}
 use Rattle.build.specs.Bytes.{offsetsFor, offsetBytes, pointWith, pointIn, pointsIn, usedRows, packIn}
 use Rattle.build_exact.specs.Started.{AllSay, none-says, one-says}
 use Rattle.build_exact.specs.Within.{AllWithin}
@@ -90,15 +91,19 @@ module _ (starts : List ℕ) (row : ℕ → ℕ) where
 
 point-long : (st : Stock) {own others : List ℕ} {p : DeliveryPoint} {a : Address} (starts : List ℕ) (at : ℕ)
     → Says own others p a
-    → p .postcode + 7 ≤ length own
-    → p .«po_box» + 6 ≤ length own
+    → FieldsWithin own p
     → length (pointIn own starts p (rowsOf st p) at) ≡ pointWidth newest
 unfolding pointWith
-point-long st {own} {others} {p} {a} starts at s h k =
+point-long st {own} {others} {p} {a} starts at s w =
     let keys : length (offsetBytes (offsetsFor starts (p .keys) (rowsOf st p))) ≡ 28 =
     rw (s .keys) (keys-long starts (st .row) keyKinds (keyNumbers a) refl) in
     simp (length-append, bytes-long, keys)
-    (omega (arith, part-long own (p .postcode) 7 h, part-long own (p .«po_box») 6 k))
+    (omega (
+      arith,
+      part-long own (p .postcode) 7 (w .postcode),
+      part-long own (p .suffix) 2 (w .suffix),
+      part-long own (p .«po_box») 6 (w .box),
+    ))
 
 pub points-long : (st : Stock) {own others : List ℕ} {ds : List Packed} {as′ : List Address} (starts : List ℕ) (at : ℕ)
     → AllSay own others ds as′
@@ -110,7 +115,7 @@ points-long st {own} {others} {ds = d ∷ ds} starts at (one-says s rest) w =
     omega (
       arith,
       length-append (pointIn own starts (d .point) (rowsOf st (d .point)) at) (pointsIn st own others starts next ds),
-      point-long st starts at (s .says) (w .0 .postcode) (w .0 .box),
+      point-long st starts at (s .says) (w .0),
       points-long st starts next rest (w .1),
     )
 

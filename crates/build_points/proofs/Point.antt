@@ -7,13 +7,12 @@ use native.Mathlib.Omega.{arith}
 use native.Mathlib.Numerals.{add-one}
 use lib.ListN.{length, drop, getD, set, length-set}
 use lib.Seq.{drop-cons, drop-length, ext-getD}
-use Rattle.field.specs.Text.{part}
 use Rattle.source.specs.declared.DeliveryPoint.{DeliveryPoint}
 use Rattle.label.specs.Put.{Put}
 use Rattle.label.proofs.Going.{Going, going-start, going-step}
 use Rattle.pack.specs.Numbers.{bytesOf}
 use Rattle.shelf.proofs.Search.{filled-on}
-use Rattle.build.specs.Bytes.{keyOffset, offsetsFor, offsetBytes, organisationOffset, plainIn, pointWith}
+use Rattle.build.specs.Bytes.{keyOffset, offsetsFor, offsetBytes, organisationOffset, frontIn, plainIn, pointWith}
 
 -- the offsets from one on, by that one
 pub offsets-step : (offsets : List ℕ) (i : ℕ) → i < length offsets
@@ -68,9 +67,6 @@ module _ (starts : List ℕ) where
         ∙ sym (offsets-at keys rows j (omega (arith, done .long)) (omega (arith, done .long))))
 
 module _ (own : List ℕ) (p : DeliveryPoint) (offsets : List ℕ) (row : ℕ) where
-  abbrev pub postcodeOf : List ℕ
-  postcodeOf = part own (p .postcode) (p .postcode + 7)
-
   -- the last of a point, and the offsets of the keys before it
   abbrev pub lastOffset : List ℕ
   lastOffset = bytesOf 4 (organisationOffset p row)
@@ -79,17 +75,17 @@ module _ (own : List ℕ) (p : DeliveryPoint) (offsets : List ℕ) (row : ℕ) w
   offsetsOf = offsetBytes offsets ++ lastOffset
 
   module _ {out : List ℕ} {at : ℕ} (h : at + length (pointWith own p offsets row) ≤ length out) where
-    pub point-start : Going (pointWith own p offsets row) (postcodeOf ++ (plainIn own p ++ offsetsOf)) out at at out
+    pub point-start : Going (pointWith own p offsets row) (frontIn own p ++ (plainIn own p ++ offsetsOf)) out at at out
     unfolding pointWith
     point-start = going-start (pointWith own p offsets row) out at
 
-    module _ {x : List ℕ} {i : ℕ} (v : Put postcodeOf out at i x) where
-      pub after-postcode : Going (pointWith own p offsets row) (plainIn own p ++ offsetsOf) out at i x
-      after-postcode = going-step (plainIn own p ++ offsetsOf) point-start v h
+    module _ {x : List ℕ} {i : ℕ} (v : Put (frontIn own p) out at i x) where
+      pub after-front : Going (pointWith own p offsets row) (plainIn own p ++ offsetsOf) out at i x
+      after-front = going-step (plainIn own p ++ offsetsOf) point-start v h
 
       module _ {y : List ℕ} {j : ℕ} (w : Put (plainIn own p) x i j y) where
         pub after-plain : Going (pointWith own p offsets row) offsetsOf out at j y
-        after-plain = going-step offsetsOf after-postcode w h
+        after-plain = going-step offsetsOf after-front w h
 
         pub after-keys : {z : List ℕ} {k : ℕ} → Put (offsetBytes offsets) y j k z
             → Going (pointWith own p offsets row) lastOffset out at k z

@@ -12,7 +12,7 @@ ghost use Prim.Native.Nat.{_+_, _≤_};
 ghost use lib.ListN.{length};
 ghost use Rattle.label.specs.Put.{Put};
 ghost use Rattle.pack.specs.Layout.{markOf};
-ghost use Rattle.build.specs.Bytes.{keyOffset, offsetsFor, offsetBytes, organisationOffset, numbersIn, plainIn, pointWith};
+ghost use Rattle.build.specs.Bytes.{keyOffset, offsetsFor, offsetBytes, organisationOffset, frontIn, numbersIn, plainIn, pointWith};
 ghost use Rattle.build.specs.Within.{FieldsWithin};
 
 // Where the rows of the seven keys of a delivery point stand, in offset order; `PackPoint::ABSENT` where a key is zero.
@@ -71,6 +71,15 @@ fn mark_of(concatenation: bool) -> u8
     if concatenation { b'Y' } else { b' ' }
 }
 
+// Postcode and suffix.
+fn front_at(own: &[u8], p: DeliveryPoint, at: usize, out: &mut [u8]) -> usize
+    requires { ⌜ FieldsWithin (now own) p × (at + length (frontIn (now own) p) ≤ length (now out)) ⌝ }
+    ensures { λ r. ⌜ Put (frontIn (now (own .entry)) p) (now (out .entry)) at r (now (out .exit)) ⌝ }
+{
+    let i = part_at(own, p.postcode, p.postcode + 7, at, out);
+    part_at(own, p.suffix, p.suffix + 2, i, out)
+}
+
 // Type, keys and number.
 fn numbers_at(p: DeliveryPoint, at: usize, out: &mut [u8]) -> usize
     requires { ⌜ at + 11 ≤ length (now out) ⌝ }
@@ -106,7 +115,7 @@ pub fn point_at(
     ensures { λ r. ⌜ Put (pointWith (now (own .entry)) p (offsets .«of_keys») row)
         (now (out .entry)) at r (now (out .exit)) ⌝ }
 {
-    let i = part_at(own, p.postcode, p.postcode + 7, at, out);
+    let i = front_at(own, p, at, out);
     let j = plain_at(own, p, i, out);
     let of_keys = offsets.of_keys;
     let k = keys_at(of_keys, j, out);

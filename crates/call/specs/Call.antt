@@ -15,7 +15,7 @@ use Rattle.ask.specs.Labels.{viewLabel, codeLabel}
 use Rattle.ask.specs.Runs.{viewsRun, codeRun}
 use Rattle.ask.specs.Lists.{viewsList, codeList}
 use Rattle.pack.specs.Opening.{opened}
-use Rattle.pack.specs.Points.{packLabel}
+use Rattle.pack.specs.Points.{packLabel, packSuffix}
 use Rattle.pack.specs.Cutting.{packBuilt}
 use Rattle.pack_runs.specs.Runs.{packRun}
 use Rattle.pack_items.specs.Lists.{packList}
@@ -60,6 +60,7 @@ pub data Call : Type 0 where
   of-pack-label : (pack : List ℕ) (k : ℕ) → Call
   of-pack-labels : (pack : List ℕ) (first count : ℕ) → Call
   of-pack-list : (pack : List ℕ) (first count : ℕ) → Call
+  of-pack-suffix : (pack : List ℕ) (k : ℕ) → Call
 
 -- what a call says: one answer, or that of a run or a listing
 pub data Saying : Type 0 where
@@ -98,6 +99,7 @@ outcomeOf (of-pack pack) out = reading (opened pack) out
 outcomeOf (of-pack-label pack k) out = writing (packLabel pack k out)
 outcomeOf (of-pack-labels pack first count) out = running (packRun pack first count out)
 outcomeOf (of-pack-list pack first count) out = running (packList pack first count out)
+outcomeOf (of-pack-suffix pack k) out = reading (packSuffix pack k) out
 
 -- as C gets it: one number; and the bytes of a run or a listing, where they are asked for
 abbrev pub numberOf : Saying → ℕ

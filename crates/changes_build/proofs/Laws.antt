@@ -17,6 +17,7 @@ use Rattle.changes_views.specs.Views.{wantedIn, wantedCount}
 use Rattle.changes_source.specs.Rows.{tableShelf, tableStock, tableLookup}
 use Rattle.changes_source.proofs.Table.{table-good}
 use Rattle.shelf.specs.Shelf.{lastOf}
+use Rattle.pack.specs.Names.{newest, pointWidth, trailerWidth}
 use Rattle.pack.specs.Cutting.{firstBad, cutWith, cutOutcome}
 use Rattle.changes_pair.specs.Live.{liveIn}
 use Rattle.changes_pair.specs.Pair.{pairOf}
@@ -93,7 +94,7 @@ module _ (table points code marks starts : List ℕ) (m : Marked table points co
 
   pub counted : length (livePack table points code)
       ≡ allBytes (tableStock table) marks + length (organisationRows points (packedIn points code))
-      + 57 * length (packedIn points code) + 21
+      + pointWidth newest * length (packedIn points code) + trailerWidth newest
   counted =
       ap length (sym written)
       ∙ pack-size code (all-say points code (m .judged .of-code)) (all-within points code) p

@@ -37,7 +37,7 @@ module _ (points code : List ℕ) where
   within-all [] w = tt
   within-all (place ∷ places) w =
       let at = view-within points place (w .0 .high) in
-      (record { postcode = at .postcode; box = at .box }, within-all places (w .1))
+      (record { postcode = at .postcode; suffix = at .suffix; box = at .box }, within-all places (w .1))
 
   pub all-say : outwardFault code ≡ 0 → AllSay points points (packedIn points code) (liveIn points code)
   all-say e =

@@ -68,7 +68,12 @@ module _ (points : List ℕ) (i : ℕ) (high : suc i < length points / 168) wher
   unfolding deliveryAt
   within-at =
       let fits = record-fits 168 points (suc i) high in
-      record { postcode = omega (arith, start-is); box = omega (arith, start-is); organisation = omega (arith, start-is) }
+      record {
+        postcode = omega (arith, start-is);
+        suffix = omega (arith, start-is);
+        box = omega (arith, start-is);
+        organisation = omega (arith, start-is);
+      }
 
   pub says-at : (n : ℕ) → Says points points (deliveryAt points i) (addressAt points n i)
   unfolding deliveryAt addressOf

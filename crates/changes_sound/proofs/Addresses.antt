@@ -47,6 +47,7 @@ module _ (points : List ℕ) (p : Accepted pointFormat points) where
       record {
         outward = head .1 .1 .0;
         inward = head .1 .1 .1 .0;
+        suffix = head .1 .1 .1 .1 .0;
         type = kind;
         address-key = eight rec 24;
         organisation-key = eight rec 32;

@@ -27,7 +27,7 @@ use Rattle.label.specs.Lines.{line, boxLine, spaced, streetLine, numberText, Pr
 use Rattle.item.specs.Lines.{viewLine, pointLine}
 use Rattle.pack.specs.Names.{known, inwardAt, addressKeyAt, trailerWidth}
 use Rattle.pack.specs.Numbers.{numberAt}
-use Rattle.pack.specs.Opening.{edition, rowCount, rowArea, outward as packOutward, lengthSaid, trailerGood, slotsOf, offsetGood, allRowsGood, offsetKinds, restOf, offsetOfPoint, postcodeGood, given, typeByte, organisationKey, buildingNumber, plainGood, offsetsGood, allowedMix, organisationGood, partsGood, opened}
+use Rattle.pack.specs.Opening.{edition, rowCount, rowArea, outward as packOutward, lengthSaid, trailerGood, slotsOf, offsetGood, allRowsGood, offsetKinds, restOf, offsetOfPoint, postcodeGood, suffixGood, given, typeByte, organisationKey, buildingNumber, plainGood, offsetsGood, allowedMix, organisationGood, partsGood, opened}
 use Rattle.pack.specs.Points.{offsetText, elementsFrom, elementsAt, pointPlace}
 use Rattle.pack_sound.proofs.Elements.{Printed as FromTexts, all-printed}
 use Rattle.pack_open.proofs.Opened.{opened-all}
@@ -300,7 +300,7 @@ module _ (pack : List ℕ) (n k : ℕ) (opens : opened pack ≡ Value n) (low : 
 
   -- the parts of the point behind its offsets
   behind-offsets : postcodeGood pack at
-      && (plainGood pack rest && (allowedMix pack rest && organisationGood pack rest))
+      && (suffixGood pack at && (plainGood pack rest && (allowedMix pack rest && organisationGood pack rest)))
       ≡ true
   unfolding partsGood
   behind-offsets =
@@ -316,7 +316,8 @@ module _ (pack : List ℕ) (n k : ℕ) (opens : opened pack ≡ Value n) (low : 
   number-small : buildingNumber pack rest ≤ 9_999
   unfolding plainGood
   number-small =
-      let plain = and-left (plainGood pack rest) _ (and-right (postcodeGood pack at) _ behind-offsets) in
+      let behind-postcode = and-right (postcodeGood pack at) _ behind-offsets in
+      let plain = and-left (plainGood pack rest) _ (and-right (suffixGood pack at) _ behind-postcode) in
       let behind-type = and-right (elem (typeByte pack rest) (83 ∷ 76 ∷ [])) _ plain in
       let behind-address = and-right (leb (numberAt pack (rest + addressKeyAt) 4) 99_999_999) _ behind-type in
       let behind-keys = and-right (leb (organisationKey pack rest) 99_999_999) _ behind-address in

@@ -1,4 +1,4 @@
--- Document 01's run, computed from the definitions: its two files give the 129 bytes of the pack for AB1. (The label of
+-- Document 01's run, computed from the definitions: its two files give the 131 bytes of the pack for AB1. (The label of
 -- view 1 and the refusal of view 2 are computed in `report_worked`, `Worked.one-run`.)
 -- Assumes nothing.
 use mathlib.Core.Path.{_≡_, refl}
@@ -18,11 +18,11 @@ computes : Unit {0}
 unfolding run-computes addressesIn roomOutcome entriesOf packBytes packOf cutOutcome packBuilt
 computes = tt
 
-pub the-pack : packBuilt (pairOf table points) code (replicate 129 0) ≡ said (Value 129) worked
+pub the-pack : packBuilt (pairOf table points) code (replicate 131 0) ≡ said (Value 131) worked
 unfolding computes
 the-pack = refl
 
 -- document 02, No. 3: with the building respelt, its last spelling stands there once and the first not at all
-pub respelt-pack : packBuilt (pairOf respelt points) code (replicate 129 0) ≡ said (Value 129) worked
+pub respelt-pack : packBuilt (pairOf respelt points) code (replicate 131 0) ≡ said (Value 131) worked
 unfolding computes
 respelt-pack = refl

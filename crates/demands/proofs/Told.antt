@@ -13,7 +13,7 @@ use Rattle.refusal.specs.declared.Reason.{Reason}
 use Rattle.refusal.specs.declared.Answer.{Answer}
 use Rattle.refusal.specs.declared.Answer.the-variants.{Value, Refused}
 use Rattle.refusal.proofs.Answers.{refused-value, same-value}
-use Rattle.refusal.proofs.Lossless.{FitsWord, word-plain, word-parts, refusal-word, number-above-0, number-to-12, same-reason, loses-nothing}
+use Rattle.refusal.proofs.Lossless.{FitsWord, word-plain, word-parts, refusal-word, number-above-0, number-to-28, same-reason, loses-nothing}
 use Rattle.run.specs.declared.Series.{Series}
 use Rattle.run.specs.declared.Series.the-variants.{Unasked, Stopped, Done}
 use Rattle.run.specs.Packed.{packedSeries, seriesBytes}
@@ -28,7 +28,7 @@ stop-word : (labels bytes : ℕ) (why : Reason) → FitsSeries (Stopped labels b
     → FitsWord (number why) 0 labels (detail why)
 stop-word labels bytes why fits =
     record {
-      number-fits = omega (arith, number-to-12 why);
+      number-fits = omega (arith, number-to-28 why);
       file-fits = lit< tt;
       second-fits = fits .0;
       detail-fits = fits .1 .1;

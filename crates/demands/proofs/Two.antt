@@ -140,11 +140,11 @@ module _ (s : Source) (out : List ℕ) where
 -- ---- labels of a pack
 
 -- whether a pack that opens has a point of that number
-data There (pack : List ℕ) (n k : ℕ) : Type 0 where
+pub data There (pack : List ℕ) (n k : ℕ) : Type 0 where
   a-point : 1 ≤ k → k ≤ n → isPoint pack k ≡ true → There pack n k
   no-point : (k < 1) ⊎ (n < k) → isPoint pack k ≡ false → There pack n k
 
-point-there : (pack : List ℕ) {n : ℕ} (k : ℕ) → opened pack ≡ Value n → There pack n k
+pub point-there : (pack : List ℕ) {n : ℕ} (k : ℕ) → opened pack ≡ Value n → There pack n k
 point-there pack {n} k e = by-tests (opened-all pack n e .counted) (leb 1 k) (leb k (pointCount pack)) refl refl
   where
     by-tests : n ≡ pointCount pack → (t u : Bool) → leb 1 k ≡ t → leb k (pointCount pack) ≡ u → There pack n k

@@ -1,5 +1,5 @@
--- Demand 2 for labels: what printing one comes to, case by case, over any source and of a pack; what an item of a listing
--- holds; what the list of codes says; how long a label is, and how no line of it begins.
+-- Demand 2 for labels: what printing one comes to, case by case, over any source and of a pack; what a suffix of a pack is;
+-- what an item of a listing holds; what the list of codes says; how long a label is, and how no line of it begins.
 -- Assumes nothing.
 use Prim.Native.Nat.{ℕ, _*_, _≤_, _<_}
 use mathlib.Core.Path.{_≡_}
@@ -10,8 +10,9 @@ use mathlib.Core.Option.{Option, none, some}
 use lib.ListN.{length, drop}
 use Rattle.field.specs.Test.{within}
 use Rattle.field_outward.specs.Outward.{outwardFault}
+use Rattle.field_outward.specs.Inward.{suffixFault}
 use Rattle.refusal.specs.declared.Reason.{Reason}
-use Rattle.refusal.specs.declared.Reason.the-variants.{NoSuchNumber, Combination, MissingKey, Room, BadCode}
+use Rattle.refusal.specs.declared.Reason.the-variants.{NoSuchNumber, Combination, MissingKey, Room, BadCode, NoSuffix}
 use Rattle.refusal.specs.declared.Answer.{Answer}
 use Rattle.refusal.specs.declared.Answer.the-variants.{Value, Refused}
 use Rattle.refusal.specs.Outcome.{Outcome, said}
@@ -30,8 +31,8 @@ use Rattle.run.specs.declared.Series.{Series}
 use Rattle.run.specs.Series.{Asking, runFrom}
 use Rattle.ask.specs.Source.{Source, inCode}
 use Rattle.ask.specs.Labels.{kth, viewLabel, codeLabel}
-use Rattle.pack.specs.Opening.{opened}
-use Rattle.pack.specs.Points.{elementsAt, pointPlace, packLabel}
+use Rattle.pack.specs.Opening.{edition, suffixIn, opened}
+use Rattle.pack.specs.Points.{elementsAt, pointPlace, packLabel, suffixNumber, packSuffix}
 use Rattle.tally.specs.Tally.{Entry}
 use Rattle.tally_bytes.specs.Entries.{entryBytes}
 use Rattle.changes_codes.specs.Codes.{codesIn, codesOutcome}
@@ -116,6 +117,27 @@ pub data PointAsked (pack : List ℕ) (k : ℕ) (out : List ℕ) : Type 0 where
   printed : {n : ℕ} → opened pack ≡ Value n → 1 ≤ k → k ≤ n → length (labelAt pack k) ≤ length out
       → packLabel pack k out ≡ written (labelAt pack k) out
       → PointAsked pack k out
+
+-- ---- a suffix of a pack
+
+abbrev pub suffixAt : (pack : List ℕ) → (k : ℕ) → List ℕ
+suffixAt pack k = suffixIn pack (pointPlace pack k)
+
+-- 11, 7, "13, no suffix in this edition, after 7": "Packs of edition 1 still open .. asking one for a suffix is refused"; of
+-- another edition there is one, "digit, letter A to Z"
+pub data SuffixAsked (pack : List ℕ) (k : ℕ) : Type 0 where
+  pack-refused : {file : ℕ} {why : Reason} → opened pack ≡ Refused file why
+      → packSuffix pack k ≡ Refused file why
+      → SuffixAsked pack k
+  no-number : {n : ℕ} → opened pack ≡ Value n → (k < 1) ⊎ (n < k)
+      → packSuffix pack k ≡ Refused 0 NoSuchNumber
+      → SuffixAsked pack k
+  no-suffix : {n : ℕ} → opened pack ≡ Value n → 1 ≤ k → k ≤ n → edition pack ≡ 1
+      → packSuffix pack k ≡ Refused 0 NoSuffix
+      → SuffixAsked pack k
+  told : {n : ℕ} → opened pack ≡ Value n → 1 ≤ k → k ≤ n → (edition pack ≡ 1 → ⊥) → suffixFault (suffixAt pack k) ≡ 0
+      → packSuffix pack k ≡ Value (suffixNumber (suffixAt pack k))
+      → SuffixAsked pack k
 
 -- ---- an item of a listing
 

@@ -11,7 +11,7 @@ use lib.ListN.{length}
 use Rattle.field.specs.Test.{elem}
 use Rattle.field.proofs.Tests.{and-left}
 use Rattle.field_outward.specs.Outward.{sequenceFrom, patterns, outwardFault}
-use Rattle.field_outward.specs.Inward.{inwardFault}
+use Rattle.field_outward.specs.Inward.{inwardFault, suffixFault}
 
 long-of : (n m more : ℕ) (t : Bool) → (t ≡ true → eqb n m ≡ true) → cond t more 1 ≡ 0 → n ≡ m
 long-of n m more true is e = eqb-true n m (is refl)
@@ -24,3 +24,7 @@ outward-long s e = long-of (length s) 4 _ _ (and-left (eqb (length s) 4) (elem (
 pub inward-long : (s : List ℕ) → inwardFault s ≡ 0 → length s ≡ 3
 unfolding inwardFault
 inward-long s e = long-of (length s) 3 _ (eqb (length s) 3) (λ h. h) e
+
+pub suffix-long : (s : List ℕ) → suffixFault s ≡ 0 → length s ≡ 2
+unfolding suffixFault
+suffix-long s e = long-of (length s) 2 _ (eqb (length s) 2) (λ h. h) e

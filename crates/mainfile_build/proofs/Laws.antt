@@ -20,6 +20,7 @@ use Rattle.source.specs.declared.DeliveryPoint.{DeliveryPoint}
 use Rattle.source.specs.Delivery.{askedOf}
 use Rattle.shelf.specs.Stock.{Stock, joined, Good}
 use Rattle.ask.specs.Source.{inCode}
+use Rattle.pack.specs.Names.{newest, pointWidth, trailerWidth}
 use Rattle.pack.specs.Cutting.{firstBad, cutWith, cutOutcome}
 use Rattle.field_outward.proofs.Long.{outward-long}
 use Rattle.build.specs.Plan.{Packed, rowsOf, refersTo, firstRefused, markAll, organisationRows, organisationCount}
@@ -181,7 +182,7 @@ module _ (set : Set) (code l t d b s : List ℕ) (m : Marked set code l t d b s)
   code-four = outward-long code (m .judged .of-code)
 
   pub counted : length (setPack set code)
-      ≡ allBytes st marks + length (organisationRows others ds) + 57 * length ds + 21
+      ≡ allBytes st marks + length (organisationRows others ds) + pointWidth newest * length ds + trailerWidth newest
   counted =
       ap length (sym written)
       ∙ pack-size code (all-say set (m .judged .of-set) code) (all-within set (m .judged .of-set) code) placed code-four

@@ -39,7 +39,7 @@ module _ (s : Set) (ok : AcceptedSet s) where
   within-from (suc k) n end =
       let some = two-records _ _ (ok .organisations) in
       let at = inside-at (s .addresses) (s .organisations) n (omega arith) (omega (arith, some)) in
-      (record { postcode = at .postcode; box = at .box }, within-from k (suc n) (omega arith))
+      (record { postcode = at .postcode; suffix = at .suffix; box = at .box }, within-from k (suc n) (omega arith))
 
   rising-from : (k n low : ℕ) → n + k ≤ lastOf (s .addresses) → low < n → Rising low (packedFrom s n k)
   rising-from zero n low end h = tt

@@ -35,6 +35,7 @@ module _ (s : Set) (ok : AcceptedSet s) where
       record {
         outward = p .0;
         inward = p .1 .0;
+        suffix = kinds .1 .1 .0;
         type = kind;
         address-key = key-fits rec 7 15 (omega arith);
         organisation-key = key-fits rec 69 77 (omega arith);

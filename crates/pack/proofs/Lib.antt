@@ -1,3 +1,4 @@
 pub mod Widths
 pub mod Worked
 pub mod Shared
+pub mod Suffixes

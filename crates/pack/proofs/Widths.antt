@@ -4,12 +4,17 @@ use Prim.Native.Nat.{ℕ, _+_, _*_, _^_, _≤_, _<_}
 use native.Mathlib.Omega.{arith}
 use native.Mathlib.Nat.{mul-le-mul, mul-le-mul-left}
 use native.Mathlib.Numerals.{add-one}
+use mathlib.Core.Bool.{Bool, true, false, cond}
 use lib.Dec.{lit≤}
-use Rattle.pack.specs.Names.{pointWidth, trailerWidth}
+use Rattle.pack.specs.Names.{hasSuffix, suffixWidth, pointWidth, trailerWidth}
 
 -- no edition has a wider point or trailer
+behind-small : (t : Bool) → cond t suffixWidth 0 ≤ 2
+behind-small true = lit≤ tt
+behind-small false = lit≤ tt
+
 pub point-small : (edition : ℕ) → pointWidth edition ≤ 64
-point-small edition = lit≤ tt
+point-small edition = omega (arith, behind-small (hasSuffix edition))
 
 pub trailer-small : (edition : ℕ) → trailerWidth edition ≤ 64
 trailer-small edition = lit≤ tt

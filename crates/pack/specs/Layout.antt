@@ -8,7 +8,7 @@ use mathlib.Core.Option.{Option, none, some}
 use lib.Dec.{eqb, ltb}
 use lib.ListN.{length}
 use Rattle.source.specs.Address.{Lookup, Organisation, none-needed, named, lacking, Address, present, Asked, keysOf, ref, kindOf, keyOf}
-use Rattle.pack.specs.Names.{newest, absent, pointWidth, trailerWidth}
+use Rattle.pack.specs.Names.{newest, hasSuffix, absent, pointWidth, trailerWidth}
 use Rattle.pack.specs.Numbers.{bytesOf}
 
 -- a row of a pack
@@ -111,9 +111,9 @@ plainOf a =
     ∷ (bytesOf 4 (a .address-key)
     ++ (bytesOf 4 (a .organisation-key) ++ (bytesOf 2 (a .number) ++ (markOf (a .concatenation) ∷ a .box))))
 
--- what an edition puts behind the postcode
+-- what an edition puts behind the postcode: the suffix, where it has one
 abbrev pub behindOf : ℕ → Address → List ℕ
-behindOf edition a = []
+behindOf edition a = cond (hasSuffix edition) (a .suffix) []
 
 -- a point of an edition
 abbrev pub pointBytes : ℕ → List Entry → Address → List ℕ

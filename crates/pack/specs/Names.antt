@@ -1,17 +1,21 @@
 -- Where the parts of a pack stand, by name: the editions, a point and the trailer.
 -- Assumes nothing.
 use Prim.Native.Nat.{ℕ, _+_}
-use mathlib.Core.Bool.{Bool}
+use mathlib.Core.Bool.{Bool, cond, _||_}
 use lib.Dec.{eqb}
 
 -- ---- editions
 
 -- the editions that there are, and the one that is built
 abbrev pub known : ℕ → Bool
-known edition = eqb edition 1
+known edition = eqb edition 1 || eqb edition 2
 
 abbrev pub newest : ℕ
-newest = 1
+newest = 2
+
+-- those whose points have a suffix: "Packs of edition 1 still open .. asking one for a suffix is refused" (document 02, No. 6)
+abbrev pub hasSuffix : ℕ → Bool
+hasSuffix edition = eqb edition 2
 
 -- ---- a point: its postcode, what its edition puts behind it, and the rest
 
@@ -22,9 +26,16 @@ inwardAt = 4
 abbrev pub postcodeWidth : ℕ
 postcodeWidth = 7
 
+-- "the suffix standing after the postcode"
+abbrev pub suffixAt : ℕ
+suffixAt = postcodeWidth
+
+abbrev pub suffixWidth : ℕ
+suffixWidth = 2
+
 -- what stands between the postcode and the rest
 abbrev pub behindPostcode : ℕ → ℕ
-behindPostcode edition = 0
+behindPostcode edition = cond (hasSuffix edition) suffixWidth 0
 
 -- the rest, counted from its own start: "postcode type 1, address key 4, organisation key 4, building number 2,
 -- concatenation 1, PO box 6, then eight row offsets of 4"
@@ -59,7 +70,7 @@ restStart edition = postcodeWidth + behindPostcode edition
 abbrev pub restAt : ℕ → ℕ → ℕ
 restAt edition at = at + restStart edition
 
--- "57 bytes each"
+-- "57 bytes each"; "Each point grows from 57 to 59 bytes"
 abbrev pub pointWidth : ℕ → ℕ
 pointWidth edition = restStart edition + restWidth
 

@@ -9,13 +9,13 @@ use Rattle.field.specs.Test.{elem, every}
 use Rattle.field.specs.Text.{textByte, textFault, fromEnd, part}
 use Rattle.file_compare.specs.Order.{same}
 use Rattle.field_outward.specs.Outward.{outwardFault}
-use Rattle.field_outward.specs.Inward.{inwardFault}
+use Rattle.field_outward.specs.Inward.{inwardFault, suffixFault}
 use Rattle.refusal.specs.declared.Reason.the-variants.{BadPack}
 use Rattle.refusal.specs.declared.Answer.{Answer}
 use Rattle.refusal.specs.declared.Answer.the-variants.{Value, Refused}
 use Rattle.source.specs.Resolve.{forbiddenOf}
 use Rattle.label.specs.Lines.{isEmpty}
-use Rattle.pack.specs.Names.{known, inwardAt, postcodeWidth, typeAt, addressKeyAt, organisationKeyAt, buildingNumberAt, concatenationAt, boxAt, offsetsAt, restAt, pointWidth, absent, rowCountAt, pointsStartAt, pointCountAt, outwardAt, lengthAt, editionWidth, trailerWidth}
+use Rattle.pack.specs.Names.{known, hasSuffix, inwardAt, postcodeWidth, suffixAt, suffixWidth, typeAt, addressKeyAt, organisationKeyAt, buildingNumberAt, concatenationAt, boxAt, offsetsAt, restAt, pointWidth, absent, rowCountAt, pointsStartAt, pointCountAt, outwardAt, lengthAt, editionWidth, trailerWidth}
 use Rattle.pack.specs.Numbers.{numberAt}
 
 -- ---- the trailer
@@ -172,6 +172,14 @@ postcodeGood pack at =
     same (part pack at (at + inwardAt)) (outward pack)
     && eqb (inwardFault (part pack (at + inwardAt) (at + postcodeWidth))) 0
 
+-- the suffix of the point at a place, of an edition that has one
+abbrev pub suffixIn : List ℕ → ℕ → List ℕ
+suffixIn pack at = part pack (at + suffixAt) (at + suffixAt + suffixWidth)
+
+-- "checks the suffix with the postcode in step 3"
+unfoldable pub suffixGood : List ℕ → ℕ → Bool
+suffixGood pack at = not (hasSuffix (edition pack)) || eqb (suffixFault (suffixIn pack at)) 0
+
 -- what stands in the rest that starts at a place, in every edition alike
 module _ (pack : List ℕ) (rest : ℕ) where
   -- the n-th offset, counted from 0
@@ -225,7 +233,8 @@ unfoldable pub partsGood : List ℕ → ℕ → ℕ → Bool
 partsGood pack at rest =
     offsetsGood pack rest 0 offsetKinds
     && (given pack rest 0
-    && (postcodeGood pack at && (plainGood pack rest && (allowedMix pack rest && organisationGood pack rest))))
+    && (postcodeGood pack at
+    && (suffixGood pack at && (plainGood pack rest && (allowedMix pack rest && organisationGood pack rest)))))
 
 -- the same of a point of the pack's edition
 abbrev pub pointGood : List ℕ → ℕ → Bool

@@ -1,4 +1,4 @@
--- The labels of a pack, "Labels from a pack: 11, 7, 10", and the items of its listing.
+-- The labels of a pack, "Labels from a pack: 11, 7, 10", the items of its listing, and the suffixes of its points.
 -- Assumes nothing.
 use Prim.Native.Nat.{ℕ, _+_, _*_, _-_}
 use mathlib.Core.Bool.{Bool, cond, _&&_}
@@ -7,16 +7,18 @@ use mathlib.Core.Option.{Option, none, some}
 use lib.Dec.{eqb, leb}
 use lib.ListN.{getD}
 use Rattle.field.specs.Text.{textIn, part}
-use Rattle.refusal.specs.declared.Reason.the-variants.{NoSuchNumber}
+use Rattle.refusal.specs.declared.Reason.the-variants.{NoSuchNumber, NoSuffix}
 use Rattle.refusal.specs.declared.Answer.{Answer}
-use Rattle.refusal.specs.declared.Answer.the-variants.{Refused}
-use Rattle.refusal.specs.Outcome.{Outcome, said, afterwards}
-use Rattle.source.specs.Address.{Elements}
+use Rattle.refusal.specs.declared.Answer.the-variants.{Value, Refused}
+use Rattle.refusal.specs.Outcome.{Outcome, said, after, afterwards}
+use Rattle.source.specs.Address.{Address, Elements}
 use Rattle.source.specs.Resolve.{Resolved, elements}
 use Rattle.label.specs.Label.{labelOf, roomOutcome}
 use Rattle.item.specs.Item.{Heading, itemOutcome}
-use Rattle.pack.specs.Names.{inwardAt, postcodeWidth, concatenationAt, boxAt, offsetsAt, pointWidth, absent}
-use Rattle.pack.specs.Opening.{edition, pointsStart, pointCount, rowArea, rowText, restOf, offsetOfPoint, buildingNumber, opened}
+use Rattle.ask.specs.Labels.{kth}
+use Rattle.pack.specs.Numbers.{numberFrom}
+use Rattle.pack.specs.Names.{hasSuffix, inwardAt, postcodeWidth, concatenationAt, boxAt, offsetsAt, pointWidth, absent}
+use Rattle.pack.specs.Opening.{edition, pointsStart, pointCount, rowArea, rowText, suffixIn, restOf, offsetOfPoint, buildingNumber, opened}
 
 -- a text of the row that the n-th offset of a rest gives; none where it is absent
 abbrev pub offsetText : List ℕ → ℕ → ℕ → ℕ → List ℕ
@@ -75,3 +77,26 @@ pointItem heading pack k out = itemOutcome (heading k) (pointResolved pack k) ou
 
 unfoldable pub packItem : Heading → List ℕ → ℕ → List ℕ → Outcome Answer
 packItem heading pack k out = afterwards Refused (opened pack) out (pointItem heading pack k out)
+
+-- a suffix as one number: the first byte times 256 plus the second, 12609 for `1A`
+abbrev pub suffixNumber : List ℕ → ℕ
+suffixNumber suffix = numberFrom 0 suffix
+
+-- the suffix of a point, of a pack that is opened: "13, no suffix in this edition, after 7"
+unfoldable pub pointSuffix : List ℕ → ℕ → Answer
+pointSuffix pack k =
+    cond (isPoint pack k)
+    (cond (hasSuffix (edition pack)) (Value (suffixNumber (suffixIn pack (pointPlace pack k)))) (Refused 0 NoSuffix))
+    (Refused 0 NoSuchNumber)
+
+-- of any bytes: 11, 7, 13
+unfoldable pub packSuffix : List ℕ → ℕ → Answer
+packSuffix pack k = after (opened pack) (pointSuffix pack k)
+
+-- what a source says of the k-th of its addresses
+abbrev pub suffixOf : Option Address → Answer
+suffixOf none = Refused 0 NoSuchNumber
+suffixOf (some a) = Value (suffixNumber (a .suffix))
+
+unfoldable pub kthSuffix : List Address → ℕ → Answer
+kthSuffix addresses k = suffixOf (kth addresses k)

@@ -9,7 +9,7 @@ use lib.ListN.{length, getD}
 use Rattle.field.specs.Test.{elem}
 use Rattle.field.specs.Text.{textFault}
 use Rattle.field_outward.specs.Outward.{outwardFault}
-use Rattle.field_outward.specs.Inward.{inwardFault}
+use Rattle.field_outward.specs.Inward.{inwardFault, suffixFault}
 use Rattle.source.specs.Address.{Lookup, Organisation, none-needed, named, lacking, Address, Asked, keysOf}
 use Rattle.source.specs.Resolve.{forbidden, missing}
 use Rattle.label.specs.Lines.{isEmpty}
@@ -50,6 +50,7 @@ pub record AddressSound (look : Lookup) (code : List ℕ) (a : Address) : Type 0
   pub rows : missing look a ≡ 0
   pub outward : a .outward ≡ code
   pub inward : inwardFault (a .inward) ≡ 0
+  pub suffix : suffixFault (a .suffix) ≡ 0
   pub type : elem (a .postcode-type) (83 ∷ 76 ∷ []) ≡ true
   pub address-key : a .address-key ≤ 99_999_999
   pub organisation-key : a .organisation-key ≤ 99_999_999

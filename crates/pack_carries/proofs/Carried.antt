@@ -12,11 +12,10 @@ use lib.Seq.{take-at}
 use Rattle.field_outward.specs.Outward.{outwardFault}
 use Rattle.refusal.specs.declared.Answer.the-variants.{Value}
 use Rattle.source.specs.Address.{Lookup, Address}
-use Rattle.source.specs.Resolve.{elementsOf}
 use Rattle.pack.specs.Names.{known, newest, pointWidth, trailerWidth}
 use Rattle.pack.specs.Layout.{Entry, entriesOf, entryBytes, entriesBytes, pointsBytes, trailerBytes, packBytes, packOf}
 use Rattle.pack.specs.Opening.{edition, pointsStart, pointCount, lengthSaid, trailerGood, rowsGood, allRowsGood, pointsGood, allPointsGood, opened}
-use Rattle.pack.specs.Points.{elementsAt, pointPlace}
+use Rattle.pack.specs.Points.{pointPlace}
 use Rattle.pack.specs.Sound.{Sound}
 use Rattle.pack_carries.proofs.Stands.{Stands, stands-end, stands-all, stands-first}
 use Rattle.pack_carries.proofs.Rows.{and-both, rows-good}
@@ -25,7 +24,7 @@ use Rattle.pack_carries.proofs.Trailer.{Says, trailer-long, trailer-say
 use Rattle.field_outward.proofs.Long.{outward-long}
 use Rattle.pack_carries.proofs.Points.{points-long}
 use Rattle.pack_carries.proofs.Refs.{RowsSaid}
-use Rattle.pack_carries.proofs.Point.{points-good, points-read}
+use Rattle.pack_carries.proofs.Point.{PointSaid, points-good, points-read}
 
 -- a row has a byte
 few-entries : (es : List Entry) → length es ≤ length (entriesBytes es)
@@ -122,12 +121,11 @@ module _ (look : Lookup) (addresses : List Address) (code : List ℕ) (g : Sound
   unfolding opened
   pack-opens = rw (trailer-good, all-rows-good, all-points-good, pack-says .of-points)
 
-  -- the point of each address gives its elements
-  pub pack-elements : (k : ℕ) (d : Address) → k < length addresses
-      → elementsAt pack (pointPlace pack (suc k)) ≡ elementsOf look (getD addresses k d)
-  pack-elements k d l =
-      ap (elementsAt pack)
-      (ap₂ (λ s e. s + pointWidth e * (suc k - 1)) (pack-says .of-start) (pack-says .of-edition)
+  -- the point of each address says its elements and its suffix
+  pub pack-points : (k : ℕ) (d : Address) → k < length addresses
+      → PointSaid look pack (pointPlace pack (suc k)) (getD addresses k d)
+  pack-points k d l =
+      rw (ap₂ (λ s e. s + pointWidth e * (suc k - 1)) (pack-says .of-start) (pack-says .of-edition)
       ∙ ap (λ n. length rows + pointWidth newest * n) (let z : suc k - 1 ≡ k = omega arith in z))
-      ∙ points-read look code four pack (pack-says .of-edition) (pack-says .of-code) es pack-rows 0 (length rows) addresses k d (g .of-addresses)
-      (all-found look addresses code g) points-stand l
+      (points-read look code four pack (pack-says .of-edition) (pack-says .of-code) es pack-rows 0 (length rows) addresses k d (g .of-addresses)
+      (all-found look addresses code g) points-stand l)

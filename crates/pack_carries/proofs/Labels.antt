@@ -1,4 +1,4 @@
--- The labels of a pack are those of its source, number by number, and so are the items of its listing.
+-- The labels of a pack are those of its source, number by number, and so are the items of its listing and the suffixes.
 -- Assumes nothing.
 use Prim.Native.Nat.{ℕ, zero, suc, _≤_, _<_}
 use mathlib.Core.Path.{_≡_, refl, sym, ap, _∙_}
@@ -12,14 +12,17 @@ use lib.ListN.{length, getD}
 use Rattle.source.specs.Address.{Lookup, Address}
 use Rattle.source.specs.Resolve.{elementsOf, elements, resolve}
 use Rattle.pack.specs.Layout.{packOf}
-use Rattle.pack.specs.Opening.{pointCount}
-use Rattle.pack.specs.Points.{elementsAt, pointPlace, isPoint, pointLabel, packLabel, pointItem, packItem}
+use Rattle.refusal.specs.declared.Answer.the-variants.{Value}
+use Rattle.pack.specs.Names.{hasSuffix}
+use Rattle.pack.specs.Opening.{edition, pointCount, suffixIn}
+use Rattle.pack.specs.Points.{elementsAt, pointPlace, isPoint, pointLabel, packLabel, pointItem, packItem, suffixNumber, pointSuffix, packSuffix, suffixOf, kthSuffix}
+use Rattle.pack.proofs.Suffixes.{no-point, its-suffix}
 use Rattle.pack.specs.Sound.{AddressSound, AddressesSound, Sound}
 use Rattle.ask.specs.Labels.{kth, kthLabel}
 use Rattle.ask.specs.Lists.{kthItem}
 use Rattle.item.specs.Item.{Heading}
 use Rattle.ask.proofs.Kth.{kth-zero, kth-none}
-use Rattle.pack_carries.proofs.Carried.{pack-says, pack-opens, pack-elements}
+use Rattle.pack_carries.proofs.Carried.{pack-says, pack-opens, pack-points}
 
 -- a sound address is refused nothing
 pub resolved-sound : (look : Lookup) (code : List ℕ) (a : Address) → AddressSound look code a
@@ -49,6 +52,7 @@ data PointOf (look : Lookup) (addresses : List Address) (pack : List ℕ) (k : �
   neither : isPoint pack k ≡ false → kth addresses k ≡ none → PointOf look addresses pack k
   each : (a : Address) → isPoint pack k ≡ true → kth addresses k ≡ some a
       → resolve look a ≡ elements (elementsAt pack (pointPlace pack k))
+      → suffixIn pack (pointPlace pack k) ≡ a .suffix
       → PointOf look addresses pack k
 
 module _ (look : Lookup) (addresses : List Address) (code : List ℕ) (g : Sound look addresses code) where
@@ -69,10 +73,12 @@ module _ (look : Lookup) (addresses : List Address) (code : List ℕ) (g : Sound
       by-test true e =
           let l : j < length addresses = omega (arith, leb-true (suc j) (pointCount pack) e, count) in
           let k = kth-some look code 0 addresses j (g .of-addresses) l in
+          let point = pack-points look addresses code g j (k .it) l in
           each (k .it) (rw (some-number, e)) (k .is-kth)
           (resolved-sound look code (k .it) (k .sound)
           ∙ ap elements
-          (ap (elementsOf look) (sym (k .at-place)) ∙ sym (pack-elements look addresses code g j (k .it) l)))
+          (ap (elementsOf look) (sym (k .at-place)) ∙ sym (point .of-elements)))
+          (point .of-suffix ∙ ap (λ a. a .suffix) (k .at-place))
       by-test false e =
           neither (rw (some-number, e))
           (kth-none addresses j (omega (arith, leb-false (suc j) (pointCount pack) e, count)))
@@ -84,7 +90,7 @@ module _ (look : Lookup) (addresses : List Address) (code : List ℕ) (g : Sound
     where
       by-case : PointOf look addresses pack k → pointLabel pack k out ≡ kthLabel look addresses k out
       by-case (neither p q) = rw (p, q)
-      by-case (each a p q e) = rw (p, q, e)
+      by-case (each a p q e s) = rw (p, q, e)
 
   -- and lists them alike, under any heading
   pub pack-items : (heading : Heading) (k : ℕ) (out : List ℕ) → packItem heading pack k out ≡ kthItem heading look addresses k out
@@ -93,4 +99,17 @@ module _ (look : Lookup) (addresses : List Address) (code : List ℕ) (g : Sound
     where
       by-case : PointOf look addresses pack k → pointItem heading pack k out ≡ kthItem heading look addresses k out
       by-case (neither p q) = rw (p, q)
-      by-case (each a p q e) = rw (p, q, e)
+      by-case (each a p q e s) = rw (p, q, e)
+
+  -- and tells each suffix as the source does
+  pub pack-suffixes : (k : ℕ) → packSuffix pack k ≡ kthSuffix addresses k
+  unfolding packSuffix kthSuffix
+  pack-suffixes k = rw (pack-opens look addresses code g) (by-case (point-at k))
+    where
+      has-one : hasSuffix (edition pack) ≡ true
+      has-one = ap hasSuffix (pack-says look addresses code g .of-edition)
+
+      by-case : PointOf look addresses pack k → pointSuffix pack k ≡ kthSuffix addresses k
+      by-case (neither p q) = no-point pack k p ∙ ap suffixOf (sym q)
+      by-case (each a p q e s) =
+          its-suffix pack k p has-one ∙ (ap (λ l. Value (suffixNumber l)) s ∙ ap suffixOf (sym q))

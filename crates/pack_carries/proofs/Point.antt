@@ -10,15 +10,16 @@ use lib.Dec.{eqb, leb}
 use lib.ListN.{length, getD}
 use Rattle.field.specs.Test.{elem}
 use Rattle.field.specs.Text.{textFault, trim, textIn}
+use Rattle.field.proofs.Tests.{or-true}
 use Rattle.file_compare.specs.Order.{same}
 use Rattle.file_compare.proofs.Order.{order-same}
 use Rattle.field_outward.specs.Inward.{inwardFault}
 use Rattle.source.specs.Address.{Lookup, Organisation, none-needed, named, lacking, Address}
 use Rattle.source.specs.Resolve.{forbidden, nameOf, elementsOf}
 use Rattle.label.specs.Lines.{isEmpty}
-use Rattle.pack.specs.Names.{newest, restAt, pointWidth}
+use Rattle.pack.specs.Names.{newest, hasSuffix, restAt, pointWidth}
 use Rattle.pack.specs.Layout.{Entry, markOf, pointsBytes}
-use Rattle.pack.specs.Opening.{edition, outward, restOf, offsetKinds, offsetsGood, given, postcodeGood, plainGood, allowedMix, organisationGood, partsGood, pointGood, pointsGood, rowArea, rowText, offsetOfPoint}
+use Rattle.pack.specs.Opening.{edition, outward, restOf, offsetKinds, offsetsGood, given, postcodeGood, suffixIn, suffixGood, plainGood, allowedMix, organisationGood, partsGood, pointGood, pointsGood, rowArea, rowText, offsetOfPoint}
 use Rattle.pack.specs.Points.{elementsFrom, elementsAt}
 use Rattle.pack.specs.Sound.{OrganisationSound, AddressSound, AddressesSound}
 use Rattle.pack_carries.proofs.Stands.{Stands}
@@ -27,6 +28,11 @@ use Rattle.pack_carries.proofs.Rows.{and-both}
 use Rattle.pack_carries.proofs.Entries.{AllFound}
 use Rattle.pack_carries.proofs.Points.{PointRead, point-read, first-point, other-points}
 use Rattle.pack_carries.proofs.Refs.{RowsSaid, isNamed, RefsRead, refs-read}
+
+-- what a point says of its address
+pub record PointSaid (look : Lookup) (pack : List ℕ) (at : ℕ) (a : Address) : Type 0 where
+  pub of-elements : elementsAt pack at ≡ elementsOf look a
+  pub of-suffix : suffixIn pack at ≡ a .suffix
 
 mark-back : (b : Bool) → eqb (markOf b) 89 ≡ b
 mark-back true = refl
@@ -65,6 +71,10 @@ module _ (look : Lookup) (code pack : List ℕ) (at rest : ℕ) (is-rest : restO
       and-both
       (ap₂ same (p .of-outward ∙ s .outward) of-code ∙ ap (λ n. eqb n 0) (order-same code))
       (ap (λ l. eqb (inwardFault l) 0) (p .of-inward) ∙ eq-eqb (inwardFault (a .inward)) 0 (s .inward))
+
+  suffix-good : suffixGood pack at ≡ true
+  unfolding suffixGood
+  suffix-good = rw (p .of-suffix, s .suffix) (or-true (not (hasSuffix (edition pack))))
 
   plain-good : plainGood pack rest ≡ true
   unfolding plainGood
@@ -116,9 +126,10 @@ module _ (look : Lookup) (code pack : List ℕ) (at rest : ℕ) (is-rest : restO
       and-both offsets-good
       (and-both locality-given
       (and-both postcode-good
+      (and-both suffix-good
       (and-both plain-good
       (and-both mix-good
-      (organisation-case (a .organisation) (s .organisation) (r .of-organisation .is-given) (r .of-organisation .first))))))
+      (organisation-case (a .organisation) (s .organisation) (r .of-organisation .is-given) (r .of-organisation .first)))))))
 
   pub point-good : pointGood pack at ≡ true
   point-good = ap (partsGood pack at) is-rest ∙ parts-good
@@ -146,8 +157,8 @@ module _ (look : Lookup) (code pack : List ℕ) (at rest : ℕ) (is-rest : restO
         inward = p .of-inward i;
       }
 
-  pub elements-read : elementsAt pack at ≡ elementsOf look a
-  elements-read = ap (elementsFrom pack at) is-rest ∙ from-rest
+  pub said-read : PointSaid look pack at a
+  said-read = record { of-elements = ap (elementsFrom pack at) is-rest ∙ from-rest; of-suffix = p .of-suffix }
 
 -- all points, one after the other
 module _ (look : Lookup) (code : List ℕ) (four : length code ≡ 4) (pack : List ℕ) (of-edition : edition pack ≡ newest)
@@ -166,8 +177,8 @@ module _ (look : Lookup) (code : List ℕ) (four : length code ≡ 4) (pack : Li
     good-here : pointGood pack at ≡ true
     good-here = point-good look code pack at (restAt newest at) rest-here a (s .1 .0) of-code es here refs-here
 
-    elements-here : elementsAt pack at ≡ elementsOf look a
-    elements-here = elements-read look code pack at (restAt newest at) rest-here a (s .1 .0) of-code es here refs-here
+    said-here : PointSaid look pack at a
+    said-here = said-read look code pack at (restAt newest at) rest-here a (s .1 .0) of-code es here refs-here
 
   pub points-good : (low at : ℕ) (addresses : List Address) → AddressesSound look code low addresses
       → AllFound look es addresses
@@ -184,13 +195,11 @@ module _ (look : Lookup) (code : List ℕ) (four : length code ≡ 4) (pack : Li
       → AllFound look es addresses
       → Stands pack at (pointsBytes newest es addresses)
       → k < length addresses
-      → elementsAt pack (at + pointWidth newest * k) ≡ elementsOf look (getD addresses k d)
+      → PointSaid look pack (at + pointWidth newest * k) (getD addresses k d)
   points-read low at [] k d s f h l = absurd (omega arith)
   points-read low at (a ∷ more) zero d s f h l =
-      ap (elementsAt pack) (let z : at + pointWidth newest * 0 ≡ at = omega arith in z)
-      ∙ elements-here low at a more s f h
+      rw (let z : at + pointWidth newest * 0 ≡ at = omega arith in z) (said-here low at a more s f h)
   points-read low at (a ∷ more) (suc k) d s f h l =
-      ap (elementsAt pack)
-      (let z : at + pointWidth newest * suc k ≡ at + pointWidth newest + pointWidth newest * k = omega arith in z)
-      ∙ points-read (a .view) (at + pointWidth newest) more k d (s .1 .1) (f .1)
-      (other-points look code four es pack low a more at s h) (omega arith)
+      rw (let z : at + pointWidth newest * suc k ≡ at + pointWidth newest + pointWidth newest * k = omega arith in z)
+      (points-read (a .view) (at + pointWidth newest) more k d (s .1 .1) (f .1)
+      (other-points look code four es pack low a more at s h) (omega arith))

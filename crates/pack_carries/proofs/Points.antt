@@ -7,12 +7,12 @@ use mathlib.Core.Option.{Option, none, some}
 use native.Mathlib.Omega.{arith}
 use lib.ListN.{length, getD, length-append}
 use Rattle.field.specs.Text.{part}
-use Rattle.field_outward.proofs.Long.{outward-long, inward-long}
+use Rattle.field_outward.proofs.Long.{outward-long, inward-long, suffix-long}
 use Rattle.source.specs.Address.{Lookup, Address}
-use Rattle.pack.specs.Names.{newest, inwardAt, postcodeWidth, behindPostcode, typeAt, addressKeyAt, organisationKeyAt, buildingNumberAt, concatenationAt, boxAt, offsetsAt, restAt, pointWidth, absent}
+use Rattle.pack.specs.Names.{newest, inwardAt, postcodeWidth, suffixAt, suffixWidth, behindPostcode, typeAt, addressKeyAt, organisationKeyAt, buildingNumberAt, concatenationAt, boxAt, offsetsAt, restAt, pointWidth, absent}
 use Rattle.pack.specs.Numbers.{bytesOf, numberAt}
 use Rattle.pack.specs.Layout.{Entry, entriesBytes, offsetOf, refBytes, refsBytes, refsOf, markOf, postcodeOf, plainOf, behindOf, pointBytes, pointsBytes}
-use Rattle.pack.specs.Opening.{typeByte, organisationKey, buildingNumber}
+use Rattle.pack.specs.Opening.{suffixIn, typeByte, organisationKey, buildingNumber}
 use Rattle.pack.specs.Sound.{AddressSound, AddressesSound}
 use Rattle.pack_carries.proofs.Numbers.{bytes-long}
 use Rattle.pack_carries.proofs.Stands.{Stands, stands-first, stands-second, stands-part, stands-byte, stands-number}
@@ -56,6 +56,7 @@ module _ (pack : List ℕ) (es : List Entry) (small : length (entriesBytes es) <
 pub record PointRead (pack : List ℕ) (at rest : ℕ) (es : List Entry) (a : Address) : Type 0 where
   pub of-outward : part pack at (at + inwardAt) ≡ a .outward
   pub of-inward : part pack (at + inwardAt) (at + postcodeWidth) ≡ a .inward
+  pub of-suffix : suffixIn pack at ≡ a .suffix
   pub of-type : typeByte pack rest ≡ a .postcode-type
   pub of-address-key : numberAt pack (rest + addressKeyAt) 4 ≡ a .address-key
   pub of-organisation-key : organisationKey pack rest ≡ a .organisation-key
@@ -73,7 +74,7 @@ module _ (look : Lookup) (code : List ℕ) (four : length code ≡ 4) (es : List
   postcode-long = length-append (a .outward) (a .inward) ∙ omega (arith, outward-four, inward-long (a .inward) (g .inward))
 
   behind-long : length (behindOf newest a) ≡ behindPostcode newest
-  behind-long = refl
+  behind-long = suffix-long (a .suffix) (g .suffix)
 
   plain-long : length (plainOf a) ≡ offsetsAt
   plain-long = omega (arith, g .box-long)
@@ -150,6 +151,7 @@ module _ (look : Lookup) (code : List ℕ) (four : length code ≡ 4) (es : List
           of-inward =
               ap (part pack (at + inwardAt)) (let z : at + postcodeWidth ≡ at + inwardAt + 3 = omega arith in z)
               ∙ stands-part at-inward 3 (inward-long (a .inward) (g .inward));
+          of-suffix = stands-part (stands-first (a .suffix) bytes at-behind) suffixWidth behind-long;
           of-type = stands-byte (a .postcode-type) _ at-type;
           of-address-key = stands-number 4 (a .address-key) (omega (arith, g .address-key))
               (stands-first (bytesOf 4 (a .address-key)) _ at-address-key);

@@ -12,9 +12,10 @@ use lib.Seq.{drop-cons}
 use Rattle.field.specs.Test.{elem}
 use Rattle.field.proofs.Tests.{and-false}
 use Rattle.field.specs.Text.{textFault, part}
-use Rattle.pack.specs.Names.{addressKeyAt, concatenationAt, boxAt, offsetsAt, absent}
+use Rattle.field_outward.specs.Inward.{suffixFault}
+use Rattle.pack.specs.Names.{hasSuffix, addressKeyAt, concatenationAt, boxAt, offsetsAt, absent}
 use Rattle.pack.specs.Numbers.{numberAt}
-use Rattle.pack.specs.Opening.{typeByte, organisationKey, buildingNumber, given, postcodeGood, plainGood, allowedMix, organisationGood}
+use Rattle.pack.specs.Opening.{edition, suffixIn, typeByte, organisationKey, buildingNumber, given, postcodeGood, suffixGood, plainGood, allowedMix, organisationGood}
 use Rattle.pack_points.specs.Ready.{numbersGood, restGood}
 
 -- four bytes of a pack as a number, and from the back
@@ -104,6 +105,16 @@ organisation-test false true zero named right e = refl
 organisation-test false false true named right e = refl
 organisation-test false false false named right e = refl
 
+-- a suffix is looked at where the edition has one
+module _ (pack : List ℕ) (at : ℕ) where
+  pub suffix-none : hasSuffix (edition pack) ≡ false → true ≡ suffixGood pack at
+  unfolding suffixGood
+  suffix-none e = sym (simp e)
+
+  pub suffix-some : hasSuffix (edition pack) ≡ true → eqb (suffixFault (suffixIn pack at)) 0 ≡ suffixGood pack at
+  unfolding suffixGood
+  suffix-some e = sym (simp e)
+
 -- postcode first, then the plain fields, then what is said of rows
 module _ (pack : List ℕ) (at rest : ℕ) where
   pub postcode-bad : postcodeGood pack at ≡ false → false ≡ restGood pack at rest
@@ -112,14 +123,17 @@ module _ (pack : List ℕ) (at rest : ℕ) where
 
   pub plain-bad : plainGood pack rest ≡ false → false ≡ restGood pack at rest
   unfolding restGood
-  plain-bad e = by-tests (given pack rest 0) (postcodeGood pack at)
+  plain-bad e = by-tests (given pack rest 0) (postcodeGood pack at) (suffixGood pack at)
     where
-      by-tests : (g p : Bool) → false ≡ g && (p && (plainGood pack rest && (allowedMix pack rest && organisationGood pack rest)))
-      by-tests true true = simp e
-      by-tests true false = refl
-      by-tests false p = refl
+      by-tests : (g p s : Bool)
+          → false ≡ g && (p && (s && (plainGood pack rest && (allowedMix pack rest && organisationGood pack rest))))
+      by-tests true true true = simp e
+      by-tests true true false = refl
+      by-tests true false s = refl
+      by-tests false p s = refl
 
   pub rest-of : postcodeGood pack at ≡ true → plainGood pack rest ≡ true
-      → given pack rest 0 && (allowedMix pack rest && organisationGood pack rest) ≡ restGood pack at rest
+      → given pack rest 0 && (suffixGood pack at && (allowedMix pack rest && organisationGood pack rest))
+      ≡ restGood pack at rest
   unfolding restGood
   rest-of e f = sym (simp (e, f))

@@ -8,7 +8,7 @@ use lib.Dec.{leb}
 use lib.ListN.{length}
 use Rattle.pack.specs.Names.{addressKeyAt, pointWidth, trailerWidth}
 use Rattle.pack.specs.Numbers.{numberAt}
-use Rattle.pack.specs.Opening.{edition, rowCount, pointsStart, pointCount, rowArea, rowsGood, offsetKinds, restOf, given, organisationKey, buildingNumber, offsetsGood, postcodeGood, plainGood, allowedMix, organisationGood}
+use Rattle.pack.specs.Opening.{edition, rowCount, pointsStart, pointCount, rowArea, rowsGood, offsetKinds, restOf, given, organisationKey, buildingNumber, offsetsGood, postcodeGood, suffixGood, plainGood, allowedMix, organisationGood}
 use Rattle.pack_rows.specs.Walks.{Cut, Starts}
 use Rattle.pack_rows.specs.Marks.{Fine}
 
@@ -52,7 +52,8 @@ numbersGood pack rest =
 unfoldable pub restGood : List ℕ → ℕ → ℕ → Bool
 restGood pack at rest =
     given pack rest 0
-    && (postcodeGood pack at && (plainGood pack rest && (allowedMix pack rest && organisationGood pack rest)))
+    && (postcodeGood pack at
+    && (suffixGood pack at && (plainGood pack rest && (allowedMix pack rest && organisationGood pack rest))))
 
 -- a test of n points of one width from a place on
 abbrev pub eachPoint : (ℕ → Bool) → ℕ → ℕ → ℕ → Bool

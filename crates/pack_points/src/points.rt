@@ -4,6 +4,7 @@ use field_test::text_fault;
 use pack_read::Layout;
 use pack_read::PackPoint;
 use pack_read::PackTrailer;
+use pack_read::has_suffix;
 use pack_read::inner::number_within;
 use pack_read::inner::offset_of;
 use pack_read::inner::outward_of;
@@ -13,7 +14,7 @@ ghost use mathlib.Core.Path.{_≡_};
 ghost use Prim.Native.Nat.{_≤_, _<_, max};
 ghost use lib.Dec.{eqb};
 ghost use Rattle.field.specs.Text.{textFault};
-ghost use Rattle.pack.specs.Opening.{rowArea, given, postcodeGood, plainGood, allowedMix, organisationGood};
+ghost use Rattle.pack.specs.Opening.{rowArea, given, postcodeGood, suffixGood, plainGood, allowedMix, organisationGood};
 ghost use Rattle.pack_read.specs.Laid.{LaidIn, Trailed, PostcodeIn, RestIn};
 ghost use Rattle.pack_points.specs.Ready.{Sized, PointIn, numbersGood, allPoints, fieldsFine};
 
@@ -46,6 +47,18 @@ fn postcode_good(pack: &[u8], layout: Layout, at: usize) -> bool
         return false;
     }
     field_inward::is_inward(&pack[inward..at + PackPoint::POSTCODE_END])
+}
+
+// Whether the suffix is well formed, in an edition that has one.
+fn suffix_good(pack: &[u8], layout: Layout, at: usize) -> bool
+    requires { ⌜ PointIn (now pack) at × LaidIn (now pack) layout ⌝ }
+    ensures { λ r. ⌜ r ≡ suffixGood (now (pack .entry)) at ⌝ }
+{
+    if !has_suffix(layout.edition) {
+        return true;
+    }
+    let from = at + PackPoint::SUFFIX;
+    field_inward::is_suffix(&pack[from..from + PackPoint::SUFFIX_WIDTH])
 }
 
 // The greater of two numbers.
@@ -137,10 +150,11 @@ fn point_good(pack: &[u8], rows: &[u8], layout: Layout, at: usize) -> bool
     if !plain_good(pack, rest) {
         return false;
     }
+    let suffix = suffix_good(pack, layout, at);
     let locality = is_given(pack, rest, 0);
     let mix = allowed_mix(pack, rest);
     let organisation = organisation_good(pack, rows, rest);
-    locality & (mix & organisation)
+    locality & (suffix & (mix & organisation))
 }
 
 // Whether all but the offsets of the points is good.

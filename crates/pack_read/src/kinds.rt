@@ -9,6 +9,11 @@ impl PackPoint {
 
     pub const POSTCODE_END: usize = 7;
 
+    // Behind the postcode, in an edition that has a suffix, and how many bytes it has.
+    pub const SUFFIX: usize = 7;
+
+    pub const SUFFIX_WIDTH: usize = 2;
+
     // In the rest, counted from the rest's start, and how many bytes it has.
     pub const TYPE: usize = 0;
 
@@ -54,9 +59,9 @@ impl PackTrailer {
 pub struct NewestPack;
 
 impl NewestPack {
-    pub const EDITION: u8 = 1;
+    pub const EDITION: u8 = 2;
 
-    pub const POINT: usize = PackPoint::POSTCODE_END + PackPoint::REST;
+    pub const POINT: usize = PackPoint::POSTCODE_END + PackPoint::SUFFIX_WIDTH + PackPoint::REST;
 
     pub const TRAILER: usize = PackTrailer::FIELDS + PackTrailer::EDITION;
 }

@@ -2,7 +2,8 @@
 use crate::kinds::PackPoint;
 use crate::kinds::PackTrailer;
 ghost use mathlib.Core.Path.{_≡_};
-ghost use Rattle.pack.specs.Names.{known};
+ghost use Prim.Native.Nat.{_≤_};
+ghost use Rattle.pack.specs.Names.{known, hasSuffix, suffixWidth, behindPostcode};
 ghost use Rattle.pack_read.specs.Laid.{Laid, LaidIn};
 
 // The widths of an edition: a point up to its rest, a point, the trailer.
@@ -17,14 +18,31 @@ pub struct Layout {
 pub fn is_known(edition: u8) -> bool
     ensures { λ r. ⌜ r ≡ known edition ⌝ }
 {
-    edition == 1
+    (edition == 1) | (edition == 2)
+}
+
+// Whether the points of an edition have a suffix.
+pub fn has_suffix(edition: u8) -> bool
+    ensures { λ r. ⌜ r ≡ hasSuffix edition ⌝ }
+{
+    edition == 2
+}
+
+// How many bytes an edition puts behind the postcode.
+fn behind_postcode(edition: u8) -> usize
+    ensures { λ r. ⌜ (r ≡ behindPostcode edition) × (r ≤ suffixWidth) ⌝ }
+{
+    if has_suffix(edition) {
+        return PackPoint::SUFFIX_WIDTH;
+    }
+    0
 }
 
 // The widths of an edition; those of edition 1 where there is none such.
 pub fn layout_of(edition: u8) -> Layout
     ensures { λ r. ⌜ Laid edition r ⌝ }
 {
-    let rest = PackPoint::POSTCODE_END;
+    let rest = PackPoint::POSTCODE_END + behind_postcode(edition);
     Layout {
         edition,
         rest,

@@ -62,6 +62,7 @@ module _ (look : Lookup) (code : List ℕ) where
         rows = rules .1;
         outward = own;
         inward = f .inward;
+        suffix = f .suffix;
         type = f .type;
         address-key = f .address-key;
         organisation-key = f .organisation-key;

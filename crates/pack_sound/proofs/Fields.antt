@@ -14,7 +14,7 @@ use Rattle.field.specs.Text.{textFault, part, textIn}
 use Rattle.field.proofs.Texts.{part-bound}
 use Rattle.field.proofs.Fronts.{digits-below}
 use Rattle.field_outward.specs.Outward.{outwardFault}
-use Rattle.field_outward.specs.Inward.{inwardFault}
+use Rattle.field_outward.specs.Inward.{inwardFault, suffixFault}
 use Rattle.source.specs.Address.{named, Address, keysOf}
 use Rattle.source.specs.Resolve.{lacksOrganisation}
 use Rattle.label.specs.Lines.{isEmpty}
@@ -25,6 +25,7 @@ use Rattle.pack_sound.proofs.Texts.{may-be-blank}
 pub record FieldsSound (a : Address) : Type 0 where
   pub outward : outwardFault (a .outward) ≡ 0
   pub inward : inwardFault (a .inward) ≡ 0
+  pub suffix : suffixFault (a .suffix) ≡ 0
   pub type : elem (a .postcode-type) (83 ∷ 76 ∷ []) ≡ true
   pub address-key : a .address-key ≤ 99_999_999
   pub organisation-key : a .organisation-key ≤ 99_999_999

@@ -17,12 +17,12 @@ use Rattle.source.specs.Same.{AllOf}
 use Rattle.shelf.specs.declared.Shelf.{Shelf}
 use Rattle.shelf.specs.Shelf.{textsIn, recordOf, refAt, textsAt}
 use Rattle.shelf.specs.Stock.{Stock, stockOf, ahead, joined, lookIn}
-use Rattle.pack.specs.Names.{newest}
+use Rattle.pack.specs.Names.{newest, pointWidth, trailerWidth}
 use Rattle.pack.specs.Numbers.{bytesOf}
 use Rattle.pack.specs.Layout.{Entry, insert, insertKeys, usedBy, textsOr, tableEntries, organisationEntry, organisationEntries, entriesOf, textsBytes, entriesBytes, refsBytes, refsOf, postcodeOf, plainOf, pointBytes, pointsBytes, trailerBytes, packBytes, packOf}
 use Rattle.pack.specs.Opening.{slot}
 use Rattle.pack.specs.Sound.{OrganisationSound}
-use Rattle.field_outward.proofs.Long.{outward-long, inward-long}
+use Rattle.field_outward.proofs.Long.{outward-long, inward-long, suffix-long}
 use Rattle.pack_sound.proofs.Texts.{good-text}
 use Rattle.pack_sound.proofs.Fields.{FieldsSound}
 
@@ -193,22 +193,24 @@ refs-length es [] = refl
 refs-length es (none ∷ rs) = omega (arith, refs-length es rs)
 refs-length es (some r ∷ rs) = omega (arith, refs-length es rs)
 
--- "57 bytes each"
-point-bound : (es : List Entry) (a : Address) → FieldsSound a → length (pointBytes newest es a) ≤ 57
+-- "Each point grows from 57 to 59 bytes"
+point-bound : (es : List Entry) (a : Address) → FieldsSound a → length (pointBytes newest es a) ≤ pointWidth newest
 point-bound es a f =
     omega (
       arith,
-      length-append (postcodeOf a) (plainOf a ++ refsBytes es (refsOf a)),
+      length-append (postcodeOf a) (a .suffix ++ (plainOf a ++ refsBytes es (refsOf a))),
       length-append (a .outward) (a .inward),
+      length-append (a .suffix) (plainOf a ++ refsBytes es (refsOf a)),
       length-append (plainOf a) (refsBytes es (refsOf a)),
       refs-length es (refsOf a),
       outward-long (a .outward) (f .outward),
       inward-long (a .inward) (f .inward),
+      suffix-long (a .suffix) (f .suffix),
       f .box-long,
     )
 
 points-bound : (es : List Entry) (as′ : List Address) → AllOf FieldsSound as′
-    → length (pointsBytes newest es as′) ≤ 57 * length as′
+    → length (pointsBytes newest es as′) ≤ pointWidth newest * length as′
 points-bound es [] f = omega arith
 points-bound es (a ∷ more) f =
     omega (
@@ -224,7 +226,11 @@ points-bound es (a ∷ more) f =
 trailer-length : (edition rows start points : ℕ) (code : List ℕ)
     → length (trailerBytes edition rows start points code) ≡ 17 + length code
 trailer-length edition rows start points code =
-    omega (arith, length-append code (bytesOf 4 (start + 57 * points + 21) ++ (edition ∷ [])))
+    omega (
+      arith,
+      length-append code
+      (bytesOf 4 (start + pointWidth edition * points + trailerWidth edition) ++ (edition ∷ [])),
+    )
 
 module _ (st : Stock) (short : ShortRows st) (as′ : List Address) (fields : AllOf FieldsSound as′) where
   rows-bound : length (entriesBytes (entriesOf (lookIn st) as′)) ≤ 851 * length as′
@@ -238,7 +244,7 @@ module _ (st : Stock) (short : ShortRows st) (as′ : List Address) (fields : Al
         organisations-bound as′ fields,
       )
 
-  pack-bound : (code : List ℕ) → length (packOf (lookIn st) as′ code) ≤ 908 * length as′ + 17 + length code
+  pack-bound : (code : List ℕ) → length (packOf (lookIn st) as′ code) ≤ (851 + pointWidth newest) * length as′ + 17 + length code
   unfolding packOf packBytes
   pack-bound code =
       let es = entriesOf (lookIn st) as′ in

@@ -10,7 +10,7 @@ use borrow.Author.Tests.{leb-true}
 use lib.Dec.{leb}
 use lib.ListN.{getD}
 use Rattle.refusal.specs.declared.Reason.{Reason}
-use Rattle.refusal.specs.declared.Reason.the-variants.{Length, Header, Trailer, Malformed, NotAbove, Follower, NoSuchNumber, Combination, MissingKey, Room, BadPack, BadCode}
+use Rattle.refusal.specs.declared.Reason.the-variants.{Length, Header, Trailer, Malformed, NotAbove, Follower, NoSuchNumber, Combination, MissingKey, Room, BadPack, BadCode, NoSuffix}
 use Rattle.refusal.specs.declared.Answer.{Answer}
 use Rattle.refusal.specs.declared.Answer.the-variants.{Value, Refused}
 use Rattle.refusal.specs.Refusal.{number, detail, second}
@@ -24,13 +24,14 @@ reason-of n d s =
     ∷ MissingKey d s
     ∷ Room d
     ∷ BadPack d
+    ∷ BadCode
     ∷ [])
-    n BadCode
+    n NoSuffix
 
--- a reason is known by its number and its details, and its number is one of document 01's twelve
+-- a reason is known by its number and its details, and its number is one of the documents'
 abbrev Known : Reason → Type 0
 Known r =
-    (reason-of (number r) (detail r) (second r) ≡ r) × (leb 1 (number r) ≡ true) × (leb (number r) 12 ≡ true)
+    (reason-of (number r) (detail r) (second r) ≡ r) × (leb 1 (number r) ≡ true) × (leb (number r) 28 ≡ true)
 
 known : (r : Reason) → Known r
 known Length = (refl, refl, refl)
@@ -45,12 +46,13 @@ known (MissingKey d s) = (refl, refl, refl)
 known (Room d) = (refl, refl, refl)
 known (BadPack d) = (refl, refl, refl)
 known BadCode = (refl, refl, refl)
+known NoSuffix = (refl, refl, refl)
 
 pub number-above-0 : (r : Reason) → 0 < number r
 number-above-0 r = leb-true 1 (number r) (known r .1)
 
-pub number-to-12 : (r : Reason) → number r ≤ 12
-number-to-12 r = leb-true (number r) 12 (known r .2)
+pub number-to-28 : (r : Reason) → number r ≤ 28
+number-to-28 r = leb-true (number r) 28 (known r .2)
 
 -- two reasons with the same number and the same details are one
 pub same-reason : (r q : Reason) → number r ≡ number q → detail r ≡ detail q → second r ≡ second q → r ≡ q
@@ -106,7 +108,7 @@ word-parts n f s d n′ f′ s′ d′ p q e =
 pub refusal-word : (file : ℕ) (r : Reason) → FitsRefusal file r → FitsWord (number r) file (second r) (detail r)
 refusal-word file r fits =
     record {
-      number-fits = omega (arith, number-to-12 r);
+      number-fits = omega (arith, number-to-28 r);
       file-fits = fits .file-fits;
       second-fits = fits .second-fits;
       detail-fits = fits .detail-fits;

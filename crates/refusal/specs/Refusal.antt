@@ -1,10 +1,10 @@
--- Document 01's "Numbered refusals", by cases of the reason. Every promise about a refusal is stated through these.
+-- Document 01's "Numbered refusals" and those of document 02, by cases of the reason. Every promise about a refusal is stated through these.
 -- Assumes nothing.
 use Prim.Native.Nat.{ℕ}
 use Rattle.refusal.specs.declared.Reason.{Reason}
-use Rattle.refusal.specs.declared.Reason.the-variants.{Length, Header, Trailer, Malformed, NotAbove, Follower, NoSuchNumber, Combination, MissingKey, Room, BadPack, BadCode}
+use Rattle.refusal.specs.declared.Reason.the-variants.{Length, Header, Trailer, Malformed, NotAbove, Follower, NoSuchNumber, Combination, MissingKey, Room, BadPack, BadCode, NoSuffix}
 
--- column "no."
+-- column "no."; "13, no suffix in this edition" (document 02, No. 6)
 abbrev pub number : Reason → ℕ
 number Length = 1
 number Header = 2
@@ -18,6 +18,7 @@ number (MissingKey field view) = 9
 number (Room needed) = 10
 number (BadPack step) = 11
 number BadCode = 12
+number NoSuffix = 13
 
 -- column "detail"; "No detail named means 0"
 abbrev pub detail : Reason → ℕ
@@ -33,6 +34,7 @@ detail (MissingKey field view) = field
 detail (Room needed) = needed
 detail (BadPack step) = step
 detail BadCode = 0
+detail NoSuffix = 0
 
 -- "refusal 4 then carries record and byte of the record" (document 02, No. 1); "Building: .. the label's 8 or 9 of the first
 -- live view in that code that has one, together with its view number"
@@ -49,6 +51,7 @@ second (MissingKey field view) = view
 second (Room needed) = 0
 second (BadPack step) = 0
 second BadCode = 0
+second NoSuffix = 0
 
 -- refusal 4 of a record, with the byte of its first fault
 abbrev pub malformedAt : ℕ → ℕ → Reason
@@ -68,3 +71,4 @@ withView view (MissingKey field other) = MissingKey field view
 withView view (Room needed) = Room needed
 withView view (BadPack step) = BadPack step
 withView view BadCode = BadCode
+withView view NoSuffix = NoSuffix

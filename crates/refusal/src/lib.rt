@@ -4,7 +4,7 @@ ghost use mathlib.Core.Path.{_≡_};
 ghost use Rattle.refusal.specs.Refusal.{number, detail, second, malformedAt, withView};
 ghost use Rattle.refusal.specs.Packed.{word, packed};
 
-// Why a call refuses, a case for each number of document 01's table, with its details. Records, views, rules, fields
+// Why a call refuses, a case for each number of the documents, with its details. Records, views, rules, fields
 // and steps are counted from 1, and so are the bytes of a record. `view` is the view at which building stopped, and 0 where a single label was asked.
 pub enum Reason {
     Length,
@@ -19,6 +19,7 @@ pub enum Reason {
     Room { needed: usize },
     BadPack { step: usize },
     BadCode,
+    NoSuffix,
 }
 
 // What a check says: of a record, of a file, of a delivery point.
@@ -50,6 +51,7 @@ pub fn number_of(reason: Reason) -> usize
         Reason::Room { needed: _ } => 10,
         Reason::BadPack { step: _ } => 11,
         Reason::BadCode => 12,
+        Reason::NoSuffix => 13,
     }
 }
 
@@ -70,6 +72,7 @@ pub fn detail_of(reason: Reason) -> usize
         Reason::Room { needed } => needed,
         Reason::BadPack { step } => step,
         Reason::BadCode => 0,
+        Reason::NoSuffix => 0,
     }
 }
 
@@ -90,6 +93,7 @@ pub fn second_of(reason: Reason) -> usize
         Reason::Room { needed: _ } => 0,
         Reason::BadPack { step: _ } => 0,
         Reason::BadCode => 0,
+        Reason::NoSuffix => 0,
     }
 }
 
@@ -143,5 +147,6 @@ pub fn with_view(reason: Reason, view: usize) -> Reason
         Reason::Room { needed } => Reason::Room { needed },
         Reason::BadPack { step } => Reason::BadPack { step },
         Reason::BadCode => Reason::BadCode,
+        Reason::NoSuffix => Reason::NoSuffix,
     }
 }

@@ -14,7 +14,7 @@ use Rattle.refusal.specs.declared.Reason.{Reason}
 use Rattle.refusal.specs.declared.Reason.the-variants.{Length, Header, Trailer, Malformed, NotAbove, Follower, NoSuchNumber, Combination, MissingKey, Room, BadPack, BadCode}
 use Rattle.refusal.specs.declared.Answer.{Answer}
 use Rattle.refusal.specs.declared.Answer.the-variants.{Value, Refused}
-use Rattle.refusal.proofs.Lossless.{number-to-12}
+use Rattle.refusal.proofs.Lossless.{number-to-28}
 use Rattle.refusal.specs.Refusal.{number, detail, second}
 use Rattle.refusal.specs.declared.Verdict.{Verdict}
 use Rattle.refusal.specs.declared.Verdict.the-variants.{Fine, Bad}
@@ -182,7 +182,7 @@ refused-size why h =
     simp length-append
     (omega (
       arith,
-      decimal-size 4 (number why) (omega (arith, number-to-12 why)),
+      decimal-size 4 (number why) (omega (arith, number-to-28 why)),
       decimal-size 4 (detail why) (omega (arith, h .0)),
       byte-size why (h .1),
     ))

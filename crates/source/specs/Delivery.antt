@@ -50,6 +50,7 @@ pub record Says (own others : List ℕ) (p : DeliveryPoint) (a : Address) : Type
 -- the texts of a delivery point lie within the slice that holds it
 pub record Within (own : List ℕ) (p : DeliveryPoint) : Type 0 where
   pub postcode : p .postcode + 7 ≤ length own
+  pub suffix : p .suffix + 2 ≤ length own
   pub box : p .«po_box» + 6 ≤ length own
   pub organisation : p .organisation + 120 ≤ length own
 

@@ -7,7 +7,7 @@ use changes_label::label_in_code;
 use changes_runs::labels_in_code;
 ghost use mathlib.Core.Path.{_≡_};
 ghost use mathlib.Core.List.{[]};
-ghost use Rattle.call.specs.Call.{of-table, of-points, of-views, of-letter, of-live, of-codes, of-label, of-code-label, of-build, of-pack, of-pack-label, of-labels, of-code-labels, of-pack-labels, of-list, of-code-list, of-pack-list, pair, called, comesTo};
+ghost use Rattle.call.specs.Call.{of-table, of-points, of-views, of-letter, of-live, of-codes, of-label, of-code-label, of-build, of-pack, of-pack-label, of-labels, of-code-labels, of-pack-labels, of-list, of-code-list, of-pack-list, of-pack-suffix, pair, called, comesTo};
 
 // How many records a table file has.
 #[no_mangle]
@@ -106,6 +106,14 @@ pub extern "C" fn ttw_pack_label<'a>(pack: &'a [u8], k: u64, out: &mut [u8]) -> 
         ≡ comesTo (of-pack-label (now (pack .entry)) k) (now (out .entry)) 0 ⌝ }
 {
     refusal::packed_answer(pack_label::label_of_point(pack, k as usize, out)) as u64
+}
+
+// The suffix of point k of a pack as one number: its first byte times 256 plus the second.
+#[no_mangle]
+pub extern "C" fn ttw_pack_suffix(pack: &[u8], k: u64) -> u64
+    ensures { λ r. ⌜ called r [] 0 ≡ comesTo (of-pack-suffix (now (pack .entry)) k) [] 0 ⌝ }
+{
+    refusal::packed_answer(pack_suffix::suffix_of_point(pack, k as usize)) as u64
 }
 
 // So many labels from a view on, one behind the other in `out`, and their bytes in `bytes`.

@@ -14,6 +14,7 @@ use Rattle.build.specs.Rows.{allBytes, allCount}
 use Rattle.build.specs.Placed.{Placed}
 use Rattle.changes_build.specs.Views.{packedIn}
 use Rattle.changes_build.specs.Build.{livePack}
+use Rattle.pack.specs.Names.{newest, pointWidth, trailerWidth}
 use Rattle.changes_build.specs.Ready.{Marked}
 use Rattle.changes_build.proofs.Laws.{table-small, marked-long, count-of, counted, small, rows-small, rows-counted, written}
 use native.Mathlib.Omega.{arith}
@@ -68,7 +69,8 @@ module _ (w : tie.After-count-wanted) where
   views = w .count-wanted .ensures ∙ count-of code points
 
   whole : length pack
-      ≡ r .place-rows .result .bytes + o .organisations-in .result .bytes + 57 * w .count-wanted .result + 21
+      ≡ r .place-rows .result .bytes + o .organisations-in .result .bytes + pointWidth newest * w .count-wanted .result
+      + trailerWidth newest
   whole = omega (arith, counted table points code marks starts ready placed, views, bytes-of, o .organisations-in .ensures .1)
 
   few : length pack < 4_294_967_295

@@ -15,6 +15,7 @@ use Rattle.mainfile_source.proofs.Joined.{same-rows}
 use Rattle.mainfile_mark.specs.Marks.{setMarks}
 use Rattle.mainfile_mark.specs.Packed.{packedBy, packedIn}
 use Rattle.mainfile_build.specs.Build.{setPack}
+use Rattle.pack.specs.Names.{newest, pointWidth, trailerWidth}
 use Rattle.mainfile_build.specs.Ready.{Stretched, Marked}
 use Rattle.mainfile_build.proofs.Laws.{marks-only, rows-only, fresh-blocks, counted, small, rows-small, rows-counted, written, stretch-packed, stretch-long, stretch-standing}
 use Rattle.mainfile_build.proofs.write_if_room.Statement.{statement}
@@ -105,7 +106,7 @@ module _ (o : tie.After-organisations-in) where
   packed-is = stretch-packed (files k) (marked k .judged .of-set) (stretched k)
 
   whole : length (pack k)
-      ≡ placed .place-set .result .bytes + o .organisations-in .result .bytes + 57 * many + 21
+      ≡ placed .place-set .result .bytes + o .organisations-in .result .bytes + pointWidth newest * many + trailerWidth newest
   whole =
       omega (
         arith,

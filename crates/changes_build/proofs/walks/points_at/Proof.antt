@@ -112,7 +112,7 @@ point-at-requires c κs =
     let k = c .before in
     let i = l k .loop .place in
     let in-file = view-within (points k) i (high k) in (
-      rw (d k .delivery-at .ensures) (record { postcode = in-file .postcode; box = in-file .box }),
+      rw (d k .delivery-at .ensures) (record { postcode = in-file .postcode; suffix = in-file .suffix; box = in-file .box }),
       room-as (l k .loop .out) (l k .loop .end) (same k)
           (point-room (packedAt (points k) i) (rest k) (s k .pre .1 .1) (tableStock (s k .args .table .now)) (points k)
           (points k) (starts k) (l k .loop .row) (left k)),

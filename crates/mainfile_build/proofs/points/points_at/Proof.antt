@@ -138,7 +138,7 @@ offsets-at-requires c κs =
 point-at-requires : tie.Need-point-at-requires Inv-loop μ-loop
 point-at-requires c κs =
     let o = c .before in (
-      rw (d o .delivery-at .ensures) (record { postcode = inside o .postcode; box = inside o .box }),
+      rw (d o .delivery-at .ensures) (record { postcode = inside o .postcode; suffix = inside o .suffix; box = inside o .box }),
       room-as (l o .loop .out) (l o .loop .end) (same o)
           (point-room (packedAt (own (f o)) (others (f o)) (i o)) (rest o) (f o .pre .1 .1) (setStock (files (f o)))
           (own (f o)) (others (f o)) (starts (f o)) (l o .loop .row) (left o)),

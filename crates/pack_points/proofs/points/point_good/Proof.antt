@@ -25,7 +25,8 @@ returns-3 : tie.Need-returns-3
 returns-3 c =
     let mix-asked = c .before in
     let given-asked = mix-asked .before in
-    let good-plain = given-asked .before in
+    let suffix-asked = given-asked .before in
+    let good-plain = suffix-asked .before in
     let plain-asked = good-plain .before in
     let good-postcode = plain-asked .before in
     let postcode-asked = good-postcode .before in
@@ -33,7 +34,7 @@ returns-3 c =
     let args = at-start .args in
     let rest = at-start .pre .1 .0 .laid .rest in
     let plain = rw rest at (plain-asked .plain-good .ensures) in
-    rw (given-asked .is-given .ensures, mix-asked .allowed-mix .ensures, c .organisation-good .ensures, rest)
+    rw (suffix-asked .suffix-good .ensures, given-asked .is-given .ensures, mix-asked .allowed-mix .ensures, c .organisation-good .ensures, rest)
     (rest-of (args .pack .now) (args .at) _
     (sym (postcode-asked .postcode-good .ensures) ∙ not-false _ (good-postcode .if1 .left))
     (sym plain ∙ not-false _ (good-plain .if2 .left)))
@@ -47,6 +48,7 @@ point-good-spec =
     returns
     (search needs)
     returns-2
+    (search needs)
     (search needs)
     (search needs)
     (λ c κs. search needs)
