@@ -1,11 +1,12 @@
-//! Document 01, "The pack": cutting a pack for one outward code. Refusals come
-//! in this order: the files, 12, then the 8 or 9 of the first live view in that
-//! code that has one, together with its view number, then 10.
+//! Document 01, "The pack": cutting a pack for one outward code, of the edition
+//! that is built. Refusals come in this order: the files, 12, then the 8 or 9 of
+//! the first live view in that code that has one, together with its view number,
+//! then 10.
 
 use crate::address::{text_rules, Texts, ORGANISATION, REFERENCES, ROW_TYPE};
 use crate::fields::value;
 use crate::label::lend;
-use crate::layout::pack::{ABSENT, EDITION_BUILT, TRAILER};
+use crate::layout::pack::{ABSENT, BUILT};
 use crate::pair::Changes;
 use crate::refusal::Refusal;
 use crate::source::{rows_of, Rows, Source, View};
@@ -49,14 +50,14 @@ fn pack_bytes<'a>(source: impl Source<'a>, packed: &[(View, Rows)], code: &[u8])
     }
     let mut pack = area.bytes;
     let points_start = number_of(pack.len());
-    let length = pack.len() + points.len() + TRAILER;
+    let length = pack.len() + points.len() + BUILT.trailer;
     pack.extend(points);
     pack.extend(area.count.to_be_bytes());
     pack.extend(points_start.to_be_bytes());
     pack.extend(number_of(packed.len()).to_be_bytes());
     pack.extend(code);
     pack.extend(number_of(length).to_be_bytes());
-    pack.push(EDITION_BUILT);
+    pack.push(BUILT.number);
     pack
 }
 
@@ -111,10 +112,11 @@ impl RowArea {
     }
 }
 
-/// Writes a point, 57 bytes.
+/// Writes a point: postcode 7, suffix 2, then what stood behind the postcode.
 fn put_point(view: &View, offsets: &[u32; REFERENCES], points: &mut Vec<u8>) {
     points.extend(view.outward());
     points.extend(view.inward());
+    points.extend(view.suffix());
     points.extend(view.postcode_type());
     points.extend((value(view.address_key()) as u32).to_be_bytes());
     points.extend((value(view.organisation_key()) as u32).to_be_bytes());

@@ -132,6 +132,7 @@ pub struct ViewFields {
     pub letter: Option<Field>,
     pub outward: Field,
     pub inward: Field,
+    pub suffix: Field,
     pub postcode_type: Field,
     pub address_key: Field,
     pub organisation_key: Field,
@@ -148,6 +149,7 @@ pub static POINT_FIELDS: ViewFields = ViewFields {
     letter: Some(point::LETTER),
     outward: point::OUTWARD,
     inward: point::INWARD,
+    suffix: point::SUFFIX,
     postcode_type: point::POSTCODE_TYPE,
     address_key: point::ADDRESS_KEY,
     organisation_key: point::ORGANISATION_KEY,
@@ -170,6 +172,7 @@ pub static ADDRESS_FIELDS: ViewFields = ViewFields {
     letter: None,
     outward: address::OUTWARD,
     inward: address::INWARD,
+    suffix: address::SUFFIX,
     postcode_type: address::POSTCODE_TYPE,
     address_key: address::ADDRESS_KEY,
     organisation_key: address::ORGANISATION_KEY,
@@ -310,33 +313,74 @@ pub mod address {
     pub const PO_BOX: Field = 82..88;
 }
 
-/// Places in a pack: the trailer's fields from its own start, the point's
-/// fields from its own start.
+/// Places in a pack: the trailer's fields from its own start; of a point the
+/// postcode from its own start, and the fields behind postcode and suffix from
+/// where these begin.
 pub mod pack {
     use super::Field;
 
-    pub const TRAILER: usize = 21;
+    /// What an edition has of its own; all else is the same in every edition.
+    pub struct Edition {
+        /// The edition byte, the last byte of a pack.
+        pub number: u8,
+        /// Bytes of a trailer.
+        pub trailer: usize,
+        /// Where the suffix stands in a point, if it has one.
+        pub suffix: Option<Field>,
+        /// Where what stands behind the postcode, and the suffix, stands in a
+        /// point, up to its end.
+        pub rest: Field,
+    }
+
+    impl Edition {
+        /// Bytes of a point.
+        pub fn point(&self) -> usize {
+            self.rest.end
+        }
+    }
+
+    /// Document 01's edition: a point has 57 bytes.
+    const FIRST: Edition = Edition {
+        number: 1,
+        trailer: 21,
+        suffix: None,
+        rest: 7..57,
+    };
+
+    /// Document 02, No. 6: "Each point grows from 57 to 59 bytes, the suffix
+    /// standing after the postcode, and the edition byte is 2."
+    const SECOND: Edition = Edition {
+        number: 2,
+        trailer: 21,
+        suffix: Some(7..9),
+        rest: 9..59,
+    };
+
+    /// The editions that open.
+    pub static EDITIONS: [Edition; 2] = [FIRST, SECOND];
+
+    /// "Only edition 2 is built."
+    pub static BUILT: Edition = SECOND;
+
     pub const ROW_COUNT: Field = 0..4;
     pub const POINTS_START: Field = 4..8;
     pub const POINT_COUNT: Field = 8..12;
     pub const OUTWARD: Field = 12..16;
     pub const LENGTH: Field = 16..20;
-    pub const EDITION: usize = 20;
 
-    pub const POINT: usize = 57;
     pub const POINT_OUTWARD: Field = 0..4;
     pub const POINT_INWARD: Field = 4..7;
-    pub const POSTCODE_TYPE: Field = 7..8;
-    pub const ADDRESS_KEY: Field = 8..12;
-    pub const ORGANISATION_KEY: Field = 12..16;
-    pub const BUILDING_NUMBER: Field = 16..18;
-    pub const CONCATENATION: Field = 18..19;
-    pub const PO_BOX: Field = 19..25;
-    pub const OFFSETS: Field = 25..57;
+
+    /// Behind postcode and suffix.
+    pub const POSTCODE_TYPE: Field = 0..1;
+    pub const ADDRESS_KEY: Field = 1..5;
+    pub const ORGANISATION_KEY: Field = 5..9;
+    pub const BUILDING_NUMBER: Field = 9..11;
+    pub const CONCATENATION: Field = 11..12;
+    pub const PO_BOX: Field = 12..18;
+    pub const OFFSETS: Field = 18..50;
     pub const OFFSET: usize = 4;
 
-    /// The value of the edition byte.
-    pub const EDITION_BUILT: u8 = 1;
     /// The offset that means absent.
     pub const ABSENT: u32 = 4_294_967_295;
 }

@@ -1,12 +1,12 @@
-//! Document 01, "The pack" and "Pack check": opening a pack, and labels asked
-//! of it. Numbers are most significant byte first.
+//! Document 01, "The pack" and "Pack check", in every edition: opening a pack,
+//! and labels and suffixes asked of it. Numbers are most significant byte first.
 
 use crate::address::{
     forbidden, text_rules, TextRule, Texts, LOCALITY, NO_TEXTS, ORGANISATION, REFERENCES, ROW_TYPE,
 };
-use crate::fields::{inward_fault, outward_fault, text_fault, trimmed};
+use crate::fields::{inward_fault, outward_fault, suffix_fault, text_fault, trimmed};
 use crate::label::{label_bytes, lend, Elements};
-use crate::layout::pack as place;
+use crate::layout::pack::{self as place, Edition, EDITIONS};
 use crate::layout::Field;
 use crate::records::{mark_fault, postcode_type_fault};
 use crate::refusal::Refusal;
@@ -28,6 +28,14 @@ pub fn pack_label(pack: &[u8], k: u64, out: &mut [u8]) -> Result<usize, Refusal>
     lend(&point.label(), out)
 }
 
+/// The suffix of the k-th point as a number: its first byte times 256 plus its
+/// second. The refusals are 11, 7, 13, in this order: "asking one for a suffix is
+/// refused", of packs of edition 1.
+pub fn pack_suffix(pack: &[u8], k: u64) -> Result<u64, Refusal> {
+    let point = Pack::accept(pack)?.point(k)?;
+    point.suffix().map(number).ok_or(Refusal::new(13, 0))
+}
+
 /// The points of a pack, in order.
 pub(crate) fn points(pack: &[u8]) -> Result<impl Iterator<Item = Point<'_>>, Refusal> {
     Ok(Pack::accept(pack)?.all_points())
@@ -43,6 +51,7 @@ fn number(bytes: &[u8]) -> u64 {
 /// A pack that has passed step 1; `accept` gives one that has passed all steps.
 #[derive(Clone, Copy)]
 struct Pack<'a> {
+    edition: &'static Edition,
     rows: &'a [u8],
     row_count: u64,
     points: &'a [u8],
@@ -59,23 +68,26 @@ impl<'a> Pack<'a> {
         Ok(pack)
     }
 
-    /// Step 1: at least 21 bytes, edition 1, length true, outward well formed,
-    /// points start + 57 x point count + 21 equal to the length.
+    /// Step 1: at least 21 bytes, an edition that there is, length true, outward
+    /// well formed, points start + 57 x point count + 21 equal to the length; in
+    /// edition 2, 59 x point count.
     fn split(pack: &'a [u8]) -> Option<Pack<'a>> {
-        let body_length = pack.len().checked_sub(place::TRAILER)?;
+        let last = pack.last()?;
+        let edition = EDITIONS.iter().find(|edition| edition.number == *last)?;
+        let body_length = pack.len().checked_sub(edition.trailer)?;
         let (body, trailer) = pack.split_at(body_length);
         let points_start = number(&trailer[place::POINTS_START]);
         let point_count = number(&trailer[place::POINT_COUNT]);
         let outward = &trailer[place::OUTWARD];
-        let sound = trailer[place::EDITION] == place::EDITION_BUILT
-            && number(&trailer[place::LENGTH]) == pack.len() as u64
+        let sound = number(&trailer[place::LENGTH]) == pack.len() as u64
             && outward_fault(outward) == 0
-            && points_start + place::POINT as u64 * point_count == body_length as u64;
+            && points_start + edition.point() as u64 * point_count == body_length as u64;
         if !sound {
             return None;
         }
         let (rows, points) = body.split_at(points_start as usize);
         Some(Pack {
+            edition,
             rows,
             row_count: number(&trailer[place::ROW_COUNT]),
             points,
@@ -105,11 +117,11 @@ impl<'a> Pack<'a> {
     }
 
     fn point_count(self) -> usize {
-        self.points.len() / place::POINT
+        self.points.len() / self.edition.point()
     }
 
     fn all_points(self) -> impl Iterator<Item = Point<'a>> {
-        let bytes = self.points.chunks_exact(place::POINT);
+        let bytes = self.points.chunks_exact(self.edition.point());
         bytes.map(move |bytes| Point { pack: self, bytes })
     }
 
@@ -167,8 +179,20 @@ pub(crate) struct Point<'a> {
 }
 
 impl<'a> Point<'a> {
-    fn field(&self, field: Field) -> &'a [u8] {
+    /// A field of the postcode.
+    fn postcode(&self, field: Field) -> &'a [u8] {
         &self.bytes[field]
+    }
+
+    /// The suffix, where the edition has one.
+    fn suffix(&self) -> Option<&'a [u8]> {
+        let suffix = self.pack.edition.suffix.clone()?;
+        Some(&self.bytes[suffix])
+    }
+
+    /// A field behind postcode and suffix.
+    fn field(&self, field: Field) -> &'a [u8] {
+        &self.bytes[self.pack.edition.rest.clone()][field]
     }
 
     fn building_number(&self) -> u64 {
@@ -200,11 +224,13 @@ impl<'a> Point<'a> {
             && self.has_sound_organisation()
     }
 
-    /// Postcode well formed in the trailer's code; type, concatenation, PO box
-    /// well formed; keys up to 99,999,999; number up to 9,999.
+    /// Postcode well formed in the trailer's code, and a suffix with it; type,
+    /// concatenation, PO box well formed; keys up to 99,999,999; number up to
+    /// 9,999.
     fn has_sound_fields(&self) -> bool {
-        self.field(place::POINT_OUTWARD) == self.pack.outward
-            && inward_fault(self.field(place::POINT_INWARD)) == 0
+        self.postcode(place::POINT_OUTWARD) == self.pack.outward
+            && inward_fault(self.postcode(place::POINT_INWARD)) == 0
+            && self.suffix().is_none_or(|suffix| suffix_fault(suffix) == 0)
             && postcode_type_fault(self.field(place::POSTCODE_TYPE)) == 0
             && mark_fault(self.field(place::CONCATENATION)) == 0
             && text_fault(self.field(place::PO_BOX)) == 0
@@ -264,8 +290,8 @@ impl<'a> Point<'a> {
             po_box: trimmed(self.field(place::PO_BOX)),
             building_number: self.building_number(),
             concatenated: self.field(place::CONCATENATION) == b"Y",
-            outward: trimmed(self.field(place::POINT_OUTWARD)),
-            inward: self.field(place::POINT_INWARD),
+            outward: trimmed(self.postcode(place::POINT_OUTWARD)),
+            inward: self.postcode(place::POINT_INWARD),
             ..Elements::of_rows(&rows)
         }
     }

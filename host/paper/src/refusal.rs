@@ -4,7 +4,7 @@
 /// Why a call is refused. A detail that document 01 does not name is 0.
 #[derive(Clone, Copy, PartialEq, Eq, Debug)]
 pub struct Refusal {
-    /// Document 01's number, 1 to 12.
+    /// Document 01's number, 1 to 12, or document 02's.
     pub number: u8,
     /// The file to blame: 1 the table file, 2 the point file; 1 to 7 in a
     /// Mainfile set; 0 none.

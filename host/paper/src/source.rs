@@ -65,6 +65,10 @@ impl<'a> View<'a> {
         self.field(&self.fields.inward)
     }
 
+    pub fn suffix(&self) -> &'a [u8] {
+        self.field(&self.fields.suffix)
+    }
+
     pub fn postcode_type(&self) -> &'a [u8] {
         self.field(&self.fields.postcode_type)
     }

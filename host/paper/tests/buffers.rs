@@ -2,7 +2,7 @@
 //! the bytes behind what it wrote.
 
 use paper::make::{
-    damaged_packs, damaged_points, damaged_table, full_draft, pair, worked_pair, Place, Rng,
+    damaged_packs, damaged_points, damaged_table, full_draft, pair, worked_pair, Place, Rng, BUILT,
 };
 use paper::{build, code_label, label, label_of, pack_label, Refusal};
 
@@ -90,7 +90,7 @@ fn labels_of_every_view_keep_the_bytes_behind() {
 
 #[test]
 fn a_label_is_the_same_in_every_buffer_that_has_room() {
-    let pack = full_draft().bytes();
+    let pack = full_draft(BUILT).bytes();
     for k in 1..=3 {
         let mut wide = [0; 499];
         let needed = pack_label(&pack, k, &mut wide).expect("a label");

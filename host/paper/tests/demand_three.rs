@@ -1,12 +1,12 @@
 //! Demand 3 on thousands of random pairs and Mainfile sets: building is refused
 //! exactly when it has to be, and otherwise gives a pack that opens and answers,
-//! for every k and every buffer, what the files answer.
+//! for every k and every buffer, what the files answer, and for every k the suffix.
 //!
 //! What is expected is worked out here from the plain rows and views that the
 //! makers made the files from, and not by reading the files.
 
 use paper::make::{joined_key, main_set, outward, pair, MainSet, Pair, Rng, TableRow, View};
-use paper::{mainfile, open, pack_label, Refusal};
+use paper::{mainfile, open, pack_label, pack_suffix, Refusal};
 use std::collections::{BTreeMap, BTreeSet};
 
 const ROUNDS: u64 = 4_000;
@@ -165,9 +165,9 @@ fn used_rows(views: &[Packed]) -> BTreeSet<(u8, u32)> {
     all.filter(|(_, key)| *key > 0).collect()
 }
 
-/// The pack that document 01 asks for: the used table rows once each by type
-/// then key, one row of type 6 for each packed view with an organisation, the
-/// points and the trailer.
+/// The pack that document 01 asks for, in edition 2: the used table rows once
+/// each by type then key, one row of type 6 for each packed view with an
+/// organisation, the points and the trailer.
 fn expected_pack(views: &[Packed], rows: &BTreeMap<(u8, u32), &TableRow>, code: &[u8]) -> Vec<u8> {
     let mut pack = Vec::new();
     let mut offsets = BTreeMap::new();
@@ -194,7 +194,7 @@ fn expected_pack(views: &[Packed], rows: &BTreeMap<(u8, u32), &TableRow>, code: 
     }
     pack.extend(code);
     pack.extend(length.to_be_bytes());
-    pack.push(1);
+    pack.push(2);
     pack
 }
 
@@ -206,6 +206,7 @@ fn point_bytes(
 ) -> Vec<u8> {
     let mut point = code.to_vec();
     point.extend(view.inward.bytes());
+    point.extend(view.suffix.bytes());
     point.push(view.postcode_type);
     point.extend(view.address_key.to_be_bytes());
     point.extend(view.organisation_key.to_be_bytes());
@@ -260,6 +261,19 @@ fn same_label(rng: &Rng, files: Files, code: &[u8], pack: &[u8], k: u64, seen: &
                 seen.refused_labels += 1;
             }
         }
+    }
+}
+
+/// The suffix of point k is the suffix of the k-th live view; there is no other.
+fn check_suffixes(pack: &[u8], views: &[Packed]) {
+    let none = Err(Refusal::new(7, 0));
+    for (k, packed) in (1..).zip(views) {
+        let bytes = packed.view.suffix.as_bytes();
+        let suffix = u64::from(bytes[0]) * 256 + u64::from(bytes[1]);
+        assert_eq!(pack_suffix(pack, k), Ok(suffix), "{k}");
+    }
+    for k in [0, views.len() as u64 + 1, 1 << 32, u64::MAX] {
+        assert_eq!(pack_suffix(pack, k), none, "{k}");
     }
 }
 
@@ -332,6 +346,7 @@ fn check_code(rng: &Rng, files: Files, code: &[u8], seen: &mut Seen) {
             let has_row = |packed: &&Packed| matches!(packed.organisation, Organisation::Row(_));
             seen.organisation_rows += views.iter().filter(has_row).count();
             check_pack(rng, files, code, &expected, seen);
+            check_suffixes(&expected, &views);
         }
     }
 }
@@ -389,7 +404,7 @@ fn a_code_without_live_views_gives_21_bytes() {
     let pair = paper::make::worked_pair();
     let mut pack = [7; 30];
     assert_eq!(Files::Pair(&pair).build(b"DN55", &mut pack), Ok(21));
-    assert_eq!(&pack[..21], b"\0\0\0\0\0\0\0\0\0\0\0\0DN55\0\0\0\x15\x01");
+    assert_eq!(&pack[..21], b"\0\0\0\0\0\0\0\0\0\0\0\0DN55\0\0\0\x15\x02");
     assert_eq!(pack[21..], [7; 9]);
     assert_eq!(open(&pack[..21]), Ok(0));
 }

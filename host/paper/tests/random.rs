@@ -2,11 +2,12 @@
 //! every case; nothing panics, whatever the damage.
 
 use paper::make::{
-    damaged_points, damaged_table, exact_pair, pack_draft, pair, scratch, Pair, Place, Rng, View,
+    damaged_points, damaged_table, exact_pair, pack_draft, pair, scratch, Edition, Pair, Place,
+    Rng, View, FIRST,
 };
 use paper::{
     build, check_points, check_table, code_label, label, label_of, letter, live, open, pack_label,
-    point_fault, report, table_fault, views,
+    pack_suffix, point_fault, report, table_fault, views, Refusal,
 };
 
 #[test]
@@ -178,8 +179,15 @@ fn scratched_packs_always_get_an_answer() {
         let answer = open(&pack);
         opened[answer.map_or_else(|why| why.detail as usize, |_| 0)] += 1;
         for k in [0, 1, 2, u64::MAX] {
-            let label = pack_label(&pack, k, &mut [0; 499]);
-            assert_eq!(answer.is_err(), label.is_err_and(|why| why.number == 11));
+            let label = pack_label(&pack, k, &mut [0; 499]).err();
+            assert_eq!(answer.is_err(), label.is_some_and(|why| why.number == 11));
+            let suffix = pack_suffix(&pack, k).err();
+            let edition = Edition::of(&pack);
+            let expected = match (label, edition) {
+                (None, Some(FIRST)) => Some(Refusal::new(13, 0)),
+                _ => label,
+            };
+            assert_eq!(suffix, expected, "{k}, {edition:?}");
         }
     }
     println!("{opened:?}");

@@ -3,12 +3,13 @@
 use paper::make::{
     bad_outward, damaged_packs, damaged_points, damaged_table, exact_pair, full_draft,
     point_breaks, point_file, point_file_of, table_breaks, table_file, table_file_of, whole_view,
-    worked_pair, Pair, Place, Rng, TableRow, View, FORBIDDEN, MISSING,
+    worked_pair, Pair, Place, Rng, TableRow, View, EDITIONS, FORBIDDEN, MISSING,
 };
 use paper::{
     build, check_points, check_table, code_label, label, label_of, letter, live, open, pack_label,
-    packed, point_fault, table_fault, views, Refusal,
+    pack_suffix, packed, point_fault, table_fault, views, Refusal,
 };
+use std::collections::BTreeMap;
 
 const ROUNDS: u64 = 60;
 
@@ -387,11 +388,11 @@ fn a_short_buffer_is_10_with_the_bytes_needed() {
     assert_eq!(label(table, points, 1, &mut [0; 52]), Ok(52));
     assert_eq!(code_label(table, points, b"AB1 ", 1, &mut []), label_room);
     assert_eq!(
-        build(table, points, b"AB1 ", &mut [0; 128]),
-        Err(refusal(10, 0, 129))
+        build(table, points, b"AB1 ", &mut [0; 130]),
+        Err(refusal(10, 0, 131))
     );
-    let mut pack = [0; 129];
-    assert_eq!(build(table, points, b"AB1 ", &mut pack), Ok(129));
+    let mut pack = [0; 131];
+    assert_eq!(build(table, points, b"AB1 ", &mut pack), Ok(131));
     assert_eq!(pack_label(&pack, 1, &mut [0; 51]), label_room);
     assert_eq!(
         build(table, points, b"AB2 ", &mut [0; 20]),
@@ -476,30 +477,38 @@ fn building_names_the_first_live_view_that_is_refused() {
 
 #[test]
 fn every_clause_of_the_pack_check_is_11_with_its_step() {
-    let pack = full_draft().bytes();
-    assert_eq!(open(&pack), Ok(3));
-    let mut steps = [0; 4];
+    let mut steps = BTreeMap::new();
     for damaged in damaged_packs() {
-        let expected = Err(refusal(11, 0, damaged.step));
-        assert_eq!(open(&damaged.pack), expected, "{}", damaged.clause);
-        assert_eq!(
-            pack_label(&damaged.pack, 0, &mut []),
-            expected,
-            "{}",
-            damaged.clause
-        );
-        steps[damaged.step as usize] += 1;
+        let expected = refusal(11, 0, damaged.step);
+        let (pack, clause) = (&damaged.pack, &damaged.clause);
+        assert_eq!(open(pack), Err(expected), "{clause}");
+        assert_eq!(pack_label(pack, 0, &mut []), Err(expected), "{clause}");
+        assert_eq!(pack_suffix(pack, 0), Err(expected), "{clause}");
+        let seen: &mut [usize; 4] = steps.entry(damaged.edition.number).or_default();
+        seen[damaged.step as usize] += 1;
     }
     println!("{steps:?}");
-    assert!(steps[1] >= 19 && steps[2] >= 90 && steps[3] >= 150);
-    assert_eq!(pack_label(&pack, 0, &mut []), Err(refusal(7, 0, 0)));
-    assert_eq!(pack_label(&pack, 4, &mut []), Err(refusal(7, 0, 0)));
-    assert_eq!(pack_label(&pack, u64::MAX, &mut []), Err(refusal(7, 0, 0)));
+    for edition in EDITIONS {
+        let seen = steps[&edition.number];
+        assert!(seen[1] >= 20 && seen[2] >= 90 && seen[3] >= 150);
+    }
+}
+
+#[test]
+fn no_point_of_that_number_is_7_behind_11() {
+    for edition in EDITIONS {
+        let pack = full_draft(edition).bytes();
+        assert_eq!(open(&pack), Ok(3));
+        for k in [0, 4, u64::MAX] {
+            assert_eq!(pack_label(&pack, k, &mut []), Err(refusal(7, 0, 0)));
+            assert_eq!(pack_suffix(&pack, k), Err(refusal(7, 0, 0)));
+        }
+    }
 }
 
 #[test]
 fn answers_are_packed_into_bits() {
-    assert_eq!(packed(Ok(129)), 129);
+    assert_eq!(packed(Ok(131)), 131);
     let refused = Refusal {
         number: 9,
         file: 0,

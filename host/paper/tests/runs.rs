@@ -1,6 +1,6 @@
 //! Runs of labels: equal to asking for each in turn, in buffers of every length.
 
-use paper::make::{bad_outward, damaged_packs, full_draft, pair, worked_pair, Pair, Rng};
+use paper::make::{bad_outward, damaged_packs, full_draft, pair, worked_pair, Pair, Rng, BUILT};
 use paper::{code_label, code_labels, label, labels, pack_label, pack_labels, packed_run};
 use paper::{Refusal, Run};
 
@@ -87,7 +87,7 @@ fn a_run_is_each_label_in_turn() {
 
 #[test]
 fn a_run_over_a_pack_in_every_room() {
-    let pack = full_draft().bytes();
+    let pack = full_draft(BUILT).bytes();
     let mut all = [BEFORE; 3 * 499];
     let whole = pack_labels(&pack, 1, 3, &mut all).expect("a run");
     assert_eq!((whole.labels, whole.stop), (3, None));

@@ -29,6 +29,23 @@ pub fn inward(rng: &mut Rng) -> Vec<u8> {
     vec![*rng.pick(DIGITS), *rng.pick(INWARD), *rng.pick(INWARD)]
 }
 
+/// A well formed suffix.
+pub fn suffix(rng: &mut Rng) -> Vec<u8> {
+    vec![*rng.pick(DIGITS), b'A' + rng.below(26) as u8]
+}
+
+/// The suffixes of a postcode as Royal Mail gives them out: 1A to 9T, without the
+/// letters that no inward code has.
+const GIVEN_OUT: u32 = 175;
+
+/// The n-th of them, counted from 1, as text; behind the last the first again.
+pub fn nth_suffix(n: u32) -> String {
+    let place = (n.saturating_sub(1) % GIVEN_OUT) as usize;
+    let digit = DIGITS[1 + place / INWARD.len()];
+    let letter = INWARD[place % INWARD.len()];
+    [digit, letter].map(char::from).iter().collect()
+}
+
 /// A code that isn't a well formed outward code: another length, a letter where
 /// it may not stand, or none of the patterns.
 pub fn bad_outward(rng: &mut Rng) -> Vec<u8> {

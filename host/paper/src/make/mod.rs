@@ -9,7 +9,9 @@
 
 mod codes;
 mod damage;
+mod editions;
 pub mod guide;
+mod pack_damage;
 mod packs;
 mod pairs;
 mod records;
@@ -19,14 +21,14 @@ mod sets;
 mod texts;
 mod whole;
 
-pub use codes::{bad_outward, inward, outward};
+pub use codes::{bad_outward, inward, nth_suffix, outward, suffix};
 pub use damage::{
     damaged_main, damaged_points, damaged_table, main_breaks, point_breaks, scratch, table_breaks,
     Break, Damaged, Place,
 };
-pub use packs::{
-    damaged_packs, full_draft, pack_draft, worked_pack, DamagedPack, PackDraft, PackPoint, PackRow,
-};
+pub use editions::{Edition, BUILT, EDITIONS, FIRST};
+pub use pack_damage::{damaged_packs, DamagedPack};
+pub use packs::{full_draft, pack_draft, worked_pack, PackDraft, PackPoint, PackRow};
 pub use pairs::{exact_pair, pair, worked_pair, Pair};
 pub use records::{
     main_file_of, padded, point_file, point_file_of, table_file, table_file_of, Follower,

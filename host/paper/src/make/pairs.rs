@@ -1,5 +1,5 @@
 use super::texts::{descriptor, organisation, place, po_box, premises};
-use super::{inward, outward, point_file, table_file, Follower, Rng, TableRow, View};
+use super::{inward, outward, point_file, suffix, table_file, Follower, Rng, TableRow, View};
 
 /// A table file and a point file that are both accepted, and what they were
 /// made from, in file order.
@@ -226,7 +226,7 @@ pub(super) fn view(rng: &mut Rng, rows: &[TableRow], one_fault_in: usize) -> Vie
         date: rng.within(20_110_901, 20_110_903),
         time: rng.within(101_501, 101_503),
         inward: text(inward(rng)),
-        suffix: rng.pick(&["1A", "1B", "9Z", "0C"]).to_string(),
+        suffix: text(suffix(rng)),
         address_key: rng.within(0, 99_999_999),
         letter: *rng.pick(b"BCDIII"),
         locality: key(rng, rows, 1),

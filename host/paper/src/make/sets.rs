@@ -1,7 +1,7 @@
 use super::pairs::{fill, row_of, text, view};
 use super::records::{highest_main_key, MAIN_FRAMES};
 use super::texts::organisation;
-use super::{main_file_of, outward, Organisation, Pair, Rng, TableRow, View};
+use super::{main_file_of, nth_suffix, outward, Organisation, Pair, Rng, TableRow, View};
 use crate::mainfile::Set;
 use std::collections::BTreeMap;
 
@@ -303,6 +303,7 @@ fn long_address(n: u32, room: u32) -> View {
     let mut address = View {
         outward: format!("AB{}", 10 + sector / 10),
         inward: format!("{}AA", sector % 10),
+        suffix: nth_suffix(n),
         address_key: n,
         locality: any(1),
         thoroughfare: any(2),

@@ -5,7 +5,7 @@ use paper::mainfile::{
     build, check, code_label, code_labels, code_list, codes, label, labels, list, live, views, Set,
 };
 use paper::make::{padded, worked_pair, MainSet, Organisation, Pair, View};
-use paper::{open, pack_label, packed_run, Refusal, Run};
+use paper::{open, pack_label, pack_suffix, packed_run, Refusal, Run};
 
 /// The seven files.
 fn files() -> [Vec<u8>; 7] {
@@ -21,11 +21,11 @@ fn files() -> [Vec<u8>; 7] {
     ];
     let small = [
         "AB1 ", "9ZZ", "00000003", "000001", none, "0000", none, "0000", "0000", none, none,
-        "0001", "00000005", "S", " ", "1A", "Y", "      ",
+        "0001", "00000005", "S", " ", "1B", "Y", "      ",
     ];
     let numbered = [
         "AB1 ", "9ZZ", "00000004", "000001", none, "0000", none, "0000", "0003", none, none,
-        "0001", "00000005", "S", " ", "1A", "Y", "      ",
+        "0001", "00000005", "S", " ", "9Z", "Y", "      ",
     ];
     let elsewhere = [
         "AB10", "1AA", "00000001", "000001", none, "0000", none, "0000", "0000", "00000010", none,
@@ -112,11 +112,13 @@ fn the_makers_write_the_same_files() {
         ..in_town.clone()
     };
     let small = View {
+        suffix: "1B".to_string(),
         address_key: 3,
         organisation_key: 5,
         ..in_town.clone()
     };
     let numbered = View {
+        suffix: "9Z".to_string(),
         address_key: 4,
         building_number: 3,
         ..small.clone()
@@ -245,7 +247,7 @@ fn a_listing_stops_with_10_before_what_does_not_fit() {
     assert_eq!(list(set(&files), 5, 1, &mut out[..18]), Ok(refused_too));
 }
 
-/// A point of the pack of AB1: keys, number, PO box and offsets.
+/// A point of the pack of AB1: suffix and type, keys, number, PO box and offsets.
 fn point(kind: &[u8], keys: [u32; 2], number: u16, po_box: &[u8], offsets: [u32; 8]) -> Vec<u8> {
     let mut point = b"AB1 9ZZ".to_vec();
     point.extend(kind);
@@ -278,17 +280,17 @@ fn expected_pack() -> Vec<u8> {
     pack.extend(shared);
     assert_eq!(pack.len(), 86);
     pack.extend(point(
-        b"S",
+        b"1AS",
         [1, 0],
         0,
         b"      ",
         [0, 16, 24, NO, NO, 30, 39, NO],
     ));
-    pack.extend(point(b"L", [2, 7], 0, b"70    ", town(51)));
-    pack.extend(point(b"S", [3, 5], 0, b"      ", town(54)));
-    pack.extend(point(b"S", [4, 5], 3, b"      ", town(70)));
-    pack.extend(b"\0\0\0\x08\0\0\0\x56\0\0\0\x04AB1 \0\0\x01\x4f\x01");
-    assert_eq!(pack.len(), 86 + 4 * 57 + 21);
+    pack.extend(point(b"1AL", [2, 7], 0, b"70    ", town(51)));
+    pack.extend(point(b"1BS", [3, 5], 0, b"      ", town(54)));
+    pack.extend(point(b"9ZS", [4, 5], 3, b"      ", town(70)));
+    pack.extend(b"\0\0\0\x08\0\0\0\x56\0\0\0\x04AB1 \0\0\x01\x57\x02");
+    assert_eq!(pack.len(), 86 + 4 * 59 + 21);
     pack
 }
 
@@ -311,6 +313,10 @@ fn the_pack_has_these_bytes() {
         printed.extend(&out[..written]);
     }
     assert_eq!(printed, labelled().as_bytes());
+    let suffixes: Vec<_> = (1..=5).map(|k| pack_suffix(&expected, k)).collect();
+    let (of_1a, of_1b, of_9z) = (Ok(0x3141), Ok(0x3142), Ok(0x395a));
+    let none = Err(Refusal::new(7, 0));
+    assert_eq!(suffixes, [of_1a, of_1a, of_1b, of_9z, none]);
 }
 
 #[test]
@@ -324,5 +330,5 @@ fn building_names_the_view_that_is_refused() {
     assert_eq!(build(set(&files), b"AB10", &mut pack), Err(refused));
     assert_eq!(pack, [9; 400]);
     assert_eq!(build(set(&files), b"AB2 ", &mut pack), Ok(21));
-    assert_eq!(&pack[..21], b"\0\0\0\0\0\0\0\0\0\0\0\0AB2 \0\0\0\x15\x01");
+    assert_eq!(&pack[..21], b"\0\0\0\0\0\0\0\0\0\0\0\0AB2 \0\0\0\x15\x02");
 }
