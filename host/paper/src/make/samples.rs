@@ -3,7 +3,7 @@
 //! organisations of both kinds, missing keys, forbidden combinations; in the pair
 //! all four letters too.
 
-use super::{Change, MainSet, Organisation, Pair, TableRow, View, FORBIDDEN, MISSING};
+use super::{nth_suffix, Change, MainSet, Organisation, Pair, TableRow, View, FORBIDDEN, MISSING};
 use crate::label_of;
 
 fn rows() -> Vec<TableRow> {
@@ -137,18 +137,28 @@ fn others() -> Vec<View> {
 
 /// The pair, its views numbered by their address keys.
 pub fn pair() -> Pair {
-    let views = premises(in_lane())
-        .into_iter()
-        .chain(premises(in_town()))
-        .chain(others())
-        .zip(1..)
-        .map(|(view, address_key)| View {
-            address_key,
-            time: address_key,
-            ..view
-        })
-        .collect();
-    Pair::new(rows(), views)
+    let mut views = premises(in_lane());
+    views.extend(premises(in_town()));
+    views.extend(others());
+    let timed = |view: View| View {
+        time: view.address_key,
+        ..view
+    };
+    Pair::new(rows(), numbered(views).map(timed).collect())
+}
+
+/// The views, numbered by their address keys, with suffixes in the order of these;
+/// a large user's is always 1A.
+fn numbered(views: Vec<View>) -> impl Iterator<Item = View> {
+    let views = views.into_iter().zip(1..);
+    views.map(|(view, address_key)| View {
+        address_key,
+        suffix: match view.postcode_type {
+            b'L' => nth_suffix(1),
+            _ => nth_suffix(address_key),
+        },
+        ..view
+    })
 }
 
 /// The pair without the views that are refused a label, so that every code has
@@ -186,14 +196,10 @@ pub fn main_set() -> MainSet {
 
 /// The views in a code, numbered by their address keys.
 fn in_code(outward: &str, views: Vec<View>) -> impl Iterator<Item = View> + '_ {
-    views
-        .into_iter()
-        .zip(1..)
-        .map(move |(view, address_key)| View {
-            outward: outward.to_string(),
-            address_key,
-            ..view
-        })
+    numbered(views).map(move |view| View {
+        outward: outward.to_string(),
+        ..view
+    })
 }
 
 /// Dependent thoroughfares and localities of each depth.
