@@ -7,9 +7,10 @@
  * memory, or opens a file. What a call writes (`out`, `*bytes`) may overlap nothing else that it is lent.
  *
  * Stack: a call on files takes less than 2,048 bytes, labels and listings from files less than 4,096, opening a pack,
- * labels or listings from a pack less than 80 KiB, building a pack or listing codes less than 192 KiB. A call on a Mainfile
- * set takes what that call on a pair of files does, but labels and listings from a set take less than 6,144 bytes, and
- * building a pack from a set takes less than 1 MiB. A thread that makes such a call needs its stack sized for that.
+ * labels, listings or a suffix from a pack less than 80 KiB, building a pack or listing codes less than 192 KiB. A call on
+ * a Mainfile set takes what that call on a pair of files does, but labels and listings from a set take less than 6,144
+ * bytes, and building a pack from a set takes less than 1 MiB. A thread that makes such a call needs its stack sized for
+ * that.
  *
  * Each call answers one number. Take it apart with the macros below and never compare whole words: later calls fill bits
  * that are 0 today.
@@ -62,7 +63,8 @@ enum ttw_refused {
     TTW_REFUSED_KEY = 9,
     TTW_REFUSED_ROOM = 10,
     TTW_REFUSED_PACK = 11,
-    TTW_REFUSED_CODE = 12
+    TTW_REFUSED_CODE = 12,
+    TTW_REFUSED_SUFFIX = 13
 };
 
 /* Refusals of a file, in the order in which they are tried (the detail is the record's number, counted from 1):
@@ -183,7 +185,9 @@ uint64_t ttw_code_list(const uint8_t *table, size_t table_len, const uint8_t *po
                        size_t out_len, uint64_t *bytes);
 
 /* Packs. A pack holds the labels of the live views in one outward code, and needs no file beside it: its k-th point has
- * the label that ttw_code_label gives for the k-th live view of the files that it was built from.
+ * the label that ttw_code_label gives for the k-th live view of the files that it was built from. Its last byte is its
+ * edition. Packs of edition 2 are built, whose points have a delivery point suffix too; those of edition 1, which have
+ * none, open and print the same labels.
  *
  *     uint64_t answer = ttw_pack_label(pack, pack_len, 1, label, sizeof label);
  *     if (TTW_REFUSAL(answer) == 0)
@@ -208,6 +212,16 @@ uint64_t ttw_pack(const uint8_t *pack, size_t pack_len);
  * written. Refusals, in this order: 11 as above, 7 no such point, 10 `out` is shorter than the label (the bytes
  * needed). */
 uint64_t ttw_pack_label(const uint8_t *pack, size_t pack_len, uint64_t k, uint8_t *out, size_t out_len);
+
+/* The delivery point suffix of the k-th point of a pack, k counted from 1, a digit and a letter: the value is the first
+ * byte times 256 plus the second, so that `1A` is 12609. Refusals, in this order: 11 as above, 7 no such point, 13 a pack
+ * of this edition has no suffix (detail 0).
+ *
+ *     uint64_t answer = ttw_pack_suffix(pack, pack_len, 1);
+ *     if (TTW_REFUSAL(answer) == 0)
+ *         printf("%c%c\n", (int)(TTW_VALUE(answer) / 256), (int)(TTW_VALUE(answer) % 256));
+ */
+uint64_t ttw_pack_suffix(const uint8_t *pack, size_t pack_len, uint64_t k);
 
 /* The labels of `count` points of a pack from point `first` on, counted from 1: how many labels were written. It is a
  * run of labels as above, refused as a whole with 11, and stops with 7 or 10. */

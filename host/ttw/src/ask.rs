@@ -15,7 +15,7 @@ const ROOM: u8 = 10;
 /// Why a call was refused.
 #[derive(Clone, Copy, Debug, PartialEq, Eq)]
 pub struct Refusal {
-    /// 1 to 12.
+    /// 1 to 13.
     pub number: u8,
     /// The file to blame: 1 the table file, 2 the point file; of a set 1 to 7;
     /// 0 no file.
@@ -118,6 +118,12 @@ pub fn pack(pack: &[u8]) -> Result<u64, Refusal> {
 /// The label of the k-th point of a pack.
 pub fn pack_label(pack: &[u8], k: u64) -> Result<Vec<u8>, Refusal> {
     printed(|out| calls::pack_label(pack, k, out))
+}
+
+/// The suffix of the k-th point of a pack, a digit and a letter.
+pub fn pack_suffix(pack: &[u8], k: u64) -> Result<String, Refusal> {
+    let suffix = answer(calls::pack_suffix(pack, k))? as u16;
+    Ok(suffix.to_be_bytes().map(char::from).iter().collect())
 }
 
 /// Runs and listings: so many from `first` on, written into `out`.

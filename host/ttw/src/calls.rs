@@ -91,6 +91,10 @@ calls! {
     /// The label of the k-th point of a pack, printed into `out`.
     pack_label = ttw_pack_label(pack) (k) (out) ();
 
+    /// The suffix of the k-th point of a pack, its first byte times 256 plus its
+    /// second.
+    pack_suffix = ttw_pack_suffix(pack) (k) () ();
+
     /// The labels of so many points from `first` on, printed into `out` one behind
     /// the other; `bytes` becomes the bytes that they take.
     pack_labels = ttw_pack_labels(pack) (first, count) (out) (bytes);

@@ -86,6 +86,7 @@ fn reason(refusal: &Refusal, files: &Files) -> String {
         10 => format!("the room is too short, {detail} bytes are needed"),
         11 => damaged(detail).to_string(),
         12 => "not an outward code, such as AB1 or EC1N in capitals".to_string(),
+        13 => "a pack of this edition has no suffix".to_string(),
         number => format!("refused with {number}, detail {detail}"),
     }
 }
