@@ -1,7 +1,7 @@
 /* What a handset does with a pack: loads it, prints the label of a point or of many, or says why it cannot.
  *
  *     handset AB1.pack        how many points the pack has
- *     handset AB1.pack 3      the label of point 3
+ *     handset AB1.pack 3      the label of point 3, and its suffix
  *     handset AB1.pack 3 40   the labels of 40 points, from point 3 on
  *
  * Exit status: 0 done, 1 refused, 2 could not. */
@@ -93,6 +93,21 @@ static int say_points(const struct pack *pack)
     return DONE;
 }
 
+/* The suffix that the grid form asks for. A pack of edition 1 has none, and its labels are as good without. */
+static int say_suffix(const struct pack *pack, uint64_t k)
+{
+    uint64_t answer = ttw_pack_suffix(pack->bytes, pack->length, k);
+
+    if (TTW_REFUSAL(answer) == TTW_REFUSED_SUFFIX) {
+        puts("suffix: none in this pack, which is of an older edition");
+        return DONE;
+    }
+    if (TTW_REFUSAL(answer) != 0)
+        return say_refusal(answer);
+    printf("suffix: %c%c\n", (int)(TTW_VALUE(answer) / 256), (int)(TTW_VALUE(answer) % 256));
+    return DONE;
+}
+
 static int say_label(const struct pack *pack, uint64_t k)
 {
     uint8_t label[TTW_LABEL_MAX];
@@ -101,7 +116,7 @@ static int say_label(const struct pack *pack, uint64_t k)
     if (TTW_REFUSAL(answer) != 0)
         return say_refusal(answer);
     fwrite(label, 1, (size_t)TTW_VALUE(answer), stdout);
-    return DONE;
+    return say_suffix(pack, k);
 }
 
 /* As many labels at a time as there is room for: behind those written, the next are asked for in an empty buffer. */
@@ -131,7 +146,7 @@ static int read_number(const char *text, uint64_t *number)
     return errno == 0 && text[0] >= '0' && text[0] <= '9' && *end == '\0';
 }
 
-/* The label of a point, those of many, or how many there are, by what is given. */
+/* The label of a point with its suffix, the labels of many, or how many there are, by what is given. */
 static int say(const struct pack *pack, int given, uint64_t k, uint64_t count)
 {
     switch (given) {

@@ -3,7 +3,7 @@
 
 mod support;
 
-use paper::make::{damaged_packs, exact_pair, worked_pair, Rng};
+use paper::make::{damaged_packs, exact_pair, worked_pack, worked_pair, Rng, FIRST};
 use std::path::Path;
 use std::process::Command;
 use support::{compiled_handset, is_emulated, is_installed, run, Folder, Run};
@@ -21,13 +21,31 @@ fn packs() -> Folder {
         folder.put(&format!("damaged{step}.pack"), pack);
     }
     folder.put("empty.pack", b"");
+    folder.put("older.pack", &worked_pack(FIRST));
     folder
 }
 
 /// What the program is asked, its exit status and what it prints.
-const ASKED: [(&[&str], i32, &str); 12] = [
+const ASKED: [(&[&str], i32, &str); 16] = [
     (&["AB1.pack"], 0, "points: 1\n"),
-    (&["AB1.pack", "1"], 0, LABEL),
+    (
+        &["AB1.pack", "1"],
+        0,
+        "ATTIC FLAT\n110-114 QUARRY LANE\nHARTWELL BAY\nAB1 9ZZ\nsuffix: 1A\n",
+    ),
+    (&["older.pack"], 0, "points: 1\n"),
+    (
+        &["older.pack", "1"],
+        0,
+        "ATTIC FLAT\n110-114 QUARRY LANE\nHARTWELL BAY\nAB1 9ZZ\n\
+         suffix: none in this pack, which is of an older edition\n",
+    ),
+    (&["older.pack", "1", "1"], 0, LABEL),
+    (
+        &["older.pack", "2"],
+        1,
+        "This pack has no point of that number.\n",
+    ),
     (&["AB1.pack", "1", "1"], 0, LABEL),
     (&["AB1.pack", "1", "0"], 0, ""),
     (
