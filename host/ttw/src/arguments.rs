@@ -49,10 +49,11 @@ impl Takes {
 }
 
 /// Every option.
-pub const OPTIONS: [(&str, Takes); 8] = [
+pub const OPTIONS: [(&str, Takes); 9] = [
     ("--help", Takes::NothingAnywhere),
     ("--version", Takes::NothingAnywhere),
     ("--all", Takes::Nothing),
+    ("--suffix", Takes::Nothing),
     ("--view", Takes::Number),
     ("--nth", Takes::Number),
     ("--count", Takes::Number),
@@ -69,6 +70,7 @@ pub struct Arguments {
     pub nth: Option<u64>,
     pub count: Option<u64>,
     pub all: bool,
+    pub suffix: bool,
     pub out: Option<PathBuf>,
     pub help: bool,
     pub version: bool,
@@ -79,6 +81,7 @@ impl Arguments {
     pub fn options(&self) -> impl Iterator<Item = &'static str> {
         let given = [
             ("--all", self.all),
+            ("--suffix", self.suffix),
             ("--view", self.view.is_some()),
             ("--nth", self.nth.is_some()),
             ("--count", self.count.is_some()),
@@ -150,6 +153,7 @@ fn set_mark(arguments: &mut Arguments, name: &str) -> Result<(), Stop> {
     let mark = match name {
         "--help" => &mut arguments.help,
         "--version" => &mut arguments.version,
+        "--suffix" => &mut arguments.suffix,
         _ => &mut arguments.all,
     };
     *mark = true;

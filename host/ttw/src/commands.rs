@@ -346,7 +346,10 @@ pub fn show(given: &Arguments) -> Outcome {
     }
     send_to(given.out.as_deref());
     let pack = read_pack(&given.files[0])?;
-    ask::pack(&pack).map_err(|why| Stop::Refused(words(&why, "pack")))?;
+    let points = ask::pack(&pack).map_err(|why| Stop::Refused(words(&why, "pack")))?;
+    if given.suffix {
+        return show_suffixes(&pack, points, given);
+    }
     let name = |k| format!("point {k}");
     match (given.nth, given.count) {
         (Some(k), None) => print_one(words, &name(k), ask::pack_label(&pack, k)),
@@ -365,4 +368,34 @@ pub fn show(given: &Arguments) -> Outcome {
             )
         }
     }
+}
+
+/// `ttw show --suffix`: each label under its suffix. Each is asked for by itself,
+/// on all cores, since each such call checks the pack.
+fn show_suffixes(pack: &[u8], points: u64, given: &Arguments) -> Outcome {
+    let listed = given.nth.is_none();
+    let (first, count) = match given.nth {
+        Some(k) => (k, given.count.unwrap_or(1)),
+        None => (1, points),
+    };
+    // The number behind the last point is refused, and none is asked for behind it.
+    let numbers = (first..=u64::MAX).take(count.min(points + 1) as usize);
+    let numbers: Vec<u64> = numbers.collect();
+    let ask = |k: &u64| Ok((ask::pack_suffix(pack, *k)?, ask::pack_label(pack, *k)?));
+    printed(|out| {
+        in_order(&numbers, ask, |k, answer| {
+            let subject = format!("point {k}");
+            let (suffix, label) =
+                answer.map_err(|why: Refusal| Stop::Refused(words(&why, &subject)))?;
+            if listed {
+                writeln!(out, "{subject}")?;
+            }
+            writeln!(out, "suffix {suffix}")?;
+            Ok(out.write_all(&label)?)
+        })
+    })?;
+    if listed {
+        tell(&format!("labels printed: {points}, refused: 0"));
+    }
+    Ok(Ended::Done)
 }

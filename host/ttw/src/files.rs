@@ -19,8 +19,8 @@ pub const STANDARD: &str = "-";
 const CHANGES_READ: u64 = 20_000 * 169 + 1;
 
 /// No pack of a pair of files comes near this length. Each address takes at most
-/// 536 bytes of a pack with the rows that it alone uses, so that no pack of a
-/// Mainfile set with less than 125,000 addresses in the code is as long.
+/// 538 bytes of a pack with the rows that it alone uses, so that no pack of a
+/// Mainfile set with less than 124,000 addresses in the code is as long.
 const PACK_READ: u64 = 64 << 20;
 
 /// A Changes file, or as much of it as is needed to refuse it.

@@ -9,7 +9,7 @@ ttw prints labels from Royal Mail's files and cuts packs for handsets.
   ttw labels CHANGES1 CHANGES2 [--view N | --code AB1 [--nth K]]
              [--count N] [--out FILE]
   ttw pack   CHANGES1 CHANGES2 (--code AB1 | --all) --out FOLDER
-  ttw show   PACK [--nth K [--count N]] [--out FILE]
+  ttw show   PACK [--nth K [--count N]] [--suffix] [--out FILE]
   ttw main   check|codes|labels|pack FILES.. [OPTIONS]
                                             the same of a Mainfile set
 
@@ -79,14 +79,18 @@ replaces an older one has its mode and, where this may be given, its owner.
 ";
 
 pub const SHOW: &str = "\
-ttw show PACK [--nth K [--count N]] [--out FILE]
+ttw show PACK [--nth K [--count N]] [--suffix] [--out FILE]
 
 Checks a pack and prints the labels of its points, numbered from 1. Where - is
 given for the pack, it is read from standard input.
 
   --nth K      the label of point K alone
   --count N    with --nth: so many labels from there on, one behind the other
+  --suffix     the delivery point suffix too, in a line before each label
   --out FILE   into a file, not to standard output: see ttw help labels
+
+A pack of edition 1 has no suffixes, and with --suffix is refused. Each suffix
+costs a check of the pack, so that of many points --suffix takes its time.
 ";
 
 pub const MAIN: &str = "\
@@ -142,6 +146,7 @@ const REFUSALS: &str = "\
 10  the room is too short
 11  a pack is damaged: 1 its end, 2 its rows, 3 its points
 12  not an outward code
+13  a pack of this edition has no suffix
 ";
 
 const STATUS: &str = "\

@@ -73,7 +73,7 @@ const COMMANDS: [Command; 6] = [
         name: "show",
         verbs: &[],
         files: Some(1),
-        options: &["--nth", "--count", "--out"],
+        options: &["--nth", "--count", "--suffix", "--out"],
         help: help::SHOW,
         run: commands::show,
     },

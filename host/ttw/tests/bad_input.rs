@@ -283,7 +283,7 @@ fn damaged_packs_name_the_step() {
 }
 
 /// Wrong usage, and what is told about it.
-const MISUSES: [(&[&str], &str); 20] = [
+const MISUSES: [(&[&str], &str); 22] = [
     (&[], "no command is given; see: ttw help"),
     (&["chekc"], "there is no command \"chekc\"; see: ttw help"),
     (&["help", "me"], "there is no help on \"me\"; see: ttw help"),
@@ -299,6 +299,11 @@ const MISUSES: [(&[&str], &str); 20] = [
         &["check", "--all", "a", "b"],
         "there is no option --all here",
     ),
+    (
+        &["labels", "a", "b", "--suffix"],
+        "there is no option --suffix here",
+    ),
+    (&["show", "a", "--suffix=1"], "--suffix takes no value"),
     (&["labels", "a", "b", "--nth", "1"], "--nth needs --code"),
     (
         &["labels", "a", "b", "--count", "3"],

@@ -209,7 +209,7 @@ type Words = fn(&Refusal, &str) -> String;
 
 /// Each message of docs/REFUSALS.md, as the command makes it.
 fn messages() -> Vec<String> {
-    let all: [(Words, Refusal, &str); 22] = [
+    let all: [(Words, Refusal, &str); 23] = [
         (words, refusal(1, 1, 0, 0), "files"),
         (main_words, refusal(1, 4, 0, 0), "files"),
         (words, refusal(2, 1, 0, 1), "files"),
@@ -227,11 +227,12 @@ fn messages() -> Vec<String> {
         (words, refusal(9, 0, 35, 6), "code AB1"),
         (main_words, refusal(9, 0, 0, 2), "view 40"),
         (main_words, refusal(9, 0, 0, 8), "view 46"),
-        (words, refusal(10, 0, 0, 129), "AB1"),
+        (words, refusal(10, 0, 0, 131), "AB1"),
         (words, refusal(11, 0, 0, 1), "pack"),
         (words, refusal(11, 0, 0, 2), "pack"),
         (words, refusal(11, 0, 0, 3), "pack"),
         (words, refusal(12, 0, 0, 0), "code ab1"),
+        (words, refusal(13, 0, 0, 0), "point 1"),
     ];
     all.map(|(words, why, subject)| words(&why, subject))
         .to_vec()
@@ -249,7 +250,7 @@ fn the_page_of_refusals_has_the_words_that_a_user_sees() {
         .lines()
         .filter_map(|line| line.strip_prefix("## ")?.split(':').next())
         .collect();
-    let numbers: Vec<String> = (1..=12).map(|number: u8| number.to_string()).collect();
+    let numbers: Vec<String> = (1..=13).map(|number: u8| number.to_string()).collect();
     assert_eq!(headings, numbers);
 }
 

@@ -104,6 +104,7 @@ fn labels_that_a_refusal_ends_are_not_written() {
         ),
         ("show AB1.pack --nth 2", "point 2", none),
         ("show AB1.pack --nth 1 --count 40", "point 2", none),
+        ("show AB1.pack --nth 1 --count 9 --suffix", "point 2", none),
     ];
     for (arguments, subject, why) in told {
         let run = folder.shell(&format!("\"$TTW\" {arguments} --out labels"));
@@ -200,7 +201,7 @@ fn nothing_but_a_plain_file_is_replaced() {
 #[test]
 fn a_pack_comes_on_standard_input() {
     let folder = desk();
-    for options in ["", "--nth 1", "--nth 1 --count 1"] {
+    for options in ["", "--nth 1", "--nth 1 --count 1", "--suffix"] {
         let shown = folder.shell(&format!("\"$TTW\" show AB1.pack {options}"));
         for line in [
             format!("\"$TTW\" show - {options} <AB1.pack"),
