@@ -1,30 +1,17 @@
 //! The packs in `samples/packs`, of each edition the same: handsets have packs of
 //! edition 1, so that whatever editions come, these have to open.
 
-use paper::make::{samples, worked_pair, Edition, Pair, BUILT, EDITIONS, FIRST};
+use paper::make::samples::{kept, labelled, packs, KEPT};
+use paper::make::{worked_pair, Edition, Pair, BUILT, EDITIONS, FIRST};
 use paper::{build, open, pack_list, pack_suffix, Refusal};
 use std::fs;
-use std::path::{Path, PathBuf};
-
-/// The packs by their names without `.pack`.
-const KEPT: [&str; 6] = ["AB1", "DN55", "EC1N", "W1A", "by-hand", "worked"];
-
-fn folder() -> PathBuf {
-    Path::new(env!("CARGO_MANIFEST_DIR")).join("../../samples/packs")
-}
-
-fn kept(edition: Edition, name: &str) -> Vec<u8> {
-    let folder = folder().join(format!("edition{}", edition.number));
-    let pack = fs::read(folder.join(format!("{name}.pack"))).expect("a kept pack");
-    assert_eq!(Edition::of(&pack), Some(edition), "{name}");
-    pack
-}
 
 /// The page of all packs of an edition: a line for each, and what `of` says of it.
 fn page(edition: Edition, of: impl Fn(&[u8], u64) -> String) -> String {
     let mut page = String::new();
     for name in KEPT {
         let pack = kept(edition, name);
+        assert_eq!(Edition::of(&pack), Some(edition), "{name}");
         let points = open(&pack).expect("a kept pack opens") as u64;
         page += &format!("pack {name} {points}\n{}", of(&pack, points));
     }
@@ -32,7 +19,7 @@ fn page(edition: Edition, of: impl Fn(&[u8], u64) -> String) -> String {
 }
 
 fn text_of(name: &str) -> String {
-    fs::read_to_string(folder().join(name)).expect("a text")
+    fs::read_to_string(packs().join(name)).expect("a text")
 }
 
 #[test]
@@ -88,7 +75,7 @@ fn without_its_suffixes_each_is_the_one_of_edition_1() {
 
 #[test]
 fn building_gives_those_of_the_edition_that_is_built() {
-    let (labelled, worked) = (samples::labelled(), worked_pair());
+    let (labelled, worked) = (labelled(), worked_pair());
     for (name, Pair { table, points, .. }, code) in [
         ("AB1", &labelled, b"AB1 "),
         ("DN55", &labelled, b"DN55"),

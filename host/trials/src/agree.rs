@@ -114,6 +114,14 @@ pub fn pack_label(pack: &[u8], k: u64, room: usize) -> u64 {
     )
 }
 
+/// The suffix of the k-th point of a pack, or the refusal.
+#[track_caller]
+pub fn pack_suffix(pack: &[u8], k: u64) -> u64 {
+    let answer = lent(pack, |pack| calls::pack_suffix(pack, k));
+    let plain = paper::pack_suffix(pack, k);
+    same(&format!("suffix of point {k}"), pack, answer, plain)
+}
+
 /// The label of the k-th point of a pack that was built from this pair and code. The library has to give the answer and
 /// the buffer that it gives for the k-th live view of the files, beside agreeing with the second program about both.
 #[track_caller]

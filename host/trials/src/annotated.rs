@@ -1,8 +1,11 @@
 //! A pack byte by byte, with what each byte says, for docs/PACK.md.
 
-/// What stands in a point, in order: how many bytes, and what they say.
-const POINT: [(usize, &str); 7] = [
+use paper::make::{worked_pack, worked_pair, Edition, FIRST};
+
+/// What stands in a point, in order: how many bytes, and what they say. The suffix stands in none of edition 1.
+const POINT: [(usize, &str); 8] = [
     (7, "postcode, outward padded to 4"),
+    (2, SUFFIX),
     (1, "postcode type"),
     (4, "address key"),
     (4, "organisation key"),
@@ -10,6 +13,8 @@ const POINT: [(usize, &str); 7] = [
     (1, "concatenation"),
     (6, "PO box"),
 ];
+
+const SUFFIX: &str = "suffix";
 
 /// The eight offsets of a point, in order.
 const OFFSETS: [&str; 8] = [
@@ -33,10 +38,18 @@ const ROWS: [(&str, &[&str]); 6] = [
     ("organisation", &["name", "department"]),
 ];
 
+/// Document 01's pack as it is built, and as it stood in edition 1.
+pub fn worked_packs() -> [Vec<u8>; 2] {
+    let pair = worked_pair();
+    let built = ttw::ask::build(&pair.table, &pair.points, b"AB1 ", 0).expect("a pack");
+    [built, worked_pack(FIRST)]
+}
+
 /// An accepted pack with each of its bytes explained: where it stands, the
 /// bytes as hexadecimal numbers, what they say.
 pub fn annotated(pack: &[u8]) -> String {
-    let trailer = pack.len() - 21;
+    let edition = Edition::of(pack).expect("an accepted pack");
+    let trailer = pack.len() - edition.trailer;
     let mut page = Page::new(pack);
     let number = |at: usize| number(&pack[trailer + at..trailer + at + 4]);
     for row in 1..=number(0) {
@@ -45,7 +58,7 @@ pub fn annotated(pack: &[u8]) -> String {
     }
     for point in 1..=number(8) {
         page.heading(&format!("point {point}"));
-        page.point();
+        page.point(edition);
     }
     page.heading("trailer");
     page.trailer();
@@ -105,8 +118,9 @@ impl<'a> Page<'a> {
         }
     }
 
-    fn point(&mut self) {
-        for (length, name) in POINT {
+    fn point(&mut self, edition: Edition) {
+        let has = |name| edition.has_suffix() || name != SUFFIX;
+        for (length, name) in POINT.into_iter().filter(|field| has(field.1)) {
             let (start, bytes) = self.next(length);
             let said = match name {
                 "address key" | "organisation key" | "building number" => number(bytes).to_string(),

@@ -2,12 +2,8 @@
 
 use crate::agree;
 use crate::rooms::{label_rooms, refusal};
-use paper::make::{padded, PackDraft, PackPoint, PackRow, Pair};
+use paper::make::{padded, Edition, PackDraft, PackPoint, PackRow, Pair, View, BUILT};
 use paper::{packed, Refusal};
-
-/// Bytes of a trailer and of a point.
-pub const TRAILER: usize = 21;
-pub const POINT: usize = 57;
 
 /// The answer about bytes that are no pack: 11 with the first failing step.
 pub fn no_pack(step: u64) -> u64 {
@@ -28,21 +24,35 @@ pub fn built(pair: &Pair, code: &[u8]) -> Option<Vec<u8>> {
     ttw::ask::build(&pair.table, &pair.points, code, 0).ok()
 }
 
-/// What both programs answer about a pack. Opening it and asking for a label have to give the same 11; the labels of an
-/// accepted pack are asked for with every number and the edge buffers.
+/// What both programs answer about a pack. Opening it, asking for a label and for a suffix have to give the same 11; the
+/// labels of an accepted pack are asked for with every number and the edge buffers, and so are its suffixes, which are
+/// refused where the label is, or all of them.
 #[track_caller]
 pub fn ask(pack: &[u8]) -> u64 {
     let answer = agree::pack(pack);
     if refusal(answer) == 0 {
+        let has_suffix = Edition::of(pack).is_some_and(Edition::has_suffix);
         for k in (0..=answer + 1).chain([1 << 32, (1 << 32) + 1, u64::MAX]) {
-            label_rooms(|room| agree::pack_label(pack, k, room));
+            let label = label_rooms(|room| agree::pack_label(pack, k, room));
+            let expected = match refusal(label) {
+                0 if !has_suffix => 13,
+                number => number,
+            };
+            assert_eq!(refusal(agree::pack_suffix(pack, k)), expected, "{k}");
         }
     } else {
         for (k, room) in [(0, 0), (1, 499), (u64::MAX, 60)] {
             assert_eq!(agree::pack_label(pack, k, room), answer);
+            assert_eq!(agree::pack_suffix(pack, k), answer);
         }
     }
     answer
+}
+
+/// A view's suffix as it is told of a point.
+pub fn suffix_of(view: &View) -> u64 {
+    let bytes = view.suffix.bytes();
+    bytes.fold(0, |number, byte| 256 * number + u64::from(byte))
 }
 
 /// A row of a pack.
@@ -58,6 +68,7 @@ pub fn resident() -> PackPoint {
     PackPoint {
         outward: b"AB1 ".to_vec(),
         inward: b"9ZZ".to_vec(),
+        suffix: b"1A".to_vec(),
         postcode_type: b'S',
         address_key: 1,
         organisation_key: 0,
@@ -84,24 +95,33 @@ pub fn large_user(organisation: usize) -> PackPoint {
     point
 }
 
-/// A pack for AB1 of these rows and points, sound or not.
+/// A pack for AB1 of these rows and points, sound or not, of the edition that is built.
 pub fn draft(rows: &[PackRow], points: &[PackPoint]) -> PackDraft {
     PackDraft {
+        edition: BUILT,
         rows: rows.to_vec(),
         points: points.to_vec(),
         outward: b"AB1 ".to_vec(),
     }
 }
 
+/// The same draft as a pack of an edition.
+pub fn in_edition(draft: &PackDraft, edition: Edition) -> Vec<u8> {
+    let draft = draft.clone();
+    PackDraft { edition, ..draft }.bytes()
+}
+
 /// Makes the length and the points start of a trailer true again, so that what else was done to a pack isn't hidden
-/// behind step 1. The number of points stays; bytes that leave no room for them are left as they are.
+/// behind step 1. The number of points stays; bytes of no edition, and bytes that leave no room for the points, are left
+/// as they are.
 pub fn mend(pack: &mut [u8]) {
     let length = pack.len();
-    let Some(trailer) = length.checked_sub(TRAILER) else {
+    let Some(edition) = Edition::of(pack).filter(|edition| edition.trailer <= length) else {
         return;
     };
+    let trailer = length - edition.trailer;
     let count: [u8; 4] = pack[trailer + 8..trailer + 12].try_into().expect("4 bytes");
-    let points = POINT as u64 * u64::from(u32::from_be_bytes(count));
+    let points = edition.point as u64 * u64::from(u32::from_be_bytes(count));
     if let Some(start) = (trailer as u64).checked_sub(points) {
         pack[trailer + 4..trailer + 8].copy_from_slice(&(start as u32).to_be_bytes());
         pack[trailer + 16..trailer + 20].copy_from_slice(&(length as u32).to_be_bytes());

@@ -136,9 +136,23 @@ static void say_labels(const uint8_t *table, size_t table_length, const uint8_t 
     say_label("point 1", label, ttw_pack_label(pack, (size_t)TTW_VALUE(built), 1, label, sizeof label));
     say("point 1 without room", ttw_pack_label(pack, (size_t)TTW_VALUE(built), 1, label, 1));
     say("point 2", ttw_pack_label(pack, (size_t)TTW_VALUE(built), 2, label, sizeof label));
+    say("suffix of point 1", ttw_pack_suffix(pack, (size_t)TTW_VALUE(built), 1));
+    say("suffix of point 2", ttw_pack_suffix(pack, (size_t)TTW_VALUE(built), 2));
     say_runs(table, table_length, points, points_length, pack, (size_t)TTW_VALUE(built));
     say_lists(table, table_length, points, points_length, pack, (size_t)TTW_VALUE(built));
     say("pack without its last byte", ttw_pack(pack, (size_t)TTW_VALUE(built) - 1));
+}
+
+/* A pack of edition 1: its label is printed, and it has no suffix. */
+static void say_older(const uint8_t *pack, size_t length)
+{
+    uint8_t label[TTW_LABEL_MAX];
+
+    say("points in an older pack", ttw_pack(pack, length));
+    say_label("its point 1", label, ttw_pack_label(pack, length, 1, label, sizeof label));
+    say("its suffix of point 1", ttw_pack_suffix(pack, length, 1));
+    say("its suffix of point 2", ttw_pack_suffix(pack, length, 2));
+    say("its suffix without its last byte", ttw_pack_suffix(pack, length - 1, 1));
 }
 
 #define SAY_NAME(name) printf("%s %d\n", #name, name)
@@ -158,21 +172,28 @@ static void say_names(void)
     SAY_NAME(TTW_REFUSED_ROOM);
     SAY_NAME(TTW_REFUSED_PACK);
     SAY_NAME(TTW_REFUSED_CODE);
+    SAY_NAME(TTW_REFUSED_SUFFIX);
 }
 
 int main(int argc, char **argv)
 {
     static uint8_t table[ROOM];
     static uint8_t points[ROOM];
-    size_t table_length = argc == 3 ? read_file(argv[1], table) : 0;
-    size_t points_length = argc == 3 ? read_file(argv[2], points) : 0;
+    static uint8_t older[ROOM];
+    size_t table_length, points_length, older_length;
 
+    if (argc != 4)
+        return 2;
+    table_length = read_file(argv[1], table);
+    points_length = read_file(argv[2], points);
+    older_length = read_file(argv[3], older);
     say("table", ttw_table(table, table_length));
     say("points", ttw_points(points, points_length));
     say("views", ttw_views(points, points_length));
     say_letters(points, points_length);
     say_codes(points, points_length);
     say_labels(table, table_length, points, points_length);
+    say_older(older, older_length);
     say("empty table", ttw_table(table, 0));
     table[0] = 'X';
     say("table with another header", ttw_table(table, table_length));

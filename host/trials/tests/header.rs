@@ -1,8 +1,8 @@
 //! The header: a C program that uses every call of it on a pair of files and on a
 //! pack is compiled without a warning, linked with the library and run on
-//! document 01's pair.
+//! document 01's pair, and on its pack as it stood in edition 1.
 
-use paper::make::worked_pair;
+use paper::make::{worked_pack, worked_pair, FIRST};
 use trials::c::{printed, Folder};
 
 const PRINTED: &str = "\
@@ -29,8 +29,8 @@ ATTIC FLAT
 110-114 QUARRY LANE
 HARTWELL BAY
 AB1 9ZZ
-pack without room: refused 10, file 0, second 0, detail 129
-pack: 129
+pack without room: refused 10, file 0, second 0, detail 131
+pack: 131
 points in the pack: 1
 point 1: 52
 ATTIC FLAT
@@ -39,6 +39,8 @@ HARTWELL BAY
 AB1 9ZZ
 point 1 without room: refused 10, file 0, second 0, detail 52
 point 2: refused 7, file 0, second 0, detail 0
+suffix of point 1: 12609
+suffix of point 2: refused 7, file 0, second 0, detail 0
 labels from 1, 2 of them: refused 9, file 0, second 1, detail 6
 52 bytes
 ATTIC FLAT
@@ -91,6 +93,15 @@ ATTIC FLAT
 HARTWELL BAY
 AB1 9ZZ
 pack without its last byte: refused 11, file 0, second 0, detail 1
+points in an older pack: 1
+its point 1: 52
+ATTIC FLAT
+110-114 QUARRY LANE
+HARTWELL BAY
+AB1 9ZZ
+its suffix of point 1: refused 13, file 0, second 0, detail 0
+its suffix of point 2: refused 7, file 0, second 0, detail 0
+its suffix without its last byte: refused 11, file 0, second 0, detail 1
 empty table: refused 1, file 1, second 0, detail 0
 table with another header: refused 2, file 1, second 0, detail 1
 points with another letter: refused 4, file 2, second 41, detail 3
@@ -106,6 +117,7 @@ TTW_REFUSED_KEY 9
 TTW_REFUSED_ROOM 10
 TTW_REFUSED_PACK 11
 TTW_REFUSED_CODE 12
+TTW_REFUSED_SUFFIX 13
 ";
 
 #[test]
@@ -115,6 +127,7 @@ fn a_c_program_asks_every_call_about_document_01s_pair() {
     let mut program = folder.program("header");
     program
         .arg(folder.file("changes1", &pair.table))
-        .arg(folder.file("changes2", &pair.points));
+        .arg(folder.file("changes2", &pair.points))
+        .arg(folder.file("older.pack", &worked_pack(FIRST)));
     assert_eq!(printed(&mut program), PRINTED);
 }

@@ -1,7 +1,7 @@
 //! A null pointer with length 0: each call takes it for each of its slices, and
 //! answers as it does for any other slice of no bytes.
 
-use paper::make::{set_of_pair, worked_pack, worked_pair, MainSet};
+use paper::make::{set_of_pair, worked_pack, worked_pair, MainSet, BUILT};
 use trials::c::{printed, Folder};
 
 /// Call and slice, then the answer's refusal, file and detail. Slices: t table,
@@ -39,10 +39,11 @@ ttw_code_list o: 10 0 61
 ttw_build t: 1 1 0
 ttw_build p: 1 2 0
 ttw_build c: 12 0 0
-ttw_build o: 10 0 129
+ttw_build o: 10 0 131
 ttw_pack k: 11 0 1
 ttw_pack_label k: 11 0 1
 ttw_pack_label o: 10 0 52
+ttw_pack_suffix k: 11 0 1
 ttw_pack_labels k: 11 0 1
 ttw_pack_labels o: 10 0 52
 ttw_pack_list k: 11 0 1
@@ -61,7 +62,7 @@ const MAIN: [(&str, std::ops::RangeInclusive<u8>, bool, Option<u64>); 10] = [
     ("ttw_main_code_labels", 1..=7, true, Some(52)),
     ("ttw_main_list", 1..=7, false, Some(59)),
     ("ttw_main_code_list", 1..=7, true, Some(59)),
-    ("ttw_main_build", 1..=7, true, Some(129)),
+    ("ttw_main_build", 1..=7, true, Some(131)),
 ];
 
 /// All answers: those of these calls behind the others.
@@ -94,7 +95,7 @@ fn every_call_takes_a_null_pointer_with_length_0() {
     program
         .arg(folder.file("changes1", &pair.table))
         .arg(folder.file("changes2", &pair.points))
-        .arg(folder.file("pack", &worked_pack()));
+        .arg(folder.file("pack", &worked_pack(BUILT)));
     for (number, file) in worked_set().files.iter().enumerate() {
         program.arg(folder.file(&format!("main{number}"), file));
     }

@@ -1,9 +1,9 @@
 //! Runs of labels: from every number, so many, into buffers of every length, out of files and out of packs.
 
-use paper::make::{self, Pair, Rng};
+use paper::make::{self, Pair, Rng, BUILT};
 use paper::{packed, Refusal};
 use trials::around::{around, Around};
-use trials::packs::{built, codes, draft, mend, resident, row, POINT, TRAILER};
+use trials::packs::{built, codes, draft, mend, resident, row};
 use trials::runs::{code_labels, labels, pack_labels, Asked};
 use trials::samples;
 use ttw::{ask, calls};
@@ -236,11 +236,11 @@ fn a_run_over_the_largest_files() {
 /// A pack of one point so many times.
 fn pack_of_many(points: u32) -> Vec<u8> {
     let one = draft(&[row(1, &["HOLT", "", ""])], &[resident()]).bytes();
-    let start = one.len() - TRAILER - POINT;
+    let start = one.len() - BUILT.trailer - BUILT.point;
     let (rows, rest) = one.split_at(start);
-    let (point, trailer) = rest.split_at(POINT);
+    let (point, trailer) = rest.split_at(BUILT.point);
     let mut pack = [rows, &point.repeat(points as usize), trailer].concat();
-    let count = pack.len() - TRAILER + 8;
+    let count = pack.len() - BUILT.trailer + 8;
     pack[count..count + 4].copy_from_slice(&points.to_be_bytes());
     mend(&mut pack);
     pack

@@ -11,6 +11,7 @@ use ttw::main_set::MainSet;
 struct Answers {
     counts: [Result<u64, Refusal>; 5],
     letter: Result<char, Refusal>,
+    suffix: Result<String, Refusal>,
     texts: [Result<Vec<u8>, Refusal>; 4],
     runs: [(Result<Run, Refusal>, Vec<u8>); 3],
 }
@@ -32,6 +33,7 @@ fn answers(table: &[u8], points: &[u8], pack: &[u8], k: u64) -> Answers {
             ask::pack(pack),
         ],
         letter: ask::letter(points, k),
+        suffix: ask::pack_suffix(pack, k),
         texts: [
             ask::label(table, points, k),
             ask::code_label(table, points, code, k),

@@ -1,10 +1,10 @@
 //! Document 02, No. 3: a key that comes twice. The last row for it is in force,
 //! unless its letter is B or D.
 
-use paper::make::{point_file, table_file, Pair, TableRow, View};
+use paper::make::{point_file, table_file, Pair, TableRow, View, BUILT};
+use trials::agree;
 use trials::packs::{ask, built};
 use trials::rooms::{label_rooms, pack_rooms};
-use trials::{agree, packs};
 use ttw::ask::Refusal;
 
 const CODE: &[u8] = b"AB1 ";
@@ -57,7 +57,7 @@ fn pack(pair: &Pair) -> Option<Vec<u8>> {
     pack_rooms(|room| agree::build(&pair.table, &pair.points, CODE, room));
     let pack = built(pair, CODE)?;
     assert_eq!(ask(&pack), 1);
-    let rows = pack.len() - packs::POINT - packs::TRAILER;
+    let rows = pack.len() - BUILT.point - BUILT.trailer;
     Some(pack[..rows].to_vec())
 }
 

@@ -1,10 +1,14 @@
 //! The files in `samples/`, from their meaning: every row of the table of
 //! premises with and without a street, every line present and absent,
 //! organisations of both kinds, missing keys, forbidden combinations; in the pair
-//! all four letters too.
+//! all four letters too. And the packs that are kept beside them.
 
-use super::{nth_suffix, Change, MainSet, Organisation, Pair, TableRow, View, FORBIDDEN, MISSING};
+use super::{
+    nth_suffix, Change, Edition, MainSet, Organisation, Pair, TableRow, View, FORBIDDEN, MISSING,
+};
 use crate::label_of;
+use std::fs;
+use std::path::{Path, PathBuf};
 
 fn rows() -> Vec<TableRow> {
     vec![
@@ -284,4 +288,20 @@ fn refused() -> Vec<View> {
             view
         });
     changed.collect()
+}
+
+/// The packs in `samples/packs` by their names without `.pack`, the same for each
+/// edition: three codes of the sample views, document 01's pack, a code without
+/// views, and one that was drafted by hand.
+pub const KEPT: [&str; 6] = ["AB1", "DN55", "EC1N", "W1A", "by-hand", "worked"];
+
+/// The folder of the kept packs, and of what they have to print.
+pub fn packs() -> PathBuf {
+    Path::new(env!("CARGO_MANIFEST_DIR")).join("../../samples/packs")
+}
+
+/// A kept pack of an edition.
+pub fn kept(edition: Edition, name: &str) -> Vec<u8> {
+    let folder = packs().join(format!("edition{}", edition.number));
+    fs::read(folder.join(format!("{name}.pack"))).expect("a kept pack")
 }

@@ -1,10 +1,8 @@
-//! Prints document 01's pack byte by byte, as docs/PACK.md shows it.
+//! Prints document 01's pack byte by byte in each edition, as docs/PACK.md shows them.
 
-use paper::make::worked_pair;
-use trials::annotated::annotated;
+use trials::annotated::{annotated, worked_packs};
 
 fn main() {
-    let pair = worked_pair();
-    let pack = ttw::ask::build(&pair.table, &pair.points, b"AB1 ", 0).expect("a pack");
-    print!("{}", annotated(&pack));
+    let pages = worked_packs().map(|pack| annotated(&pack));
+    print!("{}", pages.join("\n"));
 }

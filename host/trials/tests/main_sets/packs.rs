@@ -1,12 +1,13 @@
 //! Packs of a set: the second program's bytes, and the labels that the set gives.
 
 use paper::make::{
-    bad_outward, exact_set, main_set, outward, samples, MainSet, Organisation, Rng, TableRow, View,
+    bad_outward, exact_set, main_set, outward, padded, samples, MainSet, Organisation, Rng,
+    TableRow, View,
 };
 use paper::{packed, Refusal};
 use trials::agree;
 use trials::main_sets::{build, built, code_label, codes_of, live};
-use trials::packs::ask;
+use trials::packs::{ask, suffix_of};
 use trials::rooms::{pack_rooms, refusal};
 use ttw::{calls, main_calls};
 
@@ -16,10 +17,14 @@ fn build_of(made: &MainSet, code: &[u8]) -> u64 {
     pack_rooms(|room| build(made.set(), code, room))
 }
 
-/// Fails unless point k of a pack gives, for every k and for rooms around, what
-/// the set gives for the k-th address of the code.
+/// Fails unless point k of a pack has the suffix of the k-th address of the code,
+/// and gives, for every k and for rooms around, the label that the set gives.
 #[track_caller]
 fn compare_labels(made: &MainSet, code: &[u8], pack: &[u8]) {
+    let of_code = |address: &&View| padded(&address.outward, 4) == code;
+    for (k, address) in (1..).zip(made.addresses.iter().filter(of_code)) {
+        assert_eq!(agree::pack_suffix(pack, k), suffix_of(address), "{k}");
+    }
     for k in 0..=live(made.set()[6], code) + 1 {
         for room in [0, 20, 40, 60, 80, 499] {
             let answer = agree::pack_label(pack, k, room);
@@ -116,9 +121,9 @@ fn a_shared_organisation_stands_once_for_each_address() {
     let pack = built(made.set(), b"AB1 ").expect("a pack");
     let rows = b"\x01\x04HOLT\0\0\x06\x04LEDA\0\x06\0\0\x06\x04LEDA\0";
     assert!(pack.starts_with(rows), "{}", pack.escape_ascii());
-    assert_eq!(pack.len(), rows.len() + 4 * 57 + 21);
-    let of_large = &pack[rows.len() + 2 * 57..][..57];
-    assert_eq!(of_large[7..16], *b"L\0\0\0\x03\0\0\0\x07");
+    assert_eq!(pack.len(), rows.len() + 4 * 59 + 21);
+    let of_large = &pack[rows.len() + 2 * 59..][..59];
+    assert_eq!(of_large[7..18], *b"1AL\0\0\0\x03\0\0\0\x07");
     compare_labels(&made, b"AB1 ", &pack);
 }
 

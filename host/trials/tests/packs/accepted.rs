@@ -1,16 +1,18 @@
 //! Packs that open though no builder makes them, with the labels that they print.
 
-use paper::make::{PackDraft, PackPoint, PackRow};
-use trials::packs::{ask, draft, large_user, resident, row, small_user};
+use paper::make::{PackDraft, PackPoint, PackRow, EDITIONS};
+use trials::packs::{ask, draft, in_edition, large_user, resident, row, small_user};
 
-/// Fails where a pack doesn't open with just these labels.
+/// Fails where a pack doesn't open with just these labels, in each edition.
 #[track_caller]
 fn assert_prints(draft: &PackDraft, labels: &[&str]) {
-    let pack = draft.bytes();
-    assert_eq!(ask(&pack), labels.len() as u64);
-    for (k, expected) in (1..).zip(labels) {
-        let label = ttw::ask::pack_label(&pack, k).expect("a label");
-        assert_eq!(String::from_utf8_lossy(&label), *expected);
+    for edition in EDITIONS {
+        let pack = in_edition(draft, edition);
+        assert_eq!(ask(&pack), labels.len() as u64);
+        for (k, expected) in (1..).zip(labels) {
+            let label = ttw::ask::pack_label(&pack, k).expect("a label");
+            assert_eq!(String::from_utf8_lossy(&label), *expected);
+        }
     }
 }
 

@@ -1,8 +1,8 @@
 //! Row areas of about half a megabyte: up to there a bit for each byte says where rows start, and walks do in larger ones.
 
-use paper::make::{PackDraft, PackPoint, PackRow};
+use paper::make::{PackDraft, PackPoint, PackRow, BUILT, EDITIONS};
 use trials::agree;
-use trials::packs::{draft, no_pack, resident, row};
+use trials::packs::{draft, in_edition, no_pack, resident, row};
 
 /// The bytes of rows that have a bit each.
 const MARKED: usize = 524_288;
@@ -52,7 +52,11 @@ fn pack_of(area: usize) -> PackDraft {
 #[test]
 fn every_point_of_every_area_is_accepted() {
     for area in AREAS {
-        assert_eq!(agree::pack(&pack_of(area).bytes()), 16, "{area}");
+        let draft = pack_of(area);
+        for edition in EDITIONS {
+            let pack = in_edition(&draft, edition);
+            assert_eq!(agree::pack(&pack), 16, "{area}, {edition:?}");
+        }
     }
 }
 
@@ -61,7 +65,7 @@ fn an_offset_beside_a_start_is_refused() {
     for area in AREAS {
         let pack = pack_of(area).bytes();
         for point in 0..16 {
-            let at = area + 57 * point + 25 + 4;
+            let at = area + BUILT.point * point + BUILT.offsets() + 4;
             let offset = u32::from_be_bytes(pack[at..at + 4].try_into().expect("4 bytes"));
             for other in [offset - 1, offset + 1, 0, area as u32, u32::MAX - 1] {
                 let mut pack = pack.clone();

@@ -1,8 +1,8 @@
 //! Damaged packs: every byte to every value, bytes taken away and put in at every place, random bytes. What is expected
 //! comes from the second program; the counts say that a trial reached what it is for.
 
-use paper::make::{pack_draft, worked_pack, PackPoint, Rng};
-use trials::packs::{ask, draft, large_user, mend, no_pack, row, small_user};
+use paper::make::{pack_draft, worked_pack, Edition, PackPoint, Rng, EDITIONS};
+use trials::packs::{ask, draft, in_edition, large_user, mend, no_pack, row, small_user};
 use trials::rooms::refusal;
 
 /// How often a pack was accepted, [0], and refused at each step.
@@ -29,24 +29,27 @@ impl Reached {
     }
 }
 
-/// A small user's organisation with both texts, 91 bytes.
-fn small_users_pack() -> Vec<u8> {
+/// A small user's organisation with both texts.
+fn small_users_pack(edition: Edition) -> Vec<u8> {
     let rows = [row(1, &["HOLT", "", ""]), row(6, &["A", "B"])];
-    draft(&rows, &[small_user(1)]).bytes()
+    in_edition(&draft(&rows, &[small_user(1)]), edition)
 }
 
 /// A large user's organisation without a name: one damage makes it a small user's, who has a key and would need one.
-fn large_users_pack() -> Vec<u8> {
+fn large_users_pack(edition: Edition) -> Vec<u8> {
     let rows = [row(1, &["HOLT", "ASH", "ELM"]), row(6, &["", "B"])];
     let point = PackPoint {
         organisation_key: 7,
         ..large_user(1)
     };
-    draft(&rows, &[point]).bytes()
+    in_edition(&draft(&rows, &[point]), edition)
 }
 
-fn small_packs() -> [Vec<u8>; 3] {
-    let packs = [worked_pack(), small_users_pack(), large_users_pack()];
+/// Three packs of each edition.
+fn small_packs() -> Vec<Vec<u8>> {
+    let makers = [worked_pack, small_users_pack, large_users_pack];
+    let of_edition = |edition| makers.map(|make| make(edition));
+    let packs: Vec<Vec<u8>> = EDITIONS.into_iter().flat_map(of_edition).collect();
     packs.iter().for_each(|pack| assert_eq!(ask(pack), 1));
     packs
 }
@@ -115,13 +118,15 @@ fn a_byte_more_at_every_place() {
 #[test]
 fn a_letter_more_in_every_row() {
     let last = 40;
-    for length_byte in [1, 17, 25, 31, last] {
-        let mut pack = worked_pack();
-        pack[length_byte] += 1;
-        pack.insert(length_byte + 1, b'A');
-        mend(&mut pack);
-        let expected = if length_byte == last { 1 } else { no_pack(3) };
-        assert_eq!(ask(&pack), expected, "byte {length_byte}");
+    for edition in EDITIONS {
+        for length_byte in [1, 17, 25, 31, last] {
+            let mut pack = worked_pack(edition);
+            pack[length_byte] += 1;
+            pack.insert(length_byte + 1, b'A');
+            mend(&mut pack);
+            let expected = if length_byte == last { 1 } else { no_pack(3) };
+            assert_eq!(ask(&pack), expected, "byte {length_byte}");
+        }
     }
 }
 
@@ -170,11 +175,13 @@ fn random_rows_and_points_with_a_true_trailer() {
         let mut pack: Vec<u8> = (0..length)
             .map(|_| *rng.pick(b"\x00\x00\x01\x01\x01\x02\x03\x04\x05\x06\x06\x07ABZ a"))
             .collect();
+        let edition = rng.pick(&EDITIONS);
         let points = rng.below(2);
-        pack.extend(random_bytes(&mut rng, 57 * points));
+        pack.extend(random_bytes(&mut rng, edition.point * points));
         let rows = rng.below(4) as u8;
         pack.extend([0, 0, 0, rows, 0, 0, 0, 0, 0, 0, 0, points as u8]);
-        pack.extend(b"AB1 \0\0\0\0\x01");
+        pack.extend(b"AB1 \0\0\0\0");
+        pack.push(edition.number);
         mend(&mut pack);
         reached.ask(&pack);
     }

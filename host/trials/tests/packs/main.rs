@@ -1,11 +1,13 @@
-//! Packs built, opened and asked for labels: the library against the second program, answer and buffer, and both against
+//! Packs built, opened and asked for labels and suffixes: the library against the second program, answer and buffer, and both against
 //! what document 01 says.
 
 mod accepted;
 mod areas;
 mod built;
 mod damaged;
+mod editions;
 mod kept;
 mod labels;
 mod refused;
+mod suffixes;
 mod worked;

@@ -1,35 +1,44 @@
 //! Packs refused at each clause of each step of the pack check, with the step that is told. The packs and their clauses
 //! come from the second program's makers; each breaks its clause alone.
 
-use paper::make::{damaged_packs, full_draft, DamagedPack};
-use trials::packs::{ask, draft, no_pack, resident, row, POINT, TRAILER};
+use paper::make::{damaged_packs, full_draft, DamagedPack, Edition, BUILT, EDITIONS};
+use trials::packs::{ask, draft, in_edition, no_pack, resident, row};
 
-/// The packs that fail at a step.
+/// The packs that fail at a step, of each edition.
 fn failing(step: u64) -> Vec<DamagedPack> {
     let mut packs = damaged_packs();
     packs.retain(|damaged| damaged.step == step);
     packs
 }
 
-/// Fails where a pack isn't refused at its step, or where a clause that is named here has no pack.
+/// Fails where a pack isn't refused at its step, or where a clause that is named here has no pack of each edition.
 #[track_caller]
 fn assert_refused(step: u64, clauses: &[&str]) {
     let packs = failing(step);
     for damaged in &packs {
         assert_eq!(ask(&damaged.pack), no_pack(step), "{}", damaged.clause);
     }
-    for clause in clauses {
-        let known = packs.iter().any(|pack| pack.clause.starts_with(clause));
-        assert!(known, "no pack for: {clause}");
+    for edition in EDITIONS {
+        let mut of_edition = packs.iter().filter(|pack| pack.edition == edition);
+        for clause in clauses {
+            let known = of_edition
+                .clone()
+                .any(|pack| pack.clause.starts_with(clause));
+            assert!(known, "no pack for: {clause}");
+        }
+        let suffixes = of_edition.any(|pack| pack.clause.starts_with("suffix "));
+        assert_eq!(suffixes, step == 3 && edition.has_suffix());
     }
 }
 
 #[test]
 fn each_clause_of_the_trailer_is_step_1() {
     let clauses = [
-        "20 bytes",
+        "a byte less than a trailer",
         "edition 0",
-        "edition 2",
+        "edition 3",
+        "edition 255",
+        "points of another width than edition ",
         "length one less",
         "length one more",
         "outward in no pattern",
@@ -48,6 +57,7 @@ fn each_clause_of_the_rows_is_step_2() {
     let clauses = [
         "one row less",
         "one row more",
+        "rows that end as in edition ",
         "type 0 first",
         "type 7",
         "type falls to 5",
@@ -93,27 +103,33 @@ fn each_clause_of_the_points_is_step_3() {
 
 #[test]
 fn no_pack_is_shorter_than_its_trailer() {
-    let pack = draft(&[], &[]).bytes();
-    assert_eq!((pack.len(), ask(&pack)), (TRAILER, 0));
-    for length in 0..TRAILER {
-        assert_eq!(ask(&pack[TRAILER - length..]), no_pack(1), "{length} bytes");
+    for edition in EDITIONS {
+        let pack = in_edition(&draft(&[], &[]), edition);
+        let trailer = edition.trailer;
+        assert_eq!((pack.len(), ask(&pack)), (trailer, 0));
+        for length in 0..trailer {
+            assert_eq!(ask(&pack[trailer - length..]), no_pack(1), "{length} bytes");
+        }
     }
 }
 
 /// A pack of three points with its first and last changed over: no label depends on the order of the others.
-fn with_points_turned(pack: &[u8]) -> Vec<u8> {
-    let last = pack.len() - TRAILER - POINT;
-    let first = last - 2 * POINT;
+fn with_points_turned(pack: &[u8], edition: Edition) -> Vec<u8> {
+    let last = pack.len() - edition.trailer - edition.point;
+    let first = last - 2 * edition.point;
     let mut turned = pack.to_vec();
-    (0..POINT).for_each(|at| turned.swap(first + at, last + at));
+    (0..edition.point).for_each(|at| turned.swap(first + at, last + at));
     turned
 }
 
 #[test]
 fn a_fault_of_the_last_point_is_found_as_well() {
-    assert_eq!(ask(&with_points_turned(&full_draft().bytes())), 3);
+    for edition in EDITIONS {
+        let turned = with_points_turned(&full_draft(edition).bytes(), edition);
+        assert_eq!(ask(&turned), 3);
+    }
     for damaged in failing(3) {
-        let turned = with_points_turned(&damaged.pack);
+        let turned = with_points_turned(&damaged.pack, damaged.edition);
         assert_eq!(ask(&turned), no_pack(3), "{}", damaged.clause);
     }
 }
@@ -122,8 +138,8 @@ fn a_fault_of_the_last_point_is_found_as_well() {
 fn the_first_failing_step_is_told() {
     for damaged in failing(2).into_iter().chain(failing(3)) {
         let mut pack = damaged.pack;
-        *pack.last_mut().expect("a pack") = 2;
-        assert_eq!(ask(&pack), no_pack(1), "{} and edition 2", damaged.clause);
+        *pack.last_mut().expect("a pack") = 0;
+        assert_eq!(ask(&pack), no_pack(1), "{} and edition 0", damaged.clause);
     }
     for damaged in failing(3) {
         let mut pack = damaged.pack;
@@ -135,11 +151,11 @@ fn the_first_failing_step_is_told() {
 /// Every offset of a point to every byte of its pack: taken at the starts of the rows of its type, nowhere else.
 #[test]
 fn every_offset_to_every_place() {
-    let full = full_draft();
+    let full = full_draft(BUILT);
     let (pack, starts) = (full.bytes(), full.offsets());
     let types = [1, 2, 3, 2, 3, 4, 5, 6];
     for (reference, row_type) in types.into_iter().enumerate() {
-        let field = full.points_start() + 25 + 4 * reference;
+        let field = full.points_start() + BUILT.offsets() + 4 * reference;
         for offset in 0..pack.len() as u32 + 60 {
             let mut other = pack.clone();
             other[field..field + 4].copy_from_slice(&offset.to_be_bytes());

@@ -1,6 +1,6 @@
-//! Document 01's pack of 129 bytes, from its words and from `samples/worked`.
+//! Document 01's pack, from its words and from `samples/worked`: in edition 2 it has 131 bytes, and one suffix.
 
-use paper::make::{worked_pack, worked_pair};
+use paper::make::{worked_pack, worked_pair, BUILT, EDITIONS};
 use std::fs;
 use std::path::Path;
 use trials::packs::{ask, built};
@@ -14,27 +14,29 @@ fn sample(name: &str) -> Vec<u8> {
 #[test]
 fn the_worked_files_give_document_01s_bytes() {
     let (table, points) = (sample("worked/changes1"), sample("worked/changes2"));
-    let pack = ttw::ask::build(&table, &points, b"AB1 ", 129).expect("a pack");
-    assert_eq!(pack, worked_pack());
+    let pack = ttw::ask::build(&table, &points, b"AB1 ", 131).expect("a pack");
+    assert_eq!(pack, worked_pack(BUILT));
     let build = |room| agree::build(&table, &points, b"AB1 ", room);
-    assert_eq!(rooms::pack_rooms(build), 129);
+    assert_eq!(rooms::pack_rooms(build), 131);
+    assert_eq!(agree::pack_suffix(&pack, 1), 12_609, "1A");
 }
 
 #[test]
 fn the_worked_pack_prints_document_01s_label() {
-    let pack = worked_pack();
-    assert_eq!(ask(&pack), 1);
-    let label = ttw::ask::pack_label(&pack, 1).expect("a label");
-    assert_eq!(
-        label,
-        b"ATTIC FLAT\n110-114 QUARRY LANE\nHARTWELL BAY\nAB1 9ZZ\n"
-    );
+    for pack in EDITIONS.map(worked_pack) {
+        assert_eq!(ask(&pack), 1);
+        let label = ttw::ask::pack_label(&pack, 1).expect("a label");
+        assert_eq!(
+            label,
+            b"ATTIC FLAT\n110-114 QUARRY LANE\nHARTWELL BAY\nAB1 9ZZ\n"
+        );
+    }
 }
 
 /// The pack of a code without views: no row, no point, a trailer.
 #[test]
 fn another_code_gives_a_trailer_and_nothing_else() {
     let pack = built(&worked_pair(), b"AB10").expect("a pack");
-    assert_eq!(pack, b"\0\0\0\0\0\0\0\0\0\0\0\0AB10\0\0\0\x15\x01");
+    assert_eq!(pack, b"\0\0\0\0\0\0\0\0\0\0\0\0AB10\0\0\0\x15\x02");
     assert_eq!(ask(&pack), 0);
 }
