@@ -351,6 +351,8 @@ fn ask_pack(case: &Case, pack: &[u8], flush: Flush, reached: &mut Reached) {
         &|out| paper::pack_label(pack, k, out),
         reached,
     );
+    let suffix = paper::pack_suffix(pack, k);
+    same("pack suffix", calls::pack_suffix(ours, k), suffix, reached);
     run_written(
         "pack labels",
         flush,

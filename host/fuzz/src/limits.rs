@@ -1,12 +1,13 @@
-//! Packs made by hand, each with one field at a limit: the last value that
-//! opens, or the first that is refused.
+//! Packs made by hand of each edition, each with one field at a limit: the last
+//! value that opens, or the first that is refused.
 
-use paper::make::{full_draft, outward, PackDraft, PackPoint, PackRow, Rng};
+use paper::make::{full_draft, outward, Edition, PackDraft, PackPoint, PackRow, Rng, EDITIONS};
 use std::fmt::Debug;
 use std::sync::LazyLock;
 
 /// One field of a pack at a limit.
 pub struct Limit {
+    pub edition: Edition,
     pub name: String,
     /// The step of the pack check that refuses it; 0 where it opens.
     pub step: u64,
@@ -18,25 +19,31 @@ type Redraft = Box<dyn Fn(&mut PackDraft) + Send + Sync>;
 /// What is changed: the draft of [`full_draft`], or bytes of the pack.
 enum Change {
     Draft(Redraft),
-    /// Bytes of the first point, by their place in it.
-    Point(usize, Vec<u8>),
-    /// Bytes by their place from the pack's end.
-    End(usize, Vec<u8>),
+    /// An offset of the first point, by its reference.
+    Offset(usize, u32),
+    /// A number of the trailer, by its place in it.
+    Trailer(usize, u32),
+    /// The edition byte.
+    Edition(u8),
     /// So many bytes less in front.
     Cut(usize),
 }
 
-/// Every limit of every field.
-pub static ALL: LazyLock<Vec<Limit>> = LazyLock::new(|| {
+/// Every limit of every field in every edition.
+pub static ALL: LazyLock<Vec<Limit>> =
+    LazyLock::new(|| EDITIONS.into_iter().flat_map(limits_of).collect());
+
+fn limits_of(edition: Edition) -> Vec<Limit> {
     let parts = [
-        texts, codes, inwards, marks, numbers, offsets, rows, trailers,
+        texts, codes, inwards, suffixes, marks, numbers, offsets, rows, trailers, editions,
     ];
-    parts.into_iter().flat_map(|part| part()).collect()
-});
+    parts.into_iter().flat_map(|part| part(edition)).collect()
+}
 
 /// The pack of a limit, in a code of its own and among other points.
 pub fn pack(rng: &mut Rng, limit: &Limit) -> Vec<u8> {
-    let mut draft = full_draft();
+    let edition = limit.edition;
+    let mut draft = full_draft(edition);
     recode(&mut draft, &outward(rng));
     for _ in 0..rng.below(8) {
         let point = rng.pick(&draft.points).clone();
@@ -48,18 +55,20 @@ pub fn pack(rng: &mut Rng, limit: &Limit) -> Vec<u8> {
     let place = rng.below(draft.points.len());
     draft.points.rotate_right(place);
     let mut pack = draft.bytes();
-    let (point, end) = (draft.points_start() + 57 * place, pack.len());
+    let (point, end) = (draft.points_start() + edition.point * place, pack.len());
+    let (offsets, trailer) = (point + edition.offsets(), end - edition.trailer);
     match &limit.change {
         Change::Draft(_) => {}
-        Change::Point(at, bytes) => overwrite(&mut pack, point + at, bytes),
-        Change::End(from_end, bytes) => overwrite(&mut pack, end - from_end, bytes),
+        Change::Offset(reference, offset) => put(&mut pack, offsets + 4 * reference, *offset),
+        Change::Trailer(at, number) => put(&mut pack, trailer + at, *number),
+        Change::Edition(number) => pack[end - 1] = *number,
         Change::Cut(bytes) => drop(pack.drain(..bytes.min(&end))),
     }
     pack
 }
 
-fn overwrite(pack: &mut [u8], at: usize, bytes: &[u8]) {
-    pack[at..at + bytes.len()].copy_from_slice(bytes);
+fn put(pack: &mut [u8], at: usize, number: u32) {
+    pack[at..at + 4].copy_from_slice(&number.to_be_bytes());
 }
 
 /// The draft as one of another code.
@@ -69,8 +78,9 @@ fn recode(draft: &mut PackDraft, code: &[u8]) {
     points.for_each(|point| point.outward = code.to_vec());
 }
 
-fn limit(name: impl Into<String>, step: u64, change: Change) -> Limit {
+fn limit(edition: Edition, name: impl Into<String>, step: u64, change: Change) -> Limit {
     Limit {
+        edition,
         name: name.into(),
         step,
         change,
@@ -78,11 +88,12 @@ fn limit(name: impl Into<String>, step: u64, change: Change) -> Limit {
 }
 
 fn redraft(
+    edition: Edition,
     name: impl Into<String>,
     step: u64,
     change: impl Fn(&mut PackDraft) + Send + Sync + 'static,
 ) -> Limit {
-    limit(name, step, Change::Draft(Box::new(change)))
+    limit(edition, name, step, Change::Draft(Box::new(change)))
 }
 
 /// A step, or 0 where it is not broken.
@@ -115,7 +126,7 @@ const TEXTS: [(usize, usize, usize, u64); 9] = [
     (8, 1, 60, 0),
 ];
 
-fn texts() -> Vec<Limit> {
+fn texts(edition: Edition) -> Vec<Limit> {
     let mut limits = Vec::new();
     for (row, index, width, empty) in TEXTS {
         let mut add = |step, text: Vec<u8>| {
@@ -124,7 +135,7 @@ fn texts() -> Vec<Limit> {
                 String::from_utf8_lossy(&text)
             );
             let change = move |draft: &mut PackDraft| draft.rows[row].texts[index] = text.clone();
-            limits.push(redraft(name, step, change));
+            limits.push(redraft(edition, name, step, change));
         };
         add(empty, Vec::new());
         add(0, b"A".to_vec());
@@ -143,11 +154,11 @@ fn texts() -> Vec<Limit> {
 const LETTERS: std::ops::RangeInclusive<u8> = b'@'..=b'[';
 const DIGITS: std::ops::RangeInclusive<u8> = b'/'..=b':';
 
-fn codes() -> Vec<Limit> {
+fn codes(edition: Edition) -> Vec<Limit> {
     let code = |code: [u8; 4], sound: bool| {
         let name = format!("code {:?}", String::from_utf8_lossy(&code));
         let change = move |draft: &mut PackDraft| recode(draft, &code);
-        redraft(name, unless(sound, 1), change)
+        redraft(edition, name, unless(sound, 1), change)
     };
     let mut limits = Vec::new();
     for byte in LETTERS {
@@ -172,7 +183,7 @@ fn codes() -> Vec<Limit> {
         limits.push(code([b'S', b'W', byte, b'Y'], digit));
         limits.push(code([b'A', b'B', b'1', byte], digit));
     }
-    limits.push(redraft("a point of another code", 3, |draft| {
+    limits.push(redraft(edition, "a point of another code", 3, |draft| {
         recode(draft, b"AB1 ");
         draft.points[0].outward = b"AB2 ".to_vec();
     }));
@@ -181,6 +192,7 @@ fn codes() -> Vec<Limit> {
 
 /// A field of the first point at each of these values, sound or not by a rule.
 fn field<T: Copy + Send + Sync + Debug + 'static>(
+    edition: Edition,
     name: &str,
     values: impl IntoIterator<Item = T>,
     is_sound: fn(T) -> bool,
@@ -188,32 +200,64 @@ fn field<T: Copy + Send + Sync + Debug + 'static>(
 ) -> Vec<Limit> {
     let limit = |value| {
         let name = format!("{name}: {value:?}");
-        redraft(name, unless(is_sound(value), 3), move |draft| {
+        redraft(edition, name, unless(is_sound(value), 3), move |draft| {
             set(&mut draft.points[0], value)
         })
     };
     values.into_iter().map(limit).collect()
 }
 
-fn inwards() -> Vec<Limit> {
-    let is_digit = |byte: u8| byte.is_ascii_digit();
+fn is_digit(byte: u8) -> bool {
+    byte.is_ascii_digit()
+}
+
+fn inwards(edition: Edition) -> Vec<Limit> {
     let is_letter = |byte: u8| byte.is_ascii_uppercase() && !b"CIKMOV".contains(&byte);
     let parts = [
-        field("inward", DIGITS, is_digit, |point, byte| {
+        field(edition, "inward", DIGITS, is_digit, |point, byte| {
             point.inward[0] = byte
         }),
-        field("inward, second", LETTERS, is_letter, |point, byte| {
-            point.inward[1] = byte
+        field(
+            edition,
+            "inward, second",
+            LETTERS,
+            is_letter,
+            |point, byte| point.inward[1] = byte,
+        ),
+        field(
+            edition,
+            "inward, third",
+            LETTERS,
+            is_letter,
+            |point, byte| point.inward[2] = byte,
+        ),
+    ];
+    parts.into_iter().flatten().collect()
+}
+
+/// The suffix of a point; none where the edition has none.
+fn suffixes(edition: Edition) -> Vec<Limit> {
+    if !edition.has_suffix() {
+        return Vec::new();
+    }
+    let is_letter = |byte: u8| byte.is_ascii_uppercase();
+    let parts = [
+        field(edition, "suffix", DIGITS, is_digit, |point, byte| {
+            point.suffix[0] = byte
         }),
-        field("inward, third", LETTERS, is_letter, |point, byte| {
-            point.inward[2] = byte
-        }),
+        field(
+            edition,
+            "suffix, second",
+            LETTERS,
+            is_letter,
+            |point, byte| point.suffix[1] = byte,
+        ),
     ];
     parts.into_iter().flatten().collect()
 }
 
 /// The marks of a point, and its PO box.
-fn marks() -> Vec<Limit> {
+fn marks(edition: Edition) -> Vec<Limit> {
     let types = [b'K', b'L', b'M', b'R', b'S', b'T'];
     let marks = [b' ' - 1, b' ', b' ' + 1, b'X', b'Y', b'Z', b'y'];
     let boxes = BYTES.map(|byte| [b'A', byte, b'A', b' ', b' ', b' ']);
@@ -224,18 +268,21 @@ fn marks() -> Vec<Limit> {
     };
     let parts = [
         field(
+            edition,
             "type",
             types,
             |byte| b"LS".contains(&byte),
             |point, byte| point.postcode_type = byte,
         ),
         field(
+            edition,
             "mark",
             marks,
             |byte| b" Y".contains(&byte),
             |point, byte| point.concatenation = byte,
         ),
         field(
+            edition,
             "box",
             boxes.into_iter().chain(whole),
             is_box,
@@ -246,19 +293,24 @@ fn marks() -> Vec<Limit> {
 }
 
 /// The numbers of a point. A small user without a key has no organisation row.
-fn numbers() -> Vec<Limit> {
+fn numbers(edition: Edition) -> Vec<Limit> {
     let keys = [0, 1, 99_999_999, 100_000_000, u32::MAX];
     let numbers = [0, 1, 9_999, 10_000, u16::MAX];
     let is_key = |key| key < 100_000_000;
     let is_used_key = |key| (1..100_000_000).contains(&key);
     let parts = [
-        field("address key", keys, is_key, |point, key| {
+        field(edition, "address key", keys, is_key, |point, key| {
             point.address_key = key
         }),
-        field("organisation key", keys, is_used_key, |point, key| {
-            point.organisation_key = key
-        }),
         field(
+            edition,
+            "organisation key",
+            keys,
+            is_used_key,
+            |point, key| point.organisation_key = key,
+        ),
+        field(
+            edition,
             "building number",
             numbers,
             |number| number < 10_000,
@@ -270,8 +322,8 @@ fn numbers() -> Vec<Limit> {
 
 /// For each reference of a point its row's start, the bytes beside it, no row at
 /// all, and the ends of the rows.
-fn offsets() -> Vec<Limit> {
-    let draft = full_draft();
+fn offsets(edition: Edition) -> Vec<Limit> {
+    let draft = full_draft(edition);
     let starts = draft.offsets();
     let end = draft.points_start() as u32;
     // Without its locality, street, the street's name behind a descriptor, or
@@ -282,8 +334,8 @@ fn offsets() -> Vec<Limit> {
         let start = starts[row.expect("all rows are there")];
         let mut add = |sound, offset: u32| {
             let name = format!("offset {reference}: {offset}");
-            let change = Change::Point(25 + 4 * reference, offset.to_be_bytes().to_vec());
-            limits.push(limit(name, unless(sound, 3), change));
+            let change = Change::Offset(reference, offset);
+            limits.push(limit(edition, name, unless(sound, 3), change));
         };
         add(true, start);
         add(false, start + 1);
@@ -296,15 +348,18 @@ fn offsets() -> Vec<Limit> {
     limits
 }
 
-fn rows() -> Vec<Limit> {
+fn rows(edition: Edition) -> Vec<Limit> {
     let last = |name: &str, step, row_type: u8, texts: &'static [&'static [u8]]| {
-        redraft(name, step, move |draft| {
+        redraft(edition, name, step, move |draft| {
             let texts = texts.iter().map(|text| text.to_vec()).collect();
             draft.rows.push(PackRow { row_type, texts });
         })
     };
-    let first =
-        |name: &str, row_type: u8| redraft(name, 2, move |draft| draft.rows[0].row_type = row_type);
+    let first = |name: &str, row_type: u8| {
+        redraft(edition, name, 2, move |draft| {
+            draft.rows[0].row_type = row_type
+        })
+    };
     vec![
         last("a row of type 6 more", 0, 6, &[b"A", b""]),
         last("a row of type 6 with nothing", 0, 6, &[b"", b""]),
@@ -315,32 +370,35 @@ fn rows() -> Vec<Limit> {
         last("a row of no text", 2, 6, &[]),
         first("a first row of type 0", 0),
         first("a first row of type 2", 2),
-        redraft("no row at all", 0, |draft| {
+        redraft(edition, "no row at all", 0, |draft| {
             draft.rows.clear();
             draft.points.clear();
         }),
     ]
 }
 
-fn trailers() -> Vec<Limit> {
+fn trailers(edition: Edition) -> Vec<Limit> {
     let mut limits = Vec::new();
-    // Row count, points start, point count and length, by their place from the end.
-    for (from_end, step) in [(21, 2), (17, 1), (13, 1), (5, 1)] {
+    // Row count, points start, point count and length, by their place.
+    for (at, step) in [(0, 2), (4, 1), (8, 1), (16, 1)] {
         for number in [0, 1, u32::MAX] {
-            let name = format!("trailer, {from_end} from the end: {number}");
-            let change = Change::End(from_end, number.to_be_bytes().to_vec());
-            limits.push(limit(name, step, change));
+            let name = format!("trailer at {at}: {number}");
+            let change = Change::Trailer(at, number);
+            limits.push(limit(edition, name, step, change));
         }
     }
-    for edition in [0, 1, 2] {
-        let change = Change::End(1, vec![edition]);
-        limits.push(limit(
-            format!("edition {edition}"),
-            unless(edition == 1, 1),
-            change,
-        ));
-    }
-    limits.push(limit("a byte less", 1, Change::Cut(1)));
-    limits.push(limit("no byte", 1, Change::Cut(usize::MAX)));
+    limits.push(limit(edition, "a byte less", 1, Change::Cut(1)));
+    limits.push(limit(edition, "no byte", 1, Change::Cut(usize::MAX)));
     limits
+}
+
+/// The edition byte: those that there are, those beside them, and the last.
+fn editions(edition: Edition) -> Vec<Limit> {
+    let numbers = 0..=EDITIONS.len() as u8 + 1;
+    let changed = |number| {
+        let step = unless(number == edition.number, 1);
+        let name = format!("edition byte {number}");
+        limit(edition, name, step, Change::Edition(number))
+    };
+    numbers.chain([u8::MAX]).map(changed).collect()
 }

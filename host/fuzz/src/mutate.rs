@@ -1,11 +1,7 @@
 //! Mutations of accepted files and packs: by structure, so that a whole record,
 //! row or point moves, and by bytes.
 
-use paper::make::{scratch, Rng};
-
-/// Bytes of a pack's trailer and of a point.
-const TRAILER: usize = 21;
-const POINT: usize = 57;
+use paper::make::{scratch, Edition, Rng, BUILT, EDITIONS};
 
 /// Mutates a file of records of that width, or leaves it as it is.
 pub fn file(rng: &mut Rng, bytes: &mut Vec<u8>, width: usize) {
@@ -96,12 +92,13 @@ fn recount(bytes: &mut [u8], width: usize) {
 /// Mutates a pack, or leaves it as it is.
 pub fn pack(rng: &mut Rng, bytes: &mut Vec<u8>) {
     for _ in 0..rng.below(3) {
-        match rng.below(7) {
+        match rng.below(8) {
             0 => offset(rng, bytes),
             1 => points(rng, bytes),
             2 => insert(rng, bytes),
             3 => cut(rng, bytes),
             4 => lengthen(rng, bytes),
+            5 => reedition(rng, bytes),
             _ => scratch(rng, bytes),
         }
     }
@@ -110,9 +107,15 @@ pub fn pack(rng: &mut Rng, bytes: &mut Vec<u8>) {
     }
 }
 
+/// The edition that a pack says, or the one that is built where there is no such
+/// one.
+fn edition_of(bytes: &[u8]) -> Edition {
+    Edition::of(bytes).unwrap_or(BUILT)
+}
+
 /// A number of 4 bytes of a pack's trailer; 0 where there is no trailer.
 fn trailer_number(bytes: &[u8], at: usize) -> usize {
-    let start = bytes.len().saturating_sub(TRAILER) + at;
+    let start = bytes.len().saturating_sub(edition_of(bytes).trailer) + at;
     let field = bytes.get(start..start + 4).unwrap_or(&[0; 4]);
     field
         .iter()
@@ -122,7 +125,8 @@ fn trailer_number(bytes: &[u8], at: usize) -> usize {
 /// Another offset in some point: a place in the rows, absent, or near either.
 fn offset(rng: &mut Rng, bytes: &mut [u8]) {
     let (start, count) = (trailer_number(bytes, 4), trailer_number(bytes, 8));
-    let at = start + POINT * rng.below(count) + 25 + 4 * rng.below(8);
+    let edition = edition_of(bytes);
+    let at = start + edition.point * rng.below(count) + edition.offsets() + 4 * rng.below(8);
     let value = match rng.below(4) {
         0 => u32::MAX,
         1 => u32::MAX - 1,
@@ -137,10 +141,11 @@ fn offset(rng: &mut Rng, bytes: &mut [u8]) {
 /// Two points change places.
 fn points(rng: &mut Rng, bytes: &mut [u8]) {
     let (start, count) = (trailer_number(bytes, 4), trailer_number(bytes, 8));
-    let one = start + POINT * rng.below(count);
-    let two = start + POINT * rng.below(count);
-    if one.max(two) + POINT <= bytes.len() {
-        (0..POINT).for_each(|at| bytes.swap(one + at, two + at));
+    let width = edition_of(bytes).point;
+    let one = start + width * rng.below(count);
+    let two = start + width * rng.below(count);
+    if one.max(two) + width <= bytes.len() {
+        (0..width).for_each(|at| bytes.swap(one + at, two + at));
     }
 }
 
@@ -158,14 +163,22 @@ fn lengthen(rng: &mut Rng, bytes: &mut [u8]) {
     }
 }
 
+/// The edition byte becomes that of another edition, or of none.
+fn reedition(rng: &mut Rng, bytes: &mut [u8]) {
+    if let Some(last) = bytes.last_mut() {
+        *last = rng.below(EDITIONS.len() + 2) as u8;
+    }
+}
+
 /// Makes length and points start true again, so that what else was changed is
 /// not hidden behind step 1.
 fn retrailer(bytes: &mut [u8]) {
     let length = bytes.len();
-    let points = POINT * trailer_number(bytes, 8);
-    if length >= TRAILER + points {
-        let trailer = &mut bytes[length - TRAILER..];
-        let start = (length - TRAILER - points) as u32;
+    let edition = edition_of(bytes);
+    let points = edition.point * trailer_number(bytes, 8);
+    if length >= edition.trailer + points {
+        let start = (length - edition.trailer - points) as u32;
+        let trailer = &mut bytes[length - edition.trailer..];
         trailer[4..8].copy_from_slice(&start.to_be_bytes());
         trailer[16..20].copy_from_slice(&(length as u32).to_be_bytes());
     }

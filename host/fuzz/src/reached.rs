@@ -118,7 +118,7 @@ fn kind(call: &'static str, number: u8, file: u8, detail: u64) -> Kind {
 /// The refusals that each call gives besides a value: those of a table file (t),
 /// of a point file (p), of a view's rows (v), of a pack (k), of a Mainfile set (m),
 /// of its addresses alone (a), of an address's rows (w); and single ones.
-const CALLS: [(&str, &str, &[u8]); 27] = [
+const CALLS: [(&str, &str, &[u8]); 28] = [
     ("table", "t", &[]),
     ("points", "p", &[]),
     ("views", "p", &[]),
@@ -134,6 +134,7 @@ const CALLS: [(&str, &str, &[u8]); 27] = [
     ("build", "tpv", &[10, 12]),
     ("pack", "k", &[]),
     ("pack label", "k", &[7, 10]),
+    ("pack suffix", "k", &[7, 13]),
     ("pack labels", "k", &[7, 10]),
     ("pack list", "k", &[7, 10]),
     ("main", "m", &[]),

@@ -37,6 +37,8 @@ fn two_thousand_cases_reach_every_kind_of_answer_and_repeat() {
         "\nmain: refusal 4 of the organisation, at ",
         "\npack: refusal 11, step 3: ",
         "\npack labels: value: ",
+        "\npack suffix: refusal 13: ",
+        "\npack suffix: value: ",
         "\ntable: refusal 4 of the table, at ",
     ] {
         assert!(out.contains(line), "{line}");

@@ -1,10 +1,10 @@
 //! What is made by hand is what it is said to be, and enough cases have all of
 //! it.
 
-use fuzz::limits;
+use fuzz::limits::{self, Limit};
 use fuzz::reached::{wanted, Kind, Reached, ENOUGH};
 use fuzz::{case, malformed, sets};
-use paper::make::Rng;
+use paper::make::{Edition, Rng, EDITIONS, FIRST};
 use paper::Refusal;
 use std::collections::BTreeSet;
 
@@ -20,25 +20,41 @@ fn each_limit_opens_or_is_refused_by_its_step() {
     }
 }
 
-#[test]
-fn the_limits_of_a_field_have_both_sides() {
-    let step = |name: &str| {
-        let limit = limits::ALL.iter().find(|limit| limit.name == name);
-        limit.unwrap_or_else(|| panic!("{name}")).step
-    };
-    let sides = [
+/// Limits that open, each with one of the same field that does not.
+fn sides(edition: Edition) -> Vec<(&'static str, &'static str)> {
+    let mut sides = vec![
         ("building number: 9999", "building number: 10000"),
         ("address key: 99999999", "address key: 100000000"),
         ("organisation key: 1", "organisation key: 0"),
         ("row 0, text 2: \"\"", "row 0, text 1: \"\""),
-        ("edition 1", "edition 2"),
         ("code \"Y1  \"", "code \"X1  \""),
     ];
-    for (opens, refused) in sides {
-        assert_eq!(step(opens), 0, "{opens}");
-        assert_ne!(step(refused), 0, "{refused}");
+    sides.push(match edition {
+        FIRST => ("edition byte 1", "edition byte 2"),
+        _ => ("edition byte 2", "edition byte 3"),
+    });
+    if edition.has_suffix() {
+        sides.push(("suffix: 48", "suffix: 47"));
+        sides.push(("suffix, second: 90", "suffix, second: 91"));
     }
-    let mut names: Vec<&String> = limits::ALL.iter().map(|limit| &limit.name).collect();
+    sides
+}
+
+#[test]
+fn the_limits_of_a_field_have_both_sides() {
+    for edition in EDITIONS {
+        let step = |name: &str| {
+            let is_it = |limit: &&Limit| limit.edition == edition && limit.name == name;
+            let limit = limits::ALL.iter().find(is_it);
+            limit.unwrap_or_else(|| panic!("{name}")).step
+        };
+        for (opens, refused) in sides(edition) {
+            assert_eq!(step(opens), 0, "{opens}");
+            assert_ne!(step(refused), 0, "{refused}");
+        }
+    }
+    let name = |limit: &'static Limit| (limit.edition.number, &limit.name);
+    let mut names: Vec<_> = limits::ALL.iter().map(name).collect();
     names.sort_unstable();
     names.dedup();
     assert_eq!(names.len(), limits::ALL.len(), "each limit stands once");

@@ -31,7 +31,7 @@ pub struct Lent {
 const FILES: u64 = 2_048;
 /// labels and listings from files less than this,
 const LABELS: u64 = 4_096;
-/// opening a pack, labels or listings from a pack less than this,
+/// opening a pack, labels, listings or a suffix from a pack less than this,
 const PACKS: u64 = 80 << 10;
 /// building a pack or listing codes less than this.
 const BUILDING: u64 = 192 << 10;
@@ -41,7 +41,7 @@ const LABELS_FROM_A_SET: u64 = 6_144;
 /// call on a pair of files does.
 const BUILDING_FROM_A_SET: u64 = 1 << 20;
 
-pub const CALLS: [Call; 27] = [
+pub const CALLS: [Call; 28] = [
     Call {
         name: "ttw_table",
         stack: FILES,
@@ -143,6 +143,12 @@ pub const CALLS: [Call; 27] = [
         stack: PACKS,
         lend: |case| lent(&[&case.packs[0]], &[case.point], &[case.room]),
         plain: |r, n, w| count(paper::pack_label(&r[0], n[0], &mut w[0])),
+    },
+    Call {
+        name: "ttw_pack_suffix",
+        stack: PACKS,
+        lend: |case| lent(&[&case.packs[0]], &[case.point], &[]),
+        plain: |r, n, _| packed(paper::pack_suffix(&r[0], n[0])),
     },
     Call {
         name: "ttw_pack_labels",
