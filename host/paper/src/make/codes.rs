@@ -31,7 +31,8 @@ pub fn inward(rng: &mut Rng) -> Vec<u8> {
 
 /// A well formed suffix.
 pub fn suffix(rng: &mut Rng) -> Vec<u8> {
-    vec![*rng.pick(DIGITS), b'A' + rng.below(26) as u8]
+    let place = rng.below(10 * 26);
+    vec![DIGITS[place / 26], b'A' + (place % 26) as u8]
 }
 
 /// The suffixes of a postcode as Royal Mail gives them out: 1A to 9T, without the
