@@ -1,6 +1,6 @@
 //! What the calls are asked about.
 
-use paper::make::{exact_pair, full_draft, Follower, PackDraft, Pair, Rng, TableRow, View};
+use paper::make::{exact_pair, full_draft, Follower, PackDraft, Pair, Rng, TableRow, View, BUILT};
 use ttw::ask;
 
 /// The outward code that most views of the files have.
@@ -57,15 +57,17 @@ impl Input {
 /// last rows: the hardest to open for a program that walks from the start.
 pub fn far_pack(count: usize) -> Vec<u8> {
     let PackDraft {
+        edition,
         rows,
         points,
         outward,
-    } = full_draft();
+    } = full_draft(BUILT);
     let locality = &rows[1];
     let others = [2, 4, 6, 7, 8].map(|row| rows[row].clone());
     let mut point = points[0].clone();
     point.rows = [0, 1, 2, 1, 2, 3, 4, 5].map(|row| Some(count - 1 + row));
     let mut draft = PackDraft {
+        edition,
         rows: vec![locality.clone(); count],
         points: vec![point; count],
         outward,

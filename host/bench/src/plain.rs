@@ -54,6 +54,10 @@ pub fn pack_label(pack: &[u8], k: u64, out: &mut [u8]) -> u64 {
     answer(Pack::accept(pack).and_then(|pack| pack.label(k, out)))
 }
 
+pub fn pack_suffix(pack: &[u8], k: u64) -> u64 {
+    answer(Pack::accept(pack).and_then(|pack| pack.suffix(k)))
+}
+
 /// Runs and listings: what they read, and how they are asked for.
 macro_rules! runs {
     ($($name:ident($($read:ident),*) = |$first:ident, $count:ident, $out:ident| $run:expr;)*) => {

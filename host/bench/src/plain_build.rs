@@ -6,9 +6,10 @@ use crate::plain_label::{trimmed, Sheet};
 /// The offset that means absent.
 pub const ABSENT: u32 = u32::MAX;
 
-/// The bytes of a point and of the trailer.
-const POINT: usize = 57;
+/// The bytes of a point and of the trailer, and the edition that is built.
+const POINT: usize = 59;
 const TRAILER: usize = 21;
+const EDITION: u8 = 2;
 
 /// Where texts start and end in a record.
 pub type Places = &'static [(usize, usize)];
@@ -24,6 +25,7 @@ pub fn row_len(record: &[u8], texts: Places) -> usize {
 /// Where the fields of a point start in the record that it is written from.
 pub struct PointPlaces {
     pub postcode: usize,
+    pub suffix: usize,
     pub postcode_type: usize,
     pub address_key: usize,
     pub organisation_key: usize,
@@ -45,6 +47,7 @@ impl Sheet<'_> {
     pub fn point(&mut self, places: &PointPlaces, record: &[u8], offsets: [u32; 8]) {
         let field = |start: usize, width: usize| &record[start..start + width];
         self.put(field(places.postcode, 7));
+        self.put(field(places.suffix, 2));
         self.put(field(places.postcode_type, 1));
         self.four(number(field(places.address_key, 8)) as u32);
         self.four(number(field(places.organisation_key, 8)) as u32);
@@ -77,6 +80,6 @@ impl Area {
         sheet.four(self.points as u32);
         sheet.put(code);
         sheet.four(self.length() as u32);
-        sheet.byte(1);
+        sheet.byte(EDITION);
     }
 }

@@ -3,14 +3,28 @@
 //! there, texts are tested eight bytes at a time, and labels are written where
 //! they are to stand.
 
-use crate::chunks::chunks;
 use crate::plain_label::{from, item, label, only, run, trimmed, Sheet};
 use paper::fields::outward_fault;
 use paper::{Elements, Refusal, Run};
 
-/// Bytes of a trailer and of a point.
+/// Bytes of a trailer; of a point's postcode, and of what stands behind postcode
+/// and suffix.
 const TRAILER: usize = 21;
-const POINT: usize = 57;
+const POSTCODE: usize = 7;
+const REST: usize = 50;
+
+/// Where the PO box stands in that, and the first offset.
+const PO_BOX: usize = 12;
+const OFFSETS: usize = 18;
+
+/// Bytes of a point, by the edition byte; none where there is no such edition.
+fn width_of(edition: u8) -> Option<usize> {
+    match edition {
+        1 => Some(57),
+        2 => Some(59),
+        _ => None,
+    }
+}
 
 /// The offset that means absent, and the types of the rows that offsets name.
 const ABSENT: u32 = u32::MAX;
@@ -37,67 +51,119 @@ fn number(bytes: &[u8], at: usize) -> u32 {
     u32::from_be_bytes(bytes[at..at + 4].try_into().expect("4 bytes"))
 }
 
-/// A pack, accepted: its points and its bytes. What is asked of a pack is asked of
+/// A point: its postcode, its suffix, which has no bytes in edition 1, and what
+/// stands behind these.
+#[derive(Clone, Copy)]
+struct Point<'a> {
+    postcode: &'a [u8; POSTCODE],
+    suffix: &'a [u8],
+    rest: &'a [u8; REST],
+}
+
+impl<'a> Point<'a> {
+    fn new(bytes: &'a [u8]) -> Point<'a> {
+        let (postcode, behind) = bytes.split_first_chunk().expect("a point's bytes");
+        let (suffix, rest) = behind.split_last_chunk().expect("a point's bytes");
+        Point {
+            postcode,
+            suffix,
+            rest,
+        }
+    }
+
+    fn building_number(self) -> u16 {
+        u16::from_be_bytes([self.rest[9], self.rest[10]])
+    }
+
+    /// An offset, by its place.
+    fn offset(self, n: usize) -> u32 {
+        number(self.rest, OFFSETS + 4 * n)
+    }
+}
+
+/// A pack, accepted: its bytes and its points. What is asked of a pack is asked of
 /// this.
 pub struct Pack<'a> {
     bytes: &'a [u8],
-    points: &'a [[u8; POINT]],
+    points: &'a [u8],
+    width: usize,
 }
 
 impl<'a> Pack<'a> {
     pub fn accept(bytes: &'a [u8]) -> Result<Pack<'a>, Refusal> {
         let refused = |step| Refusal::new(11, step);
-        let (start, points) = split(bytes).ok_or(refused(1))?;
-        let trailer = &bytes[bytes.len() - TRAILER..];
+        let (start, width) = split(bytes).ok_or(refused(1))?;
+        let (body, trailer) = bytes.split_at(bytes.len() - TRAILER);
         let kinds = row_kinds(bytes, start, number(trailer, 0)).ok_or(refused(2))?;
         let outward = number(trailer, 12);
-        let sound = |point| is_sound(bytes, &kinds, outward, point);
-        if !points.iter().all(sound) {
+        let points = &body[start..];
+        let pack = Pack {
+            bytes,
+            points,
+            width,
+        };
+        if !pack
+            .all()
+            .all(|point| is_sound(bytes, &kinds, outward, point))
+        {
             return Err(refused(3));
         }
-        Ok(Pack { bytes, points })
+        Ok(pack)
+    }
+
+    fn all(&self) -> impl Iterator<Item = Point<'a>> {
+        self.points.chunks_exact(self.width).map(Point::new)
     }
 
     /// How many points it has.
     pub fn points(&self) -> usize {
-        self.points.len()
+        self.points.len() / self.width
     }
 
     pub fn label(&self, k: u64, out: &mut [u8]) -> Result<usize, Refusal> {
         only(self.labels(k, 1, out))
     }
 
+    /// The two bytes of a suffix as one number.
+    pub fn suffix(&self, k: u64) -> Result<usize, Refusal> {
+        let point = from(k, self.all()).next().ok_or(Refusal::new(7, 0))?;
+        match *point.suffix {
+            [digit, letter] => Ok(usize::from(digit) << 8 | usize::from(letter)),
+            _ => Err(Refusal::new(13, 0)),
+        }
+    }
+
     pub fn labels(&self, first: u64, count: u64, out: &mut [u8]) -> Run {
-        let points = from(first, self.points.iter());
+        let points = from(first, self.all());
         run(points, count, out, |point, out| {
-            label(&elements(self.bytes, point), out)
+            label(&elements(self.bytes, &point), out)
         })
     }
 
     pub fn list(&self, first: u64, count: u64, out: &mut [u8]) -> Run {
-        let points = (first..).zip(from(first, self.points.iter()));
+        let points = (first..).zip(from(first, self.all()));
         run(points, count, out, |(k, point), out| {
             let heading = |sheet: &mut Sheet| {
                 sheet.put(b"point ");
                 sheet.number(k);
                 sheet.byte(b'\n');
             };
-            item(heading, Ok(elements(self.bytes, point)), out)
+            item(heading, Ok(elements(self.bytes, &point)), out)
         })
     }
 }
 
-/// Step 1: where the rows end, and the points.
-fn split(bytes: &[u8]) -> Option<(usize, &[[u8; POINT]])> {
+/// Step 1: where the rows end, and the bytes of a point.
+fn split(bytes: &[u8]) -> Option<(usize, usize)> {
     let body = bytes.len().checked_sub(TRAILER)?;
     let trailer = &bytes[body..];
     let start = number(trailer, 4) as usize;
     let count = number(trailer, 8) as usize;
-    let sound = trailer[20] == 1
-        && number(trailer, 16) as usize == bytes.len()
+    let width = width_of(trailer[20])?;
+    let sound = number(trailer, 16) as usize == bytes.len()
         && outward_fault(&trailer[12..16]) == 0
-        && start + POINT * count == body;
-    sound.then(|| (start, chunks(&bytes[start..body]).0))
+        && start + width * count == body;
+    sound.then_some((start, width))
 }
 
 /// The top bit of each byte that may stand in no text: below 32, a small
@@ -195,30 +261,28 @@ fn row_kinds(bytes: &[u8], rows: usize, count: u32) -> Option<Vec<u8>> {
 }
 
 /// Step 3, for one point.
-fn is_sound(bytes: &[u8], kinds: &[u8], outward: u32, point: &[u8; POINT]) -> bool {
-    number(point, 0) == outward
-        && point[4].is_ascii_digit()
-        && INWARD[usize::from(point[5])]
-        && INWARD[usize::from(point[6])]
-        && matches!(point[7], b'S' | b'L')
-        && number(point, 8) <= HIGHEST_KEY
-        && number(point, 12) <= HIGHEST_KEY
-        && building_number(point) <= HIGHEST_NUMBER
-        && matches!(point[18], b'Y' | b' ')
-        && is_box(point)
+fn is_sound(bytes: &[u8], kinds: &[u8], outward: u32, point: Point) -> bool {
+    let Point { postcode, rest, .. } = point;
+    number(postcode, 0) == outward
+        && postcode[4].is_ascii_digit()
+        && INWARD[usize::from(postcode[5])]
+        && INWARD[usize::from(postcode[6])]
+        && matches!(*point.suffix, [] | [b'0'..=b'9', b'A'..=b'Z'])
+        && matches!(rest[0], b'S' | b'L')
+        && number(rest, 1) <= HIGHEST_KEY
+        && number(rest, 5) <= HIGHEST_KEY
+        && point.building_number() <= HIGHEST_NUMBER
+        && matches!(rest[11], b'Y' | b' ')
+        && is_box(rest)
         && rows_sound(bytes, kinds, point)
 }
 
-fn building_number(point: &[u8; POINT]) -> u16 {
-    u16::from_be_bytes([point[16], point[17]])
-}
-
 /// Whether the PO box is blank, or a text that begins with no space.
-fn is_box(point: &[u8; POINT]) -> bool {
+fn is_box(rest: &[u8; REST]) -> bool {
     const SIX: u64 = (1 << 48) - 1;
     const SPACES: u64 = u64::from_ne_bytes([b' '; 8]);
-    let six = eight(point, 19) & SIX;
-    if point[19] == b' ' {
+    let six = eight(rest, PO_BOX) & SIX;
+    if rest[PO_BOX] == b' ' {
         six == SPACES & SIX
     } else {
         not_text(six | SPACES & !SIX) == 0
@@ -228,10 +292,10 @@ fn is_box(point: &[u8; POINT]) -> bool {
 /// The rows of a point: each offset is absent or the start of a row of its
 /// type, the locality is there, rule 8 holds, and so does what is said of
 /// organisations.
-fn rows_sound(bytes: &[u8], kinds: &[u8], point: &[u8; POINT]) -> bool {
+fn rows_sound(bytes: &[u8], kinds: &[u8], point: Point) -> bool {
     let mut given = 0;
     for (n, kind) in KINDS.into_iter().enumerate() {
-        let offset = number(point, 25 + 4 * n);
+        let offset = point.offset(n);
         if offset != ABSENT {
             if kinds.get(offset as usize) != Some(&kind) {
                 return false;
@@ -240,24 +304,24 @@ fn rows_sound(bytes: &[u8], kinds: &[u8], point: &[u8; POINT]) -> bool {
         }
     }
     let is_given = |n: u32| given >> n & 1 == 1;
-    let broken = is_given(6) && !is_given(5) && building_number(point) == 0
+    let broken = is_given(6) && !is_given(5) && point.building_number() == 0
         || is_given(3) && !is_given(1)
         || is_given(2) && !is_given(1)
         || is_given(4) && !is_given(3);
-    let organisation = if point[7] == b'L' {
+    let organisation = if point.rest[0] == b'L' {
         is_given(7)
-    } else if number(point, 12) == 0 {
+    } else if number(point.rest, 5) == 0 {
         !is_given(7)
     } else {
-        is_given(7) && bytes[number(point, 53) as usize + 1] != 0
+        is_given(7) && bytes[point.offset(7) as usize + 1] != 0
     };
     is_given(0) && !broken && organisation
 }
 
 /// The n-th text of the row that an offset of a point names; none where it is
 /// absent.
-fn text<'a>(bytes: &'a [u8], point: &[u8; POINT], offset: usize, n: usize) -> &'a [u8] {
-    let row = number(point, 25 + 4 * offset);
+fn text<'a>(bytes: &'a [u8], point: Point, offset: usize, n: usize) -> &'a [u8] {
+    let row = point.offset(offset);
     if row == ABSENT {
         return &[];
     }
@@ -269,16 +333,16 @@ fn text<'a>(bytes: &'a [u8], point: &[u8; POINT], offset: usize, n: usize) -> &'
 }
 
 /// What the label of a point is printed from.
-fn elements<'a>(bytes: &'a [u8], point: &'a [u8; POINT]) -> Elements<'a> {
-    let text = |offset, n| text(bytes, point, offset, n);
+fn elements<'a>(bytes: &'a [u8], point: &Point<'a>) -> Elements<'a> {
+    let text = |offset, n| text(bytes, *point, offset, n);
     Elements {
         organisation: text(7, 0),
         department: text(7, 1),
-        po_box: trimmed(&point[19..25]),
+        po_box: trimmed(&point.rest[PO_BOX..OFFSETS]),
         sub_building: text(6, 0),
         building_name: text(5, 0),
-        building_number: building_number(point).into(),
-        concatenated: point[18] == b'Y',
+        building_number: point.building_number().into(),
+        concatenated: point.rest[11] == b'Y',
         dependent_thoroughfare: text(3, 0),
         dependent_descriptor: text(4, 0),
         thoroughfare: text(1, 0),
@@ -286,8 +350,8 @@ fn elements<'a>(bytes: &'a [u8], point: &'a [u8; POINT]) -> Elements<'a> {
         double_dependent_locality: text(0, 2),
         dependent_locality: text(0, 1),
         post_town: text(0, 0),
-        outward: trimmed(&point[..4]),
-        inward: &point[4..7],
+        outward: trimmed(&point.postcode[..4]),
+        inward: &point.postcode[4..],
     }
 }
 
@@ -295,7 +359,7 @@ fn elements<'a>(bytes: &'a [u8], point: &'a [u8; POINT]) -> Elements<'a> {
 mod tests {
     use crate::plain;
     use crate::same::same_call;
-    use paper::make::{damaged_packs, full_draft, pack_draft, scratch, Rng};
+    use paper::make::{damaged_packs, full_draft, pack_draft, scratch, Rng, EDITIONS};
     use ttw::calls;
 
     /// Asks both sides all about a pack, with buffers from none to enough.
@@ -303,6 +367,9 @@ mod tests {
         let points = plain::pack(pack);
         assert_eq!(calls::pack(pack), points, "{what}");
         let last = if points >> 56 == 0 { points + 1 } else { 1 };
+        for k in 0..=last {
+            same_call!(what, 0, |_, _| pack_suffix(pack, k));
+        }
         for room in [0, 30, 60, 90, 498, 499, 519, 520, 700] {
             for k in 0..=last {
                 same_call!(what, room, |out, _| pack_label(pack, k, out));
@@ -321,7 +388,9 @@ mod tests {
     #[test]
     fn packs_that_open() {
         let mut rng = Rng::new(31);
-        compare(&full_draft().bytes(), "a full pack");
+        for edition in EDITIONS {
+            compare(&full_draft(edition).bytes(), "a full pack");
+        }
         for n in 0..300 {
             compare(&pack_draft(&mut rng, 8).bytes(), &format!("pack {n}"));
         }

@@ -16,7 +16,7 @@ PRAGMA journal_mode = OFF;
 BEGIN;
 CREATE TABLE row (type INTEGER, key INTEGER, a TEXT, b TEXT, c TEXT,
     PRIMARY KEY (type, key)) WITHOUT ROWID;
-CREATE TABLE point (k INTEGER PRIMARY KEY, inward TEXT, type TEXT, address INTEGER,
+CREATE TABLE point (k INTEGER PRIMARY KEY, inward TEXT, suffix TEXT, type TEXT, address INTEGER,
     organisation INTEGER, number INTEGER, concatenation TEXT, box TEXT, locality INTEGER,
     thoroughfare INTEGER, descriptor INTEGER, dependent INTEGER, its_descriptor INTEGER,
     building INTEGER, sub_building INTEGER, name TEXT, department TEXT);
@@ -91,8 +91,9 @@ fn put_point(script: &mut String, k: u32, view: &View) {
     };
     let _ = writeln!(
         script,
-        "INSERT INTO point VALUES ({k}, {}, {}, {}, {}, {}, {}, {}, {keys}, {name}, {department});",
+        "INSERT INTO point VALUES ({k}, {}, {}, {}, {}, {}, {}, {}, {}, {keys}, {name}, {department});",
         quoted(&view.inward),
+        quoted(&view.suffix),
         letter(view.postcode_type),
         view.address_key,
         view.organisation_key,

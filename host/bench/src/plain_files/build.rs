@@ -25,6 +25,7 @@ const ORGANISATION: Places = &[(42, 102), (102, 162)];
 /// Where a point's fields stand in a view.
 const POINT: PointPlaces = PointPlaces {
     postcode: 14,
+    suffix: 21,
     postcode_type: 23,
     address_key: 24,
     organisation_key: 32,

@@ -11,6 +11,7 @@ use paper::Refusal;
 /// Where a point's fields stand in an address.
 const POINT: PointPlaces = PointPlaces {
     postcode: 0,
+    suffix: 79,
     postcode_type: 77,
     address_key: 7,
     organisation_key: 69,
