@@ -19,7 +19,7 @@ help:
 	@echo 'make install   copy library, header, pkg-config file, ttw and its man page below PREFIX=/usr/local, staged in DESTDIR'
 	@echo 'make bench     time each call beside a plain compiled version'
 	@echo 'make fuzz      try the calls on mutated and hand-made input for SECONDS=60 from SEED=1'
-	@echo 'make annotate  print the pack of docs/PACK.md byte by byte'
+	@echo 'make annotate  print the packs of docs/PACK.md byte by byte'
 	@echo 'make ready-arm fetch what an Arm machine needs to run all this (root, Debian 12)'
 	@echo 'make library-arm  build the library for the handset, an AArch64 machine'
 	@echo 'make test-arm     compare its calls with the second program, under an emulator'

@@ -89,8 +89,9 @@ given for the pack, it is read from standard input.
   --suffix     the delivery point suffix too, in a line before each label
   --out FILE   into a file, not to standard output: see ttw help labels
 
-A pack of edition 1 has no suffixes, and with --suffix is refused. Each suffix
-costs a check of the pack, so that of many points --suffix takes its time.
+A pack of edition 1 has no suffixes, and with --suffix its first point is
+refused. Each point costs checks of the whole pack then, so that a long pack
+takes its time.
 ";
 
 pub const MAIN: &str = "\
