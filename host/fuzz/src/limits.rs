@@ -3,6 +3,7 @@
 
 use paper::make::{full_draft, outward, Edition, PackDraft, PackPoint, PackRow, Rng, EDITIONS};
 use std::fmt::Debug;
+use std::ops::RangeInclusive;
 use std::sync::LazyLock;
 
 /// One field of a pack at a limit.
@@ -35,7 +36,7 @@ pub static ALL: LazyLock<Vec<Limit>> =
 
 fn limits_of(edition: Edition) -> Vec<Limit> {
     let parts = [
-        texts, codes, inwards, suffixes, marks, numbers, offsets, rows, trailers, editions,
+        texts, codes, postcodes, marks, numbers, offsets, rows, trailers, editions,
     ];
     parts.into_iter().flat_map(|part| part(edition)).collect()
 }
@@ -151,8 +152,8 @@ fn texts(edition: Edition) -> Vec<Limit> {
 }
 
 /// The letters of a postcode with their neighbours, and the digits.
-const LETTERS: std::ops::RangeInclusive<u8> = b'@'..=b'[';
-const DIGITS: std::ops::RangeInclusive<u8> = b'/'..=b':';
+const LETTERS: RangeInclusive<u8> = b'@'..=b'[';
+const DIGITS: RangeInclusive<u8> = b'/'..=b':';
 
 fn codes(edition: Edition) -> Vec<Limit> {
     let code = |code: [u8; 4], sound: bool| {
@@ -195,8 +196,8 @@ fn field<T: Copy + Send + Sync + Debug + 'static>(
     edition: Edition,
     name: &str,
     values: impl IntoIterator<Item = T>,
-    is_sound: fn(T) -> bool,
-    set: fn(&mut PackPoint, T),
+    is_sound: impl Fn(T) -> bool,
+    set: impl Fn(&mut PackPoint, T) + Copy + Send + Sync + 'static,
 ) -> Vec<Limit> {
     let limit = |value| {
         let name = format!("{name}: {value:?}");
@@ -207,53 +208,50 @@ fn field<T: Copy + Send + Sync + Debug + 'static>(
     values.into_iter().map(limit).collect()
 }
 
-fn is_digit(byte: u8) -> bool {
-    byte.is_ascii_digit()
+/// A byte of a point: its name, the values that are tried, which of them are sound,
+/// and where it stands.
+type Byte = (
+    &'static str,
+    RangeInclusive<u8>,
+    fn(&u8) -> bool,
+    fn(&mut PackPoint) -> &mut u8,
+);
+
+fn is_inward_letter(byte: &u8) -> bool {
+    byte.is_ascii_uppercase() && !b"CIKMOV".contains(byte)
 }
 
-fn inwards(edition: Edition) -> Vec<Limit> {
-    let is_letter = |byte: u8| byte.is_ascii_uppercase() && !b"CIKMOV".contains(&byte);
-    let parts = [
-        field(edition, "inward", DIGITS, is_digit, |point, byte| {
-            point.inward[0] = byte
-        }),
-        field(
-            edition,
-            "inward, second",
-            LETTERS,
-            is_letter,
-            |point, byte| point.inward[1] = byte,
-        ),
-        field(
-            edition,
-            "inward, third",
-            LETTERS,
-            is_letter,
-            |point, byte| point.inward[2] = byte,
-        ),
-    ];
-    parts.into_iter().flatten().collect()
-}
+const INWARD: [Byte; 3] = [
+    ("inward", DIGITS, u8::is_ascii_digit, |point| {
+        &mut point.inward[0]
+    }),
+    ("inward, second", LETTERS, is_inward_letter, |point| {
+        &mut point.inward[1]
+    }),
+    ("inward, third", LETTERS, is_inward_letter, |point| {
+        &mut point.inward[2]
+    }),
+];
 
-/// The suffix of a point; none where the edition has none.
-fn suffixes(edition: Edition) -> Vec<Limit> {
-    if !edition.has_suffix() {
-        return Vec::new();
-    }
-    let is_letter = |byte: u8| byte.is_ascii_uppercase();
-    let parts = [
-        field(edition, "suffix", DIGITS, is_digit, |point, byte| {
-            point.suffix[0] = byte
-        }),
-        field(
-            edition,
-            "suffix, second",
-            LETTERS,
-            is_letter,
-            |point, byte| point.suffix[1] = byte,
-        ),
-    ];
-    parts.into_iter().flatten().collect()
+const SUFFIX: [Byte; 2] = [
+    ("suffix", DIGITS, u8::is_ascii_digit, |point| {
+        &mut point.suffix[0]
+    }),
+    ("suffix, second", LETTERS, u8::is_ascii_uppercase, |point| {
+        &mut point.suffix[1]
+    }),
+];
+
+/// The inward code of a point, and its suffix where the edition has one.
+fn postcodes(edition: Edition) -> Vec<Limit> {
+    let suffix = SUFFIX.into_iter().filter(|_| edition.has_suffix());
+    let limits = |(name, values, is_sound, place): Byte| {
+        let is_sound = move |byte| is_sound(&byte);
+        field(edition, name, values, is_sound, move |point, byte| {
+            *place(point) = byte
+        })
+    };
+    INWARD.into_iter().chain(suffix).flat_map(limits).collect()
 }
 
 /// The marks of a point, and its PO box.

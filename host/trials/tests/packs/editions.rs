@@ -41,11 +41,11 @@ fn compare(rng: &mut Rng, draft: &PackDraft) -> u64 {
 fn random_drafts_print_the_same_in_each_edition() {
     let mut rng = Rng::new(107);
     let mut points = 0;
-    for _ in 0..120 {
-        let draft = pack_draft(&mut rng, 8);
+    for _ in 0..150 {
+        let draft = pack_draft(&mut rng, 10);
         points += compare(&mut rng, &draft);
     }
-    assert!(points > 150, "{points}");
+    assert!(points > 200, "{points}");
 }
 
 #[test]

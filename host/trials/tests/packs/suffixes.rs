@@ -1,28 +1,9 @@
-//! Suffixes: of every point that of its view, of every two bytes a digit and a letter alone, and 13 in edition 1.
+//! Suffixes: of every two bytes a digit and a letter alone, and 13 in edition 1. That each is its view's is tried beside
+//! the labels.
 
-use paper::make::{self, padded, Rng, View, BUILT, EDITIONS, FIRST};
+use paper::make::{EDITIONS, FIRST};
 use trials::agree;
-use trials::packs::{built, codes, draft, in_edition, no_pack, resident, row, suffix_of};
-
-#[test]
-fn the_suffix_of_each_point_is_that_of_its_live_view() {
-    let mut points = 0;
-    for seed in 2_200..2_800 {
-        let pair = make::pair(&mut Rng::new(seed), 60);
-        for code in codes(&pair) {
-            let Some(pack) = built(&pair, &code) else {
-                continue;
-            };
-            let is_packed = |view: &&View| view.is_live() && padded(&view.outward, 4) == code;
-            let views = pair.views.iter().filter(is_packed);
-            for (k, view) in (1..).zip(views) {
-                assert_eq!(agree::pack_suffix(&pack, k), suffix_of(view), "{k}");
-                points += 1;
-            }
-        }
-    }
-    assert!(points > 1_500, "{points}");
-}
+use trials::packs::{draft, in_edition, no_pack, resident, row};
 
 /// In the last of three points, so that no other is looked at in its place.
 #[test]
@@ -66,17 +47,5 @@ fn refusals_come_in_their_order() {
         for k in [0, 1, 3, u64::MAX] {
             assert_eq!(agree::pack_suffix(&pack, k), no_pack(2), "{k}");
         }
-    }
-}
-
-#[test]
-fn suffixes_of_a_long_pack() {
-    let pair = make::exact_pair(&mut Rng::new(113), 1_500, 1_500);
-    let pack = built(&pair, b"AB1 ").expect("a pack");
-    let count = agree::pack(&pack);
-    assert!(count > 300, "{count}");
-    assert_eq!(pack.last(), Some(&BUILT.number));
-    for k in (0..=count + 1).step_by(20).chain([count, count + 1]) {
-        agree::pack_suffix(&pack, k);
     }
 }
