@@ -8,7 +8,8 @@ use std::os::unix::fs::{symlink, MetadataExt, PermissionsExt};
 use std::process::Command;
 use support::{root, run, Folder, Run, TTW};
 
-const LABEL: &str = "ATTIC FLAT\n110-114 QUARRY LANE\nHARTWELL BAY\nAB1 9ZZ\n";
+/// What the example prints of the worked pack's point.
+const PRINTED: &str = "ATTIC FLAT\n110-114 QUARRY LANE\nHARTWELL BAY\nAB1 9ZZ\nsuffix: 1A\n";
 
 /// Runs the script in a folder, below a stage or none.
 fn install(folder: &Folder, stage: &str, prefix: &str) -> Run {
@@ -36,7 +37,7 @@ fn a_program_is_built(folder: &Folder, prefix: &str) {
     built.prints("");
     let cut = format!("'{prefix}/bin/ttw' pack changes1 changes2 --code AB1 --out .");
     let label = folder.shell(&format!("{cut} 2>/dev/null; ./handset AB1.pack 1"));
-    label.prints(LABEL);
+    label.prints(PRINTED);
 }
 
 #[test]
