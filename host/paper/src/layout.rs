@@ -327,8 +327,7 @@ pub mod pack {
         pub trailer: usize,
         /// Where the suffix stands in a point, if it has one.
         pub suffix: Option<Field>,
-        /// Where what stands behind the postcode, and the suffix, stands in a
-        /// point, up to its end.
+        /// Where the rest of a point stands, behind postcode and suffix.
         pub rest: Field,
     }
 
@@ -359,7 +358,7 @@ pub mod pack {
     /// The editions that open.
     pub static EDITIONS: [Edition; 2] = [FIRST, SECOND];
 
-    /// "Only edition 2 is built."
+    /// "Only edition 2 is built".
     pub static BUILT: Edition = SECOND;
 
     pub const ROW_COUNT: Field = 0..4;

@@ -308,8 +308,8 @@ fn check_pack(rng: &Rng, files: Files, code: &[u8], expected: &[u8], seen: &mut 
     seen.points += count as usize;
 }
 
-fn check_code(rng: &Rng, files: Files, code: &[u8], seen: &mut Seen) {
-    // of two rows for a key the map keeps the last
+/// The rows in force by type and key: of two for a key the map keeps the last.
+fn rows_in_force<'a>(files: Files<'a>, seen: &mut Seen) -> BTreeMap<(u8, u32), &'a TableRow> {
     let mut rows: BTreeMap<(u8, u32), &TableRow> = files
         .rows()
         .iter()
@@ -319,6 +319,11 @@ fn check_code(rng: &Rng, files: Files, code: &[u8], seen: &mut Seen) {
     let keys = rows.len();
     rows.retain(|_, row| row.is_in_force());
     seen.ended += keys - rows.len();
+    rows
+}
+
+fn check_code(rng: &Rng, files: Files, code: &[u8], seen: &mut Seen) {
+    let rows = rows_in_force(files, seen);
     let views = packed(files, code);
     let refused = views
         .iter()
