@@ -252,7 +252,7 @@ suffix-fits pack k = by-case (suffix-asked pack k)
     by-case (no-number e h is) = rw is (record { file-fits = lit< tt; second-fits = lit< tt; detail-fits = lit< tt })
     by-case (no-suffix e low high first is) =
         rw is (record { file-fits = lit< tt; second-fits = lit< tt; detail-fits = lit< tt })
-    by-case (told e low high later good is) = rw is (omega (arith, suffix-small (suffixAt pack k) good))
+    by-case (told e low high not-first good is) = rw is (omega (arith, suffix-small (suffixAt pack k) good))
 
 opened-fits : (pack : List ℕ) → ((i : ℕ) → getD pack i 0 < 256) → Fits (opened pack)
 opened-fits pack bytes = by-opened (opened pack) refl (opened-says pack)

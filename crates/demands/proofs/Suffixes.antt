@@ -12,6 +12,7 @@ use Rattle.field.specs.Digits.{digit}
 use Rattle.field.specs.Text.{letter}
 use Rattle.field.proofs.Tests.{and-left, and-right}
 use Rattle.field_outward.specs.Inward.{suffixFault}
+use Rattle.field_outward.proofs.Long.{suffix-long}
 use Rattle.refusal.specs.Outcome.{after}
 use Rattle.refusal.specs.declared.Answer.{Answer}
 use Rattle.refusal.specs.declared.Answer.the-variants.{Value, Refused}
@@ -31,12 +32,12 @@ suffix-small [] e = absurd (omega arith)
 suffix-small (a ∷ []) e = absurd (omega arith)
 suffix-small (a ∷ b ∷ []) e = by-tests (digit a) (letter b) refl refl e
   where
-    by-tests : (t u : Bool) → digit a ≡ t → letter b ≡ u → cond t (cond u 0 2) 1 ≡ 0 → suffixNumber (a ∷ b ∷ []) < 65_536
+    by-tests : (t u : Bool) → digit a ≡ t → letter b ≡ u → _≡_ {A = ℕ} (cond t (cond u 0 2) 1) 0 → suffixNumber (a ∷ b ∷ []) < 65_536
     by-tests true true p q e =
         omega (arith, leb-true a 57 (and-right (leb 48 a) _ p), leb-true b 90 (and-right (leb 65 b) _ q))
     by-tests true false p q e = absurd (omega arith)
     by-tests false u p q e = absurd (omega arith)
-suffix-small (a ∷ b ∷ c ∷ s) e = absurd (omega arith)
+suffix-small (a ∷ b ∷ c ∷ s) e = absurd (omega (arith, suffix-long (a ∷ b ∷ c ∷ s) e))
 
 module _ (pack : List ℕ) (k : ℕ) where
   -- a pack that opens and has no suffix is of edition 1

@@ -229,7 +229,7 @@ trailer-length edition rows start points code =
     omega (
       arith,
       length-append code
-      (bytesOf 4 (start + pointWidth edition * points + trailerWidth edition) ++ (edition ∷ [])),
+          (bytesOf 4 (start + pointWidth edition * points + trailerWidth edition) ++ (edition ∷ [])),
     )
 
 module _ (st : Stock) (short : ShortRows st) (as′ : List Address) (fields : AllOf FieldsSound as′) where
