@@ -86,7 +86,8 @@ pub extern "C" fn ttw_code_label<'a>(
 #[no_mangle]
 pub extern "C" fn ttw_build(table: &[u8], points: &[u8], code: &[u8], out: &mut [u8]) -> u64
     ensures { λ r. ⌜ called r (now (out .exit)) 0
-        ≡ comesTo (of-build (pair (now (table .entry)) (now (points .entry))) (now (code .entry))) (now (out .entry)) 0 ⌝ }
+        ≡ comesTo (of-build (pair (now (table .entry)) (now (points .entry))) (now (code .entry)))
+        (now (out .entry)) 0 ⌝ }
 {
     refusal::packed_answer(changes_build::build_pack(table, points, code, out)) as u64
 }
