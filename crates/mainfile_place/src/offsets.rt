@@ -34,7 +34,8 @@ fn offset_in(file: &[u8], kind: u8, bits: &[u32], blocks: &[u32], key: u32, row:
     start_in(file, row_shelf(kind), bits, blocks, row)
 }
 
-// Where the rows of the seven keys of a delivery point stand. Bits and blocks are named by the first letter of their file.
+// Where the rows of the seven keys of a delivery point stand. Bits and blocks are named by the first letter of their
+// file.
 pub fn offsets_of(
     localities: &[u8],
     thoroughfares: &[u8],
@@ -58,7 +59,8 @@ pub fn offsets_of(
         (now «sub_buildings»)) (now «l_bits») (now «t_bits») (now «d_bits») (now «b_bits») (now «s_bits»)
         (now «l_blocks») (now «t_blocks») (now «d_blocks») (now «b_blocks») (now «s_blocks») rows ⌝ }
     ensures { λ r. ⌜ r .«of_keys» ≡ offsetsFor (startsOf (setStock (rowFiles (now (localities .entry))
-        (now (thoroughfares .entry)) (now (descriptors .entry)) (now (buildings .entry)) (now («sub_buildings» .entry))))
+        (now (thoroughfares .entry)) (now (descriptors .entry)) (now (buildings .entry))
+        (now («sub_buildings» .entry))))
         (setMarks (rowFiles (now (localities .entry)) (now (thoroughfares .entry)) (now (descriptors .entry))
         (now (buildings .entry)) (now («sub_buildings» .entry))) (now («l_bits» .entry)) (now («t_bits» .entry))
         (now («d_bits» .entry)) (now («b_bits» .entry)) (now («s_bits» .entry)))) keys

@@ -29,8 +29,8 @@ fn place_kind(file: &[u8], kind: u8, bits: &[u32], blocks: &mut [u32], start: us
     place_rows(file, row_shelf(kind), bits, blocks, start)
 }
 
-// Gives each block of the five files its start, were all marked rows written one after the other. Bits and blocks are named
-// by the first letter of their file.
+// Gives each block of the five files its start, were all marked rows written one after the other. Bits and blocks are
+// named by the first letter of their file.
 pub fn place_set(
     localities: &[u8],
     thoroughfares: &[u8],
@@ -53,12 +53,14 @@ pub fn place_set(
     requires { ⌜ BlocksFor (rowFiles (now localities) (now thoroughfares) (now descriptors) (now buildings)
         (now «sub_buildings»)) (now «l_blocks») (now «t_blocks») (now «d_blocks») (now «b_blocks») (now «s_blocks») ⌝ }
     ensures rows { λ r. ⌜ r .rows ≡ allCount (setStock (rowFiles (now (localities .entry))
-        (now (thoroughfares .entry)) (now (descriptors .entry)) (now (buildings .entry)) (now («sub_buildings» .entry))))
+        (now (thoroughfares .entry)) (now (descriptors .entry)) (now (buildings .entry))
+        (now («sub_buildings» .entry))))
         (setMarks (rowFiles (now (localities .entry)) (now (thoroughfares .entry)) (now (descriptors .entry))
         (now (buildings .entry)) (now («sub_buildings» .entry))) (now («l_bits» .entry)) (now («t_bits» .entry))
         (now («d_bits» .entry)) (now («b_bits» .entry)) (now («s_bits» .entry))) ⌝ }
     ensures bytes { λ r. ⌜ r .bytes ≡ allBytes (setStock (rowFiles (now (localities .entry))
-        (now (thoroughfares .entry)) (now (descriptors .entry)) (now (buildings .entry)) (now («sub_buildings» .entry))))
+        (now (thoroughfares .entry)) (now (descriptors .entry)) (now (buildings .entry))
+        (now («sub_buildings» .entry))))
         (setMarks (rowFiles (now (localities .entry)) (now (thoroughfares .entry)) (now (descriptors .entry))
         (now (buildings .entry)) (now («sub_buildings» .entry))) (now («l_bits» .entry)) (now («t_bits» .entry))
         (now («d_bits» .entry)) (now («b_bits» .entry)) (now («s_bits» .entry))) ⌝ }
