@@ -40,7 +40,8 @@ pub fn rows_in(
     requires { ⌜ AcceptedRows (rowFiles (now localities) (now thoroughfares) (now descriptors) (now buildings)
         (now «sub_buildings»)) × Small keys ⌝ }
     ensures { λ q. ⌜ q .rows ≡ rowsFor (setStock (rowFiles (now (localities .entry)) (now (thoroughfares .entry))
-        (now (descriptors .entry)) (now (buildings .entry)) (now («sub_buildings» .entry))) .row) (askedBy keyKinds keys) ⌝ }
+        (now (descriptors .entry)) (now (buildings .entry)) (now («sub_buildings» .entry))) .row)
+        (askedBy keyKinds keys) ⌝ }
 {
     let found = kind_rows(
         localities,
