@@ -9,6 +9,7 @@ use Rattle.refusal.specs.declared.Reason.the-variants.{NoSuchNumber}
 use Rattle.refusal.specs.declared.Answer.{Answer}
 use Rattle.refusal.specs.declared.Answer.the-variants.{Value, Refused}
 use Rattle.file_record.specs.Parts.{recordAt}
+use Rattle.file_record.specs.Names.Point
 use Rattle.file.specs.Check.{checked}
 use Rattle.file.specs.Formats.{tableFormat, pointFormat}
 use Rattle.changes_views.specs.Views.{wantedCount, wantedAt}
@@ -37,7 +38,8 @@ viewText table points place =
 -- "For each view: `view`, number, letter; then the label"
 unfoldable pub block : List ℕ → List ℕ → ℕ → List ℕ
 block table points k =
-    viewLine k (getD (recordAt 168 points (wantedAt [] points k)) 40 0) ++ viewText table points (wantedAt [] points k)
+    viewLine k (getD (recordAt Point.width points (wantedAt [] points k)) Point.letter 0)
+    ++ viewText table points (wantedAt [] points k)
 
 -- the views from 1 up to a number
 abbrev pub blocks : List ℕ → List ℕ → ℕ → List ℕ
