@@ -116,10 +116,6 @@ is-two n f = by-test (eqb n 2) refl
     by-test true e = eqb-true n 2 e
     by-test false e = absurd (f (eqb-false n 2 e))
 
-pub above-above : (a b c : List ℕ) → order a b ≡ 2 → order b c ≡ 2 → order a c ≡ 2
-above-above a b c f g =
-    is-two (order a c) (λ n. not-above a c b n (λ k. omega (arith, above-below b c g)) f)
-
 -- what is above c is not above b: then b is above c
 pub above-not : (a b c : List ℕ) → order a c ≡ 2 → (order a b ≡ 2 → ⊥) → order b c ≡ 2
 above-not a b c f g = is-two (order b c) (λ n. not-above a b c g n f)
