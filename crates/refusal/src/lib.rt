@@ -28,7 +28,8 @@ pub enum Verdict {
     Bad(Reason),
 }
 
-// What a call answers. `file` is the file to blame: 0 none, 1 the table file, 2 the point file.
+// What a call answers. `file` is the file to blame: 0 none; of a pair 1 the table file, 2 the point file; of a Mainfile set
+// 1 to 7, in document 02's order.
 pub enum Answer {
     Value(usize),
     Refused { file: usize, reason: Reason },
