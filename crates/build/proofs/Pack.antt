@@ -1,24 +1,29 @@
 -- The whole pack, part by part.
 -- Assumes nothing.
-use Prim.Native.Nat.{ℕ, _+_, _≤_}
-use mathlib.Core.Path.{_≡_, sym, _∙_}
+use Prim.Native.Nat.{ℕ, _+_, _*_, _≤_}
+use mathlib.Core.Path.{_≡_, sym, ap, _∙_}
 use mathlib.Core.List.{List, _++_}
 use native.Mathlib.Omega.{arith}
 use native.Mathlib.Nat.{zero-add}
 use lib.ListN.{length}
 use Rattle.shelf.specs.Stock.{Stock}
 use Rattle.label.specs.Put.{Put}
-use Rattle.label.proofs.Going.{Going, going-start, going-as, going-step}
+use Rattle.label.proofs.Going.{Going, going-start, going-as, going-left, going-step}
 use Rattle.pack.specs.Layout.{trailerBytes}
-use Rattle.pack.specs.Names.{newest}
+use Rattle.pack.specs.Names.{newest, pointWidth}
 use Rattle.build.specs.Plan.{Packed, organisationRows}
-use Rattle.build.specs.Bytes.{usedRows, pointsIn, packIn}
+use Rattle.build.specs.Bytes.{usedRows, pointsIn, countsAtIn, countsIn, packIn}
 use Rattle.build.specs.Ready.{Ready}
+use Rattle.build.proofs.Counts.{put-counts}
 
 module _ (st : Stock) (own others starts : List ℕ) (ds : List Packed) (code : List ℕ) (rows count : ℕ) where
-  -- the points where the organisations' rows stand from i on, and the trailer where the points stand from j on
+  -- the trailer where the organisations' rows stand from i on and the points from j on
+  abbrev pub trailerFrom : ℕ → ℕ → List ℕ
+  trailerFrom i j = trailerBytes newest rows j count code (countsIn (pointsIn st own others starts i ds) count)
+
+  -- the points, and the trailer behind them
   abbrev pub behindRows : ℕ → ℕ → List ℕ
-  behindRows i j = pointsIn st own others starts i ds ++ trailerBytes newest rows j count code
+  behindRows i j = pointsIn st own others starts i ds ++ trailerFrom i j
 
   module _ {out : List ℕ} (ready : Ready st own others starts ds code rows count out) where
     parts : (i j : ℕ) → length (usedRows st starts) ≡ i → i + length (organisationRows others ds) ≡ j
@@ -45,6 +50,11 @@ module _ (st : Stock) (own others starts : List ℕ) (ds : List Packed) (code : 
         pub after-organisations : Going (packIn st own others starts ds code) (behindRows i j) out 0 j y
         after-organisations = going-step (behindRows i j) (after-rows j (sym (w .size))) w pack-room
 
+        -- the trailer counts the points where they stand
         pub after-points : {z : List ℕ} {k : ℕ} → Put (pointsIn st own others starts i ds) y j k z
-            → Going (packIn st own others starts ds code) (trailerBytes newest rows j count code) out 0 k z
-        after-points u = going-step (trailerBytes newest rows j count code) after-organisations u pack-room
+            → pointWidth newest * count ≤ length (pointsIn st own others starts i ds)
+            → Going (packIn st own others starts ds code) (trailerBytes newest rows j count code (countsAtIn z count j)) out 0 k z
+        after-points u whole =
+            let fits : j ≤ length y = omega (arith, going-left after-organisations pack-room) in
+            going-as (ap (trailerBytes newest rows j count code) (sym (put-counts count u fits whole)))
+            (going-step (trailerFrom i j) after-organisations u pack-room)

@@ -9,8 +9,10 @@ use Rattle.source.specs.Address.{present}
 use Rattle.source.specs.declared.DeliveryPoint.{DeliveryPoint}
 use Rattle.shelf.specs.Stock.{Stock}
 use Rattle.pack.specs.Numbers.{bytesOf}
-use Rattle.pack.specs.Names.{absent, newest}
+use Rattle.pack.specs.Names.{absent, newest, pointWidth}
+use Rattle.pack.specs.Sectors.{sectorCounts, countsBytes}
 use Rattle.pack.specs.Layout.{markOf, trailerBytes}
+use Rattle.pack.specs.Opening.{digitsFrom}
 use Rattle.build.specs.Plan.{Packed, rowsOf, organisationRow, organisationRows, organisationCount}
 use Rattle.build.specs.Rows.{isMarked, rowBytesAt, allCount, rowsFrom}
 
@@ -32,10 +34,9 @@ offsetsFor starts [] rows = []
 offsetsFor starts (k ∷ ks) [] = []
 offsetsFor starts (k ∷ ks) (r ∷ rs) = keyOffset starts k r ∷ offsetsFor starts ks rs
 
--- "eight row offsets of 4", those of the keys
+-- "eight row offsets of 4", those of the keys; 4 bytes each, as a count has
 abbrev pub offsetBytes : List ℕ → List ℕ
-offsetBytes [] = []
-offsetBytes (o ∷ more) = bytesOf 4 o ++ offsetBytes more
+offsetBytes offsets = countsBytes offsets
 
 -- and the organisation's, whose row would stand at `at`
 abbrev pub organisationOffset : DeliveryPoint → ℕ → ℕ
@@ -78,15 +79,28 @@ usedAt st starts i = cond (isMarked starts i) (rowBytesAt st i) []
 abbrev pub usedRows : Stock → List ℕ → List ℕ
 usedRows st starts = rowsFrom st starts (st .last - 1) 1
 
--- the last fields of a trailer: "outward 4, pack length 4, edition 1"
-abbrev pub trailerEnd : List ℕ → ℕ → List ℕ
-trailerEnd code bytes = code ++ (bytesOf 4 bytes ++ (newest ∷ []))
+-- the counts of so many points that stand in these bytes from a place on
+abbrev pub countsAtIn : List ℕ → (n at : ℕ) → List ℕ
+countsAtIn bytes n at = countsBytes (sectorCounts (digitsFrom bytes (pointWidth newest) n at))
+
+-- the counts of so many points, of which these are the bytes
+abbrev pub countsIn : List ℕ → ℕ → List ℕ
+countsIn points n = countsAtIn points n 0
+
+-- the last fields of a trailer: "outward 4, pack length 4", the ten counts, "edition 1"
+abbrev pub trailerEnd : List ℕ → ℕ → List ℕ → List ℕ
+trailerEnd code bytes counts = code ++ (bytesOf 4 bytes ++ (counts ++ (newest ∷ [])))
+
+-- the whole pack for a code, of the points that it has
+abbrev pub packWith : Stock → (others starts : List ℕ) → List Packed → (code points : List ℕ) → List ℕ
+packWith st others starts ds code points =
+    usedRows st starts
+    ++ (organisationRows others ds
+    ++ (points
+    ++ trailerBytes newest (allCount st starts + organisationCount ds)
+    (length (usedRows st starts) + length (organisationRows others ds)) (length ds) code (countsIn points (length ds))))
 
 -- the whole pack for a code
 unfoldable pub packIn : Stock → (own others starts : List ℕ) → List Packed → List ℕ → List ℕ
 packIn st own others starts ds code =
-    usedRows st starts
-    ++ (organisationRows others ds
-    ++ (pointsIn st own others starts (length (usedRows st starts)) ds
-    ++ trailerBytes newest (allCount st starts + organisationCount ds)
-    (length (usedRows st starts) + length (organisationRows others ds)) (length ds) code))
+    packWith st others starts ds code (pointsIn st own others starts (length (usedRows st starts)) ds)

@@ -6,5 +6,6 @@ pub mod Offsets
 pub mod Rows
 pub mod Organisations
 pub mod Points
-pub mod Pack
 pub mod Size
+pub mod Digits
+pub mod Pack

@@ -16,19 +16,21 @@ use Rattle.build_exact.specs.Started.{AllSay, none-says, one-says, Start
 use Rattle.build_exact.proofs.Rows.{rows-bytes, rows-count, no-table-row, ref-offset}
 use Rattle.build_exact.proofs.Organisations.{entries-join, organisations-bytes, organisations-count}
 use Rattle.build_exact.proofs.Points.{points-are}
+use Rattle.build_exact.proofs.Digits.{counts-are}
 
 -- a pack from what it has, and that the same makes the same pack
-abbrev laid : List ℕ → List ℕ → ℕ → ℕ → ℕ → List ℕ → List ℕ
-laid rows points count start size code = rows ++ (points ++ trailerBytes newest count start size code)
+abbrev laid : List ℕ → List ℕ → ℕ → ℕ → ℕ → List ℕ → List ℕ → List ℕ
+laid rows points count start size counts code = rows ++ (points ++ trailerBytes newest count start size code counts)
 
-laid-same : {rows rows′ points points′ : List ℕ} {count count′ start start′ size size′ : ℕ} (code : List ℕ)
+laid-same : {rows rows′ points points′ counts counts′ : List ℕ} {count count′ start start′ size size′ : ℕ} (code : List ℕ)
     → rows ≡ rows′
     → points ≡ points′
     → count ≡ count′
     → start ≡ start′
     → size ≡ size′
-    → laid rows points count start size code ≡ laid rows′ points′ count′ start′ size′ code
-laid-same code e0 e1 e2 e3 e4 = cc
+    → counts ≡ counts′
+    → laid rows points count start size counts code ≡ laid rows′ points′ count′ start′ size′ counts′ code
+laid-same code e0 e1 e2 e3 e4 e5 = cc
 
 said-length : {own others : List ℕ} {ds : List Packed} {as′ : List Address} → AllSay own others ds as′
     → length as′ ≡ length ds
@@ -73,4 +75,5 @@ module _ {st : Stock} {own others : List ℕ} {ds : List Packed} {as′ : List A
   unfolding packOf packBytes packIn
   pack-is code =
       laid-same code all-rows all-points count-is start-is (said-length (s .said))
+      (counts-are st starts (length (usedRows st starts)) (s .said) (s .within))
       ∙ append-assoc (usedRows st starts) (organisationRows others ds) _

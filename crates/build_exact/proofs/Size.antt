@@ -14,6 +14,9 @@ use Rattle.source.specs.declared.DeliveryPoint.{DeliveryPoint}
 use Rattle.shelf.specs.Stock.{Stock}
 use Rattle.pack.specs.Layout.{trailerBytes}
 use Rattle.pack.specs.Names.{newest, pointWidth, trailerWidth}
+use Rattle.pack.specs.Sectors.{sectorCounts, countsBytes}
+use Rattle.pack.specs.Opening.{digitsFrom}
+use Rattle.pack.proofs.Sectors.{counts-wide}
 use Rattle.pack_carries.proofs.Numbers.{bytes-long}
 use Rattle.pack_carries.proofs.Trailer.{trailer-long}
 use Rattle.build.specs.Plan.{Packed, rowsOf, organisationRow, organisationRows, organisationCount}
@@ -77,7 +80,7 @@ organisations-few (d ∷ ds) = by-test (d .point .organised) (organisations-few 
 
 -- ---- points
 
-part-long : (own : List ℕ) (at n : ℕ) → at + n ≤ length own → length (part own at (at + n)) ≡ n
+pub part-long : (own : List ℕ) (at n : ℕ) → at + n ≤ length own → length (part own at (at + n)) ≡ n
 part-long own at n h = simp (length-take, length-drop) (omega arith)
 
 module _ (starts : List ℕ) (row : ℕ → ℕ) where
@@ -89,7 +92,7 @@ module _ (starts : List ℕ) (row : ℕ → ℕ) where
   keys-long (kind ∷ kinds) (key ∷ keys) e =
       simp (length-append, bytes-long) (omega (arith, keys-long kinds keys (omega arith)))
 
-point-long : (st : Stock) {own others : List ℕ} {p : DeliveryPoint} {a : Address} (starts : List ℕ) (at : ℕ)
+pub point-long : (st : Stock) {own others : List ℕ} {p : DeliveryPoint} {a : Address} (starts : List ℕ) (at : ℕ)
     → Says own others p a
     → FieldsWithin own p
     → length (pointIn own starts p (rowsOf st p) at) ≡ pointWidth newest
@@ -136,7 +139,9 @@ pack-size {st} {own} {others} {ds} {as′} {marks} {starts} code said w p four =
     let points = pointsIn st own others starts (length rows) ds in
     let count = countTo starts (st .last - 1) + organisationCount ds in
     let start = length rows + length (organisationRows others ds) in
-    let trailer = trailerBytes newest count start (length ds) code in
+    let firsts = digitsFrom points (pointWidth newest) (length ds) 0 in
+    let counts = countsBytes (sectorCounts firsts) in
+    let trailer = trailerBytes newest count start (length ds) code counts in
     omega (
       arith,
       length-append rows (organisationRows others ds ++ (points ++ trailer)),
@@ -144,5 +149,5 @@ pack-size {st} {own} {others} {ds} {as′} {marks} {starts} code said w p four =
       length-append points trailer,
       used-long st marks starts p,
       points-long st starts (length rows) said w,
-      trailer-long count start (length ds) code four,
+      trailer-long count start (length ds) code counts four (counts-wide firsts),
     )

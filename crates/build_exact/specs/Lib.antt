@@ -1,2 +1,2 @@
-pub mod Started
 pub mod Within
+pub mod Started

@@ -10,6 +10,7 @@ use Rattle.source.specs.Delivery.{Says}
 use Rattle.shelf.specs.Stock.{Stock, Good}
 use Rattle.build.specs.Plan.{Packed, firstRefused, markAll}
 use Rattle.build.specs.Placed.{Placed}
+use Rattle.build_exact.specs.Within.{AllWithin}
 
 -- a delivery point that is packed, and the address that it says
 pub record PackedSays (own others : List ℕ) (d : Packed) (a : Address) : Type 0 where
@@ -32,6 +33,7 @@ pub record Started (st : Stock) (own others : List ℕ) (ds : List Packed) (as�
     Type 0 where
   pub good : Good st
   pub said : AllSay own others ds as′
+  pub within : AllWithin own ds
   pub rising : Rising 0 ds
   pub none-refused : firstRefused st ds ≡ Fine
   -- the marks before a row was marked

@@ -4,23 +4,14 @@ use Prim.Native.Nat.{ℕ, zero, suc, _+_, _≤_, _<_}
 use mathlib.Core.Path.{_≡_, refl, sym, ap, _∙_}
 use mathlib.Core.List.{List, [], _∷_, _++_}
 use native.Mathlib.Omega.{arith}
-use native.Mathlib.Numerals.{add-one}
-use lib.ListN.{length, drop, getD, set, length-set}
-use lib.Seq.{drop-cons, drop-length, ext-getD}
+use lib.ListN.{length, getD, set, length-set}
+use lib.Seq.{ext-getD}
 use Rattle.source.specs.declared.DeliveryPoint.{DeliveryPoint}
 use Rattle.label.specs.Put.{Put}
 use Rattle.label.proofs.Going.{Going, going-start, going-step}
 use Rattle.pack.specs.Numbers.{bytesOf}
 use Rattle.shelf.proofs.Search.{filled-on}
 use Rattle.build.specs.Bytes.{keyOffset, offsetsFor, offsetBytes, organisationOffset, frontIn, plainIn, pointWith}
-
--- the offsets from one on, by that one
-pub offsets-step : (offsets : List ℕ) (i : ℕ) → i < length offsets
-    → offsetBytes (drop i offsets) ≡ bytesOf 4 (getD offsets i 0) ++ offsetBytes (drop (i + 1) offsets)
-offsets-step offsets i h = rw (drop-cons offsets i 0 h, add-one i)
-
-pub offsets-end : (offsets : List ℕ) (i : ℕ) → i ≡ length offsets → offsetBytes (drop i offsets) ≡ []
-offsets-end offsets i e = rw (e, drop-length offsets)
 
 -- offset i of these keys' rows
 abbrev pub offsetAt : (starts keys rows : List ℕ) → ℕ → ℕ

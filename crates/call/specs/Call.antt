@@ -15,7 +15,7 @@ use Rattle.ask.specs.Labels.{viewLabel, codeLabel}
 use Rattle.ask.specs.Runs.{viewsRun, codeRun}
 use Rattle.ask.specs.Lists.{viewsList, codeList}
 use Rattle.pack.specs.Opening.{opened}
-use Rattle.pack.specs.Points.{packLabel, packSuffix}
+use Rattle.pack.specs.Points.{packLabel, packSuffix, packSector}
 use Rattle.pack.specs.Cutting.{packBuilt}
 use Rattle.pack_runs.specs.Runs.{packRun}
 use Rattle.pack_items.specs.Lists.{packList}
@@ -61,6 +61,7 @@ pub data Call : Type 0 where
   of-pack-labels : (pack : List ℕ) (first count : ℕ) → Call
   of-pack-list : (pack : List ℕ) (first count : ℕ) → Call
   of-pack-suffix : (pack : List ℕ) (k : ℕ) → Call
+  of-sector : (pack : List ℕ) (digit : ℕ) → Call
 
 -- what a call says: one answer, or that of a run or a listing
 pub data Saying : Type 0 where
@@ -100,6 +101,7 @@ outcomeOf (of-pack-label pack k) out = writing (packLabel pack k out)
 outcomeOf (of-pack-labels pack first count) out = running (packRun pack first count out)
 outcomeOf (of-pack-list pack first count) out = running (packList pack first count out)
 outcomeOf (of-pack-suffix pack k) out = reading (packSuffix pack k) out
+outcomeOf (of-sector pack digit) out = reading (packSector pack digit) out
 
 -- as C gets it: one number; and the bytes of a run or a listing, where they are asked for
 abbrev pub numberOf : Saying → ℕ

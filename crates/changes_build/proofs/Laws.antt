@@ -82,6 +82,7 @@ module _ (table points code marks starts : List ℕ) (m : Marked table points co
       record {
         good = table-good table (m .judged .of-table);
         said = all-say points code (m .judged .of-code);
+        within = all-within points code;
         rising = numbers-rise points code (m .judged .of-points);
         none-refused = m .none-refused;
         no-marks = m .no-marks;

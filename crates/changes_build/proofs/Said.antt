@@ -39,10 +39,14 @@ module _ (points code : List ℕ) where
       let at = view-within points place (w .0 .high) in
       (record { postcode = at .postcode; suffix = at .suffix; box = at .box }, within-all places (w .1))
 
+  pub all-said : AllSay points points (packedIn points code) (viewsAt points (wantedIn code points))
+  all-said = said-at (wantedIn code points) (all-wanted code points)
+
+  -- the same by the live views of a code
   pub all-say : outwardFault code ≡ 0 → AllSay points points (packedIn points code) (liveIn points code)
   all-say e =
       subst (λ (as′ : List Address). AllSay points points (packedIn points code) as′) (sym (live-views points code e))
-      (said-at (wantedIn code points) (all-wanted code points))
+      all-said
 
   pub all-within : AllWithin points (packedIn points code)
   all-within = within-all (wantedIn code points) (all-wanted code points)

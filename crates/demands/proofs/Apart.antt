@@ -15,7 +15,7 @@ use Rattle.ask.specs.Lists.{viewsList, codeList}
 use Rattle.pack.specs.Opening.{pointCount}
 use Rattle.pack_runs.specs.Runs.{packRun}
 use Rattle.pack_items.specs.Lists.{packList}
-use Rattle.call.specs.Call.{sourceOf, Call, of-table, of-points, of-views, of-letter, of-live, of-codes, of-main, of-main-live, of-main-codes, of-label, of-code-label, of-labels, of-code-labels, of-list, of-code-list, of-build, of-pack, of-pack-label, of-pack-labels, of-pack-list, of-pack-suffix, outcomeOf}
+use Rattle.call.specs.Call.{sourceOf, Call, of-table, of-points, of-views, of-letter, of-live, of-codes, of-main, of-main-live, of-main-codes, of-label, of-code-label, of-labels, of-code-labels, of-list, of-code-list, of-build, of-pack, of-pack-label, of-pack-labels, of-pack-list, of-pack-suffix, of-sector, outcomeOf}
 use Rattle.demands.specs.Apart.{OfLabel, OfItem, StopsBy, Apart, IsList, views-listed, code-listed, pack-listed, ListStops}
 use Rattle.demands.proofs.Says.{StopSays, SeriesSays, views-say, codes-say, packs-say, list-says, code-list-says, pack-list-says}
 use Rattle.demands.proofs.Lent.{lent-apt}
@@ -86,3 +86,4 @@ told-apart (of-pack-list pack first count) out =
     item-of-label (packList pack first count out .answer)
     (list-stops (of-pack-list pack first count) pack-listed out)
 told-apart (of-pack-suffix pack k) out = tt
+told-apart (of-sector pack digit) out = tt

@@ -46,7 +46,7 @@ use Rattle.ask.specs.Runs.{viewsRun, codeRun}
 use Rattle.ask.specs.Lists.{headings}
 use Rattle.ask.proofs.Kth.{kth-all}
 use Rattle.pack.specs.Opening.{pointCount, opened}
-use Rattle.pack.specs.Points.{packLabel, packSuffix}
+use Rattle.pack.specs.Points.{packLabel, packSuffix, packSector}
 use Rattle.pack.specs.Cutting.{packBuilt}
 use Rattle.pack_runs.specs.Runs.{packRun}
 use Rattle.pack_open.proofs.Opened.{opened-all}
@@ -67,13 +67,14 @@ use Rattle.mainfile_views.specs.Range.{viewsIn, manyIn}
 use Rattle.mainfile_views.specs.Range as Main
 use Rattle.mainfile_list.specs.Listing as MainList
 use Rattle.mainfile_views.proofs.Together.{range-high}
-use Rattle.call.specs.Call.{sourceOf, Call, of-table, of-points, of-views, of-letter, of-live, of-codes, of-main, of-main-live, of-main-codes, of-label, of-code-label, of-labels, of-code-labels, of-list, of-code-list, of-build, of-pack, of-pack-label, of-pack-labels, of-pack-list, of-pack-suffix, one, run}
-use Rattle.demands.specs.Two.{ViewAsked, CodeAsked, files-refused, code-refused, taken, labelAt, suffixAt, SuffixAsked, pack-refused, no-number, no-suffix, told, Bounded}
+use Rattle.call.specs.Call.{sourceOf, Call, of-table, of-points, of-views, of-letter, of-live, of-codes, of-main, of-main-live, of-main-codes, of-label, of-code-label, of-labels, of-code-labels, of-list, of-code-list, of-build, of-pack, of-pack-label, of-pack-labels, of-pack-list, of-pack-suffix, of-sector, one, run}
+use Rattle.demands.specs.Two.{ViewAsked, CodeAsked, files-refused, code-refused, taken, labelAt, suffixAt, SuffixAsked, pack-refused, no-number, no-suffix, told, SectorAsked, no-digit, counted, Bounded}
 use Rattle.demands.specs.Three.{AllPrinted, FirstRefused, here, later, packed, whole, Building, files-refused, code-refused, view-refused, too-short, built}
 use Rattle.demands.specs.Apt.{Judging, Numbered, AptViews, Apt}
-use Rattle.demands.specs.Fits.{Exception, large-pack, large-list, to-open, to-run, to-list, Typed, Tells, TellsAll}
+use Rattle.demands.specs.Fits.{Exception, large-pack, large-list, to-open, to-run, to-list, to-sector, Typed, Tells, TellsAll}
 use Rattle.demands.proofs.Two.{view-asked, code-asked, points-bounded}
 use Rattle.demands.proofs.Suffixes.{suffix-small, suffix-asked}
+use Rattle.demands.proofs.Sectors.{sector-few, sector-asked}
 use Rattle.demands.proofs.Three.{building, all-fine}
 use Rattle.demands.proofs.Says.{StopSays, OneLabel, SeriesSays, code-apt, table-says, points-says, code-says, opened-says, point-says, source-refused, view-says, code-label-says, views-say, codes-say, packs-say, list-says, code-list-says, pack-list-says}
 use Rattle.demands.proofs.Lent.{set-says, addresses-says, lent-apt}
@@ -253,6 +254,14 @@ suffix-fits pack k = by-case (suffix-asked pack k)
     by-case (no-suffix e low high first is) =
         rw is (record { file-fits = lit< tt; second-fits = lit< tt; detail-fits = lit< tt })
     by-case (told e low high not-first good is) = rw is (omega (arith, suffix-small (suffixAt pack k) good))
+
+sector-fits : (pack : List ℕ) (digit : ℕ) → ((i : ℕ) → getD pack i 0 < 256) → Fits (packSector pack digit)
+sector-fits pack digit bytes = by-case (sector-asked pack digit)
+  where
+    by-case : SectorAsked pack digit → Fits (packSector pack digit)
+    by-case (pack-refused e is) = rw is (rw e at (opened-says pack) .fits)
+    by-case (no-digit e h is) = rw is (record { file-fits = lit< tt; second-fits = lit< tt; detail-fits = lit< tt })
+    by-case (counted e h same is) = rw is (omega (arith, sector-few pack digit, points-few pack bytes))
 
 opened-fits : (pack : List ℕ) → ((i : ℕ) → getD pack i 0 < 256) → Fits (opened pack)
 opened-fits pack bytes = by-opened (opened pack) refl (opened-says pack)
@@ -443,3 +452,4 @@ tells (of-pack-list pack first count) typed out =
     pack-tells _ pack large-list _ (typed pack to-list)
     (pack-list-says SmallStop none-small pack (point-small pack (typed pack to-list)) first count out)
 tells (of-pack-suffix pack k) typed out = answer-tells _ _ (suffix-fits pack k)
+tells (of-sector pack digit) typed out = answer-tells _ _ (sector-fits pack digit (typed pack to-sector))

@@ -2,6 +2,7 @@ pub mod Listed
 pub mod One
 pub mod Two
 pub mod Suffixes
+pub mod Sectors
 pub mod Capitals
 pub mod Three
 pub mod Says

@@ -39,7 +39,7 @@ use Rattle.file.specs.Mainfile.{addresses}
 use Rattle.tally_bytes.specs.Entries.{roomed}
 use Rattle.changes_codes.specs.Codes.{codesOutcome}
 use Rattle.mainfile_codes.specs.Codes as MainCodes
-use Rattle.call.specs.Call.{sourceOf, Call, of-table, of-points, of-views, of-letter, of-live, of-codes, of-main, of-main-live, of-main-codes, of-label, of-code-label, of-labels, of-code-labels, of-list, of-code-list, of-build, of-pack, of-pack-label, of-pack-labels, of-pack-list, of-pack-suffix, Saying, one, run, Called, outcomeOf, bytesOf, comesTo}
+use Rattle.call.specs.Call.{sourceOf, Call, of-table, of-points, of-views, of-letter, of-live, of-codes, of-main, of-main-live, of-main-codes, of-label, of-code-label, of-labels, of-code-labels, of-list, of-code-list, of-build, of-pack, of-pack-label, of-pack-labels, of-pack-list, of-pack-suffix, of-sector, Saying, one, run, Called, outcomeOf, bytesOf, comesTo}
 use Rattle.demands.specs.One.{Allows, IsRefused, IsUnasked, RefusedWhole}
 
 -- "for every input, refusals too, it allows one answer and one content of lent memory"
@@ -207,6 +207,7 @@ kept (of-pack-label pack k) out = pack-label-kept pack k out
 kept (of-pack-labels pack first count) out = pack-run-kept pack first count out
 kept (of-pack-list pack first count) out = pack-list-kept pack first count out
 kept (of-pack-suffix pack k) out = λ r. refl
+kept (of-sector pack digit) out = λ r. refl
 
 -- "a refused call writes nothing into lent memory": neither the buffer nor the bytes of a run or a listing
 pub refused-writes-nothing : (call : Call) (out : List ℕ) (before : ℕ) → RefusedWhole (outcomeOf call out .answer)

@@ -46,7 +46,7 @@ use Rattle.ask.specs.Runs.{viewsRun, codeRun}
 use Rattle.ask.specs.Lists.{resolvedOf, kthItem, viewItem, codeItem, viewsListed, codeListed, headings, viewsList, codeList}
 use Rattle.ask.proofs.Kth.{kth-within, kth-all}
 use Rattle.ask.proofs.Laws.{in-code-all, by-good-code, by-bad-code, by-refused}
-use Rattle.pack.specs.Opening.{trailerGood, allRowsGood, allPointsGood, pointCount, opened}
+use Rattle.pack.specs.Opening.{trailerGood, allRowsGood, allPointsGood, allCountsGood, pointCount, opened}
 use Rattle.pack.specs.Points.{elementsAt, pointPlace, isPoint, packLabel, pointItem, packItem}
 use Rattle.pack_runs.specs.Runs.{packRun}
 use Rattle.pack_items.specs.Lists.{packListed, packList}
@@ -170,29 +170,31 @@ points-says points = checked-says pointFormat (lit< tt) (lit≤ tt) point-bound 
 -- "12: outward code malformed"
 pub code-says : WholeSays 0 BadCode
 code-says =
-    record { apart = inr (lit≤ tt); fits = record { file-fits = lit< tt; second-fits = lit< tt; detail-fits = lit< tt } }
+    record { apart = inr (lit≤ tt, lit≤ tt); fits = record { file-fits = lit< tt; second-fits = lit< tt; detail-fits = lit< tt } }
 
 -- ---- packs
 
 pub opened-says : (pack : List ℕ) → Judging (opened pack)
 unfolding opened
-opened-says pack = by-tests (trailerGood pack) (allRowsGood pack) (allPointsGood pack)
+opened-says pack = by-tests (trailerGood pack) (allRowsGood pack) (allPointsGood pack) (allCountsGood pack)
   where
-    step : (n : ℕ) → n ≤ 3 → WholeSays 0 (BadPack n)
+    step : (n : ℕ) → n ≤ 4 → WholeSays 0 (BadPack n)
     step n h =
         record {
-          apart = inr (lit≤ tt);
+          apart = inr (lit≤ tt, lit≤ tt);
           fits = record { file-fits = lit< tt; second-fits = lit< tt; detail-fits = omega arith };
         }
 
-    by-tests : (t u v : Bool)
+    by-tests : (t u v w : Bool)
         → Judging
-        (cond t (cond u (cond v (Value (pointCount pack)) (Refused 0 (BadPack 3))) (Refused 0 (BadPack 2)))
+        (cond t
+        (cond u (cond v (cond w (Value (pointCount pack)) (Refused 0 (BadPack 4))) (Refused 0 (BadPack 3))) (Refused 0 (BadPack 2)))
         (Refused 0 (BadPack 1)))
-    by-tests true true true = tt
-    by-tests true true false = step 3 (lit≤ tt)
-    by-tests true false v = step 2 (lit≤ tt)
-    by-tests false u v = step 1 (lit≤ tt)
+    by-tests true true true true = tt
+    by-tests true true true false = step 4 (lit≤ tt)
+    by-tests true true false w = step 3 (lit≤ tt)
+    by-tests true false v w = step 2 (lit≤ tt)
+    by-tests false u v w = step 1 (lit≤ tt)
 
 -- ---- labels
 

@@ -4,6 +4,7 @@ use Prim.Native.Nat.{ℕ, _≤_, _<_}
 use mathlib.Core.Path.{_≡_, refl, sym, ap, _∙_}
 use mathlib.Core.Bool.{Bool, true, false, cond, not, _||_, true≢false}
 use mathlib.Core.List.{List, [], _∷_}
+use mathlib.Core.Logic.{_⊎_, inl, inr}
 use native.Mathlib.Omega.{arith}
 use borrow.Author.Tests.{eqb-true, leb-true}
 use lib.Dec.{eqb, leb}
@@ -52,6 +53,14 @@ module _ (pack : List ℕ) (k : ℕ) where
       by-test true h = refl
       by-test false h = h
 
+  -- and one that has is of edition 2 or 3
+  later : hasSuffix (edition pack) ≡ true → (edition pack ≡ 2) ⊎ (edition pack ≡ 3)
+  later some = by-test (eqb (edition pack) 2) refl some
+    where
+      by-test : (t : Bool) → eqb (edition pack) 2 ≡ t → t || eqb (edition pack) 3 ≡ true → (edition pack ≡ 2) ⊎ (edition pack ≡ 3)
+      by-test true e h = inl (eqb-true (edition pack) 2 e)
+      by-test false e h = inr (eqb-true (edition pack) 3 h)
+
   -- its points are looked at
   well-formed : {n : ℕ} → opened pack ≡ Value n → 1 ≤ k → k ≤ n → hasSuffix (edition pack) ≡ true
       → suffixFault (suffixAt pack k) ≡ 0
@@ -76,7 +85,7 @@ module _ (pack : List ℕ) (k : ℕ) where
           → (t : Bool) → hasSuffix (edition pack) ≡ t
           → SuffixAsked pack k
       by-edition e low high p true s =
-          told e low high (λ first. let z = eqb-true (edition pack) 2 s in omega arith) (well-formed e low high s)
+          told e low high (later s) (well-formed e low high s)
           (ap (λ a. after a (pointSuffix pack k)) e ∙ Law.its-suffix pack k p s)
       by-edition e low high p false s =
           no-suffix e low high (of-first e s) (ap (λ a. after a (pointSuffix pack k)) e ∙ Law.no-suffix pack k p s)

@@ -38,8 +38,8 @@ use Rattle.pack.specs.Sound.{Sound}
 use Rattle.pack_runs.specs.Runs.{packRun}
 use Rattle.pack_items.specs.Lists.{packListed}
 use Rattle.pack_carries.proofs.Used.{used-exactly, used-rises}
-use Rattle.pack_carries.proofs.Carried.{pack-opens}
-use Rattle.pack_carries.proofs.Labels.{pack-labels, pack-items, pack-suffixes}
+use Rattle.pack_carries.proofs.Carried.{pack-says, pack-opens}
+use Rattle.pack_carries.proofs.Labels.{pack-labels, pack-items, pack-suffixes, pack-sectors}
 use Rattle.pack_carries.proofs.Exactly.{rows-exactly}
 use Rattle.demands.specs.Two.{Printed}
 use Rattle.demands.specs.Three.{Packable, AllPrinted, FirstRefused, here, later, packed, whole, Building, files-refused, code-refused, view-refused, too-short, built, Carries}
@@ -184,11 +184,13 @@ module _ (s : Source) (p : Packable s) (code : List ℕ) {n : ℕ} (taken : s .j
   pub whole-carries : Carries s code (whole s code)
   whole-carries =
       record {
+        of-edition = pack-says (s .look) (packed s code) code sound .of-edition;
         opens = opens;
         labels = labels;
         runs = runs;
         lists = lists;
         suffixes = pack-suffixes (s .look) (packed s code) code sound;
+        sectors = pack-sectors (s .look) (packed s code) code sound;
         rows =
             record {
               numbers = usedBy (packed s code);

@@ -45,7 +45,7 @@ stop-unasked labels bytes file why other p q label whole e =
     word-parts (number why) 0 labels (detail why) (number other) file (second other) (detail other)
     (stop-word labels bytes why p) (refusal-word file other q) e in
     ⊎-elim (λ (h : number other ≤ 6). omega (arith, label .0, same .number-same))
-    (λ (h : 11 ≤ number other). omega (arith, label .1, same .number-same)) whole
+    (λ (h : (11 ≤ number other) × (number other ≤ 12)). omega (arith, label .1, h .0, same .number-same)) whole
 
 stop-done : (labels bytes done others : ℕ) (why : Reason) → FitsSeries (Stopped labels bytes why)
     → FitsSeries (Done done others)

@@ -40,7 +40,7 @@ use Rattle.ask.specs.Source.{Source, inCode}
 use Rattle.ask.specs.Labels.{kth, labelOutcome, kthLabel, viewLabel, codeLabel}
 use Rattle.ask.specs.Lists.{resolvedOf, kthItem, viewItem, codeItem, viewsListed, codeListed, headingOr, headings, viewsList, codeList}
 use Rattle.ask.proofs.Laws.{by-good-code, by-bad-code, by-refused}
-use Rattle.pack.specs.Opening.{pointCount, trailerGood, allRowsGood, allPointsGood, opened}
+use Rattle.pack.specs.Opening.{pointCount, trailerGood, allRowsGood, allPointsGood, allCountsGood, opened}
 use Rattle.pack.specs.Points.{isPoint, pointLabel, packLabel, pointItem, packItem}
 use Rattle.pack_items.specs.Lists.{packListed, packList}
 use Rattle.pack_open.specs.Opened.{Opened}
@@ -76,9 +76,10 @@ file-accepted f file n e = accepted f file n e
 
 -- a pack; the value is how many points it has
 pub accepted-pack : (pack : List ℕ) → trailerGood pack ≡ true → allRowsGood pack ≡ true → allPointsGood pack ≡ true
+    → allCountsGood pack ≡ true
     → opened pack ≡ Value (pointCount pack)
 unfolding opened
-accepted-pack pack trailer rows points = simp (trailer, rows, points)
+accepted-pack pack trailer rows points counts = simp (trailer, rows, points, counts)
 
 pub pack-accepted : (pack : List ℕ) (n : ℕ) → opened pack ≡ Value n → Opened pack n
 pack-accepted pack n e = opened-all pack n e

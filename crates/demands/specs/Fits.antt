@@ -10,7 +10,7 @@ use Rattle.run.specs.declared.Series.{Series}
 use Rattle.run.specs.declared.Series.the-variants.{Unasked, Stopped, Done}
 use Rattle.run.specs.Packed.{packedSeries, seriesBytes}
 use Rattle.pack.specs.Opening.{pointCount}
-use Rattle.call.specs.Call.{Call, of-pack, of-pack-labels, of-pack-list, Saying, one, run, outcomeOf, numberOf}
+use Rattle.call.specs.Call.{Call, of-pack, of-pack-labels, of-pack-list, of-sector, Saying, one, run, outcomeOf, numberOf}
 
 -- ---- what fits
 
@@ -47,6 +47,7 @@ pub data CountedIn : Call → List ℕ → Type 0 where
   to-open : {pack : List ℕ} → CountedIn (of-pack pack) pack
   to-run : {pack : List ℕ} {first count : ℕ} → CountedIn (of-pack-labels pack first count) pack
   to-list : {pack : List ℕ} {first count : ℕ} → CountedIn (of-pack-list pack first count) pack
+  to-sector : {pack : List ℕ} {digit : ℕ} → CountedIn (of-sector pack digit) pack
 
 -- what is asked of a call: that such a pack holds bytes, as the type of its slice says
 abbrev pub Typed : Call → Type 0

@@ -22,8 +22,8 @@ use Rattle.ask.specs.Labels.{codeLabel}
 use Rattle.ask.specs.Runs.{codeRun}
 use Rattle.ask.specs.Lists.{codeListed}
 use Rattle.pack.specs.Layout.{packOf}
-use Rattle.pack.specs.Opening.{opened}
-use Rattle.pack.specs.Points.{packLabel, packSuffix, kthSuffix}
+use Rattle.pack.specs.Opening.{edition, opened}
+use Rattle.pack.specs.Points.{packLabel, packSuffix, kthSuffix, packSector, addressSector}
 use Rattle.pack.specs.Cutting.{firstBad, packBuilt}
 use Rattle.pack.specs.Sound.{Sound}
 use Rattle.pack_runs.specs.Runs.{packRun}
@@ -90,12 +90,14 @@ pub record Rows (look : Lookup) (views : List Address) (pack : List ℕ) : Type 
 -- "A pack built from accepted files opens, and for every number k and every buffer length answers label k as the files do
 -- for the k-th live view of its code: same answer, same bytes written, same bytes untouched"; runs too: "demand 3 covers it";
 -- and listings "but for the heading's words": under any heading, which that of the two calls are; and the suffix of point k
--- is the suffix of the k-th live view
+-- is the suffix of the k-th live view, and a sector has as many points as live views; "Demands 2 and 3 read edition 3"
 pub record Carries (s : Source) (code pack : List ℕ) : Type 0 where
+  pub of-edition : edition pack ≡ 3
   pub opens : opened pack ≡ Value (length (inCode code (s .live)))
   pub labels : (k : ℕ) (out : List ℕ) → packLabel pack k out ≡ codeLabel s code k out
   pub runs : (first count : ℕ) (out : List ℕ) → packRun pack first count out ≡ codeRun s code first count out
   pub lists : (heading : Heading) (first count : ℕ) (out : List ℕ)
       → packListed heading pack first count out ≡ codeListed heading s code first count out
   pub suffixes : (k : ℕ) → packSuffix pack k ≡ kthSuffix (inCode code (s .live)) k
+  pub sectors : (digit : ℕ) → packSector pack digit ≡ addressSector (inCode code (s .live)) digit
   pub rows : Rows (s .look) (inCode code (s .live)) pack

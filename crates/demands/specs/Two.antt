@@ -1,5 +1,5 @@
--- Demand 2 for labels: what printing one comes to, case by case, over any source and of a pack; what a suffix of a pack is;
--- what an item of a listing holds; what the list of codes says; how long a label is, and how no line of it begins.
+-- Demand 2 for labels: what printing one comes to, case by case, over any source and of a pack; what a suffix and a sector
+-- of a pack are;-- what an item of a listing holds; what the list of codes says; how long a label is, and how no line of it begins.
 -- Assumes nothing.
 use Prim.Native.Nat.{ℕ, _*_, _≤_, _<_}
 use mathlib.Core.Path.{_≡_}
@@ -12,7 +12,7 @@ use Rattle.field.specs.Test.{within}
 use Rattle.field_outward.specs.Outward.{outwardFault}
 use Rattle.field_outward.specs.Inward.{suffixFault}
 use Rattle.refusal.specs.declared.Reason.{Reason}
-use Rattle.refusal.specs.declared.Reason.the-variants.{NoSuchNumber, Combination, MissingKey, Room, BadCode, NoSuffix}
+use Rattle.refusal.specs.declared.Reason.the-variants.{NoSuchNumber, Combination, MissingKey, Room, BadCode, NoSuffix, BadDigit}
 use Rattle.refusal.specs.declared.Answer.{Answer}
 use Rattle.refusal.specs.declared.Answer.the-variants.{Value, Refused}
 use Rattle.refusal.specs.Outcome.{Outcome, said}
@@ -31,8 +31,9 @@ use Rattle.run.specs.declared.Series.{Series}
 use Rattle.run.specs.Series.{Asking, runFrom}
 use Rattle.ask.specs.Source.{Source, inCode}
 use Rattle.ask.specs.Labels.{kth, viewLabel, codeLabel}
-use Rattle.pack.specs.Opening.{edition, suffixIn, opened}
-use Rattle.pack.specs.Points.{elementsAt, pointPlace, packLabel, suffixNumber, packSuffix}
+use Rattle.pack.specs.Sectors.{inSector, sectorCounts, total}
+use Rattle.pack.specs.Opening.{edition, suffixIn, pointDigits, countSaid, opened}
+use Rattle.pack.specs.Points.{elementsAt, pointPlace, packLabel, suffixNumber, packSuffix, packSector}
 use Rattle.tally.specs.Tally.{Entry}
 use Rattle.tally_bytes.specs.Entries.{entryBytes}
 use Rattle.changes_codes.specs.Codes.{codesIn, codesOutcome}
@@ -124,7 +125,7 @@ abbrev pub suffixAt : (pack : List ℕ) → (k : ℕ) → List ℕ
 suffixAt pack k = suffixIn pack (pointPlace pack k)
 
 -- 11, 7, "13, no suffix in this edition, after 7": "Packs of edition 1 still open .. asking one for a suffix is refused"; of
--- another edition there is one, "digit, letter A to Z"
+-- editions 2 and 3 there is one, "digit, letter A to Z"
 pub data SuffixAsked (pack : List ℕ) (k : ℕ) : Type 0 where
   pack-refused : {file : ℕ} {why : Reason} → opened pack ≡ Refused file why
       → packSuffix pack k ≡ Refused file why
@@ -135,9 +136,29 @@ pub data SuffixAsked (pack : List ℕ) (k : ℕ) : Type 0 where
   no-suffix : {n : ℕ} → opened pack ≡ Value n → 1 ≤ k → k ≤ n → edition pack ≡ 1
       → packSuffix pack k ≡ Refused 0 NoSuffix
       → SuffixAsked pack k
-  told : {n : ℕ} → opened pack ≡ Value n → 1 ≤ k → k ≤ n → (edition pack ≡ 1 → ⊥) → suffixFault (suffixAt pack k) ≡ 0
+  told : {n : ℕ} → opened pack ≡ Value n → 1 ≤ k → k ≤ n → (edition pack ≡ 2) ⊎ (edition pack ≡ 3)
+      → suffixFault (suffixAt pack k) ≡ 0
       → packSuffix pack k ≡ Value (suffixNumber (suffixAt pack k))
       → SuffixAsked pack k
+
+-- ---- a sector of a pack
+
+-- 11, then "27, inward digit above 9"; the answer "equals counting all points", and in edition 3 the trailer says the same
+pub data SectorAsked (pack : List ℕ) (digit : ℕ) : Type 0 where
+  pack-refused : {file : ℕ} {why : Reason} → opened pack ≡ Refused file why
+      → packSector pack digit ≡ Refused file why
+      → SectorAsked pack digit
+  no-digit : {n : ℕ} → opened pack ≡ Value n → 9 < digit
+      → packSector pack digit ≡ Refused 0 BadDigit
+      → SectorAsked pack digit
+  counted : {n : ℕ} → opened pack ≡ Value n → digit ≤ 9
+      → (edition pack ≡ 3 → countSaid pack digit ≡ inSector digit (pointDigits pack))
+      → packSector pack digit ≡ Value (inSector digit (pointDigits pack))
+      → SectorAsked pack digit
+
+-- the ten counts together are the points
+abbrev pub SectorsTogether : (pack : List ℕ) → Type 0
+SectorsTogether pack = (n : ℕ) → opened pack ≡ Value n → total (sectorCounts (pointDigits pack)) ≡ n
 
 -- ---- an item of a listing
 

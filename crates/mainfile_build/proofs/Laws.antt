@@ -165,6 +165,7 @@ module _ (set : Set) (code l t d b s : List ℕ) (m : Marked set code l t d b s)
       record {
         good = set-good set (m .judged .of-set .rows);
         said = all-say set (m .judged .of-set) code;
+        within = all-within set (m .judged .of-set) code;
         rising = numbers-rise set (m .judged .of-set) code;
         none-refused = m .none-refused;
         no-marks = m .no-marks;

@@ -15,10 +15,11 @@ use Rattle.source.proofs.Worked.{quarry, lane, tables}
 use Rattle.label.specs.Lines.{numberText, linesOf}
 use Rattle.label.specs.Label.{labelOf, roomOutcome}
 use Rattle.pack.specs.Numbers.{numberAt}
+use Rattle.pack.specs.Sectors.{sectorCounts}
 use Rattle.pack.specs.Layout.{entriesOf, packBytes, packOf}
-use Rattle.pack.specs.Opening.{trailerGood, textGood, rowGood, offsetGood, allRowsGood, suffixGood, plainGood, allowedMix, organisationGood, partsGood, allPointsGood, opened}
+use Rattle.pack.specs.Opening.{trailerGood, textGood, rowGood, offsetGood, allRowsGood, suffixGood, plainGood, allowedMix, organisationGood, partsGood, allPointsGood, allCountsGood, opened}
 use Rattle.pack.specs.Points.{elementsFrom, pointLabel, packLabel, pointSuffix, packSuffix}
-use Rattle.pack.proofs.Worked.{code, nowhere, rows}
+use Rattle.pack.proofs.Worked.{code, nowhere, rows, nine}
 
 -- a view of AB1 9ZZ in locality 1, with the same name and descriptor for both of its thoroughfares
 abbrev shared : ℕ → ℕ → ℕ → ℕ → ℕ → ℕ → ℕ → Organisation → Address
@@ -70,17 +71,18 @@ second-point =
 -- 6 rows in 64 bytes, and two points
 abbrev trailer : List ℕ
 trailer =
-    0 ∷ 0 ∷ 0 ∷ 6 ∷ 0 ∷ 0 ∷ 0 ∷ 64 ∷ 0 ∷ 0 ∷ 0 ∷ 2 ∷ 65 ∷ 66 ∷ 49 ∷ 32 ∷ 0 ∷ 0 ∷ 0 ∷ 203 ∷ 2 ∷ []
+    (0 ∷ 0 ∷ 0 ∷ 6 ∷ 0 ∷ 0 ∷ 0 ∷ 64 ∷ 0 ∷ 0 ∷ 0 ∷ 2 ∷ 65 ∷ 66 ∷ 49 ∷ 32 ∷ 0 ∷ 0 ∷ 0 ∷ 243 ∷ [])
+    ++ (nine ++ (0 ∷ 0 ∷ 0 ∷ 2 ∷ 3 ∷ []))
 
 abbrev both : List ℕ
 both = rows ++ (organisation-row ++ (first-point ++ (second-point ++ trailer)))
 
 pub their-pack : packOf tables views code ≡ both
-unfolding entriesOf packBytes packOf
+unfolding entriesOf packBytes packOf sectorCounts
 their-pack = refl
 
 pub it-opens : opened both ≡ Value 2
-unfolding numberAt outwardFault class allowed trailerGood textGood rowGood offsetGood allRowsGood suffixGood plainGood allowedMix organisationGood partsGood allPointsGood opened inwardFault inwardLetter suffixFault textFault
+unfolding numberAt outwardFault class allowed trailerGood textGood rowGood offsetGood allRowsGood suffixGood plainGood allowedMix organisationGood partsGood allPointsGood sectorCounts allCountsGood opened inwardFault inwardLetter suffixFault textFault
 it-opens = refl
 
 -- what its numbers are answered, into no buffer: "files and pack alike answer 7"
@@ -88,7 +90,7 @@ abbrev asked : List Answer
 asked = packLabel both 0 [] .answer ∷ packLabel both 1 [] .answer ∷ packLabel both 2 [] .answer ∷ packLabel both 3 [] .answer ∷ []
 
 pub answers : asked ≡ Refused 0 NoSuchNumber ∷ Refused 0 (Room 76) ∷ Refused 0 (Room 23) ∷ Refused 0 NoSuchNumber ∷ []
-unfolding numberAt outwardFault class allowed trailerGood textGood rowGood offsetGood allRowsGood suffixGood plainGood allowedMix organisationGood partsGood allPointsGood opened inwardFault inwardLetter suffixFault textFault packLabel pointLabel elementsFrom textIn labelOf linesOf numberText numericLike roomOutcome
+unfolding numberAt outwardFault class allowed trailerGood textGood rowGood offsetGood allRowsGood suffixGood plainGood allowedMix organisationGood partsGood allPointsGood sectorCounts allCountsGood opened inwardFault inwardLetter suffixFault textFault packLabel pointLabel elementsFrom textIn labelOf linesOf numberText numericLike roomOutcome
 answers = refl
 
 abbrev suffixes : List Answer
@@ -96,5 +98,5 @@ suffixes = packSuffix both 0 ∷ packSuffix both 1 ∷ packSuffix both 2 ∷ pac
 
 -- `1A` and `2B`
 pub their-suffixes : suffixes ≡ Refused 0 NoSuchNumber ∷ Value 12_609 ∷ Value 12_866 ∷ Refused 0 NoSuchNumber ∷ []
-unfolding numberAt outwardFault class allowed trailerGood textGood rowGood offsetGood allRowsGood suffixGood plainGood allowedMix organisationGood partsGood allPointsGood opened inwardFault inwardLetter suffixFault textFault packSuffix pointSuffix
+unfolding numberAt outwardFault class allowed trailerGood textGood rowGood offsetGood allRowsGood suffixGood plainGood allowedMix organisationGood partsGood allPointsGood sectorCounts allCountsGood opened inwardFault inwardLetter suffixFault textFault packSuffix pointSuffix
 their-suffixes = refl

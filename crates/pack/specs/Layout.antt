@@ -6,10 +6,11 @@ use mathlib.Core.Bool.{Bool, cond}
 use mathlib.Core.List.{List, [], _∷_, _++_}
 use mathlib.Core.Option.{Option, none, some}
 use lib.Dec.{eqb, ltb}
-use lib.ListN.{length}
+use lib.ListN.{length, getD}
 use Rattle.source.specs.Address.{Lookup, Organisation, none-needed, named, lacking, Address, present, Asked, keysOf, ref, kindOf, keyOf}
-use Rattle.pack.specs.Names.{newest, hasSuffix, absent, pointWidth, trailerWidth}
+use Rattle.pack.specs.Names.{newest, hasSuffix, hasCounts, absent, pointWidth, trailerWidth}
 use Rattle.pack.specs.Numbers.{bytesOf}
+use Rattle.pack.specs.Sectors.{sectorCounts, countsBytes}
 
 -- a row of a pack
 pub record Entry : Type 0 where
@@ -123,21 +124,30 @@ abbrev pub pointsBytes : ℕ → List Entry → List Address → List ℕ
 pointsBytes edition es [] = []
 pointsBytes edition es (a ∷ more) = pointBytes edition es a ++ pointsBytes edition es more
 
--- "row count 4, points start 4, point count 4, outward 4, pack length 4, edition 1"
-abbrev pub trailerBytes : (edition rows start points : ℕ) → List ℕ → List ℕ
-trailerBytes edition rows start points code =
+-- the first byte of each inward code
+abbrev pub inwardDigits : List Address → List ℕ
+inwardDigits [] = []
+inwardDigits (a ∷ more) = getD (a .inward) 0 0 ∷ inwardDigits more
+
+-- what an edition puts behind the trailer's fields: the counts, where it has them
+abbrev pub countsOf : ℕ → List Address → List ℕ
+countsOf edition addresses = cond (hasCounts edition) (countsBytes (sectorCounts (inwardDigits addresses))) []
+
+-- "row count 4, points start 4, point count 4, outward 4, pack length 4, edition 1", the counts "in front of the edition byte"
+abbrev pub trailerBytes : (edition rows start points : ℕ) → (code counts : List ℕ) → List ℕ
+trailerBytes edition rows start points code counts =
     bytesOf 4 rows
     ++ (bytesOf 4 start
     ++ (bytesOf 4 points
     ++ (code
-    ++ (bytesOf 4 (start + pointWidth edition * points + trailerWidth edition) ++ (edition ∷ [])))))
+    ++ (bytesOf 4 (start + pointWidth edition * points + trailerWidth edition) ++ (counts ++ (edition ∷ []))))))
 
 -- the pack of an edition, of rows and addresses
 unfoldable pub packBytes : ℕ → List Entry → List Address → List ℕ → List ℕ
 packBytes edition es addresses code =
     entriesBytes es
     ++ (pointsBytes edition es addresses
-    ++ trailerBytes edition (length es) (length (entriesBytes es)) (length addresses) code)
+    ++ trailerBytes edition (length es) (length (entriesBytes es)) (length addresses) code (countsOf edition addresses))
 
 -- the pack of these addresses in a code
 unfoldable pub packOf : Lookup → List Address → List ℕ → List ℕ

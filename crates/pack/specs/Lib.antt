@@ -1,5 +1,6 @@
 pub mod Names
 pub mod Numbers
+pub mod Sectors
 pub mod Layout
 pub mod Opening
 pub mod Points

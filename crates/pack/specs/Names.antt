@@ -8,14 +8,18 @@ use lib.Dec.{eqb}
 
 -- the editions that there are, and the one that is built
 abbrev pub known : ℕ → Bool
-known edition = eqb edition 1 || eqb edition 2
+known edition = eqb edition 1 || (eqb edition 2 || eqb edition 3)
 
 abbrev pub newest : ℕ
-newest = 2
+newest = 3
 
 -- those whose points have a suffix: "Packs of edition 1 still open .. asking one for a suffix is refused" (document 02, No. 6)
 abbrev pub hasSuffix : ℕ → Bool
-hasSuffix edition = eqb edition 2
+hasSuffix edition = eqb edition 2 || eqb edition 3
+
+-- those whose trailer has counts: "the edition byte, which becomes 3" (No. 7)
+abbrev pub hasCounts : ℕ → Bool
+hasCounts edition = eqb edition 3
 
 -- ---- a point: its postcode, what its edition puts behind it, and the rest
 
@@ -99,14 +103,21 @@ lengthAt = 16
 abbrev pub fieldsWidth : ℕ
 fieldsWidth = 20
 
+-- "ten counts of 4 bytes .., for inward digits 0 to 9, in front of the edition byte"
+abbrev pub countsAt : ℕ
+countsAt = fieldsWidth
+
+abbrev pub countsWidth : ℕ
+countsWidth = 40
+
 -- what stands between the fields and the edition
 abbrev pub behindFields : ℕ → ℕ
-behindFields edition = 0
+behindFields edition = cond (hasCounts edition) countsWidth 0
 
 -- "edition 1"
 abbrev pub editionWidth : ℕ
 editionWidth = 1
 
--- "Trailer, 21 bytes"
+-- "Trailer, 21 bytes"; "The trailer is then 61 bytes"
 abbrev pub trailerWidth : ℕ → ℕ
-trailerWidth edition = fieldsWidth + behindFields edition + editionWidth
+trailerWidth edition = fieldsWidth + editionWidth + behindFields edition

@@ -15,8 +15,9 @@ use Rattle.refusal.specs.declared.Answer.{Answer}
 use Rattle.refusal.specs.declared.Answer.the-variants.{Value, Refused}
 use Rattle.source.specs.Resolve.{forbiddenOf}
 use Rattle.label.specs.Lines.{isEmpty}
-use Rattle.pack.specs.Names.{known, hasSuffix, inwardAt, postcodeWidth, suffixAt, suffixWidth, typeAt, addressKeyAt, organisationKeyAt, buildingNumberAt, concatenationAt, boxAt, offsetsAt, restAt, pointWidth, absent, rowCountAt, pointsStartAt, pointCountAt, outwardAt, lengthAt, editionWidth, trailerWidth}
+use Rattle.pack.specs.Names.{known, hasSuffix, hasCounts, inwardAt, postcodeWidth, suffixAt, suffixWidth, typeAt, addressKeyAt, organisationKeyAt, buildingNumberAt, concatenationAt, boxAt, offsetsAt, restAt, pointWidth, absent, rowCountAt, pointsStartAt, pointCountAt, outwardAt, lengthAt, countsAt, editionWidth, trailerWidth}
 use Rattle.pack.specs.Numbers.{numberAt}
+use Rattle.pack.specs.Sectors.{sectorCounts}
 
 -- ---- the trailer
 
@@ -249,11 +250,37 @@ pointsGood pack (suc n) at = pointGood pack at && pointsGood pack n (at + pointW
 unfoldable pub allPointsGood : List ℕ → Bool
 allPointsGood pack = pointsGood pack (pointCount pack) (pointsStart pack)
 
--- "11, pack: 1 trailer; 2 rows; 3 points": how many points an accepted pack has, or the first step that fails
+-- ---- the counts
+
+-- the first byte of the inward code of n points of one width, from a place on
+abbrev pub digitsFrom : List ℕ → (width n at : ℕ) → List ℕ
+digitsFrom pack width zero at = []
+digitsFrom pack width (suc n) at = getD pack (at + inwardAt) 0 ∷ digitsFrom pack width n (at + width)
+
+-- of "all points"
+abbrev pub pointDigits : List ℕ → List ℕ
+pointDigits pack = digitsFrom pack (pointWidth (edition pack)) (pointCount pack) (pointsStart pack)
+
+-- the count of a digit, of an edition that has them
+abbrev pub countSaid : List ℕ → ℕ → ℕ
+countSaid pack digit = trailerNumber pack (countsAt + 4 * digit)
+
+-- the trailer says these counts, from a digit on
+abbrev pub countsSaid : List ℕ → ℕ → List ℕ → Bool
+countsSaid pack digit [] = true
+countsSaid pack digit (n ∷ ns) = eqb (countSaid pack digit) n && countsSaid pack (suc digit) ns
+
+-- step 4: the answer "equals counting all points; opening checks this"
+unfoldable pub allCountsGood : List ℕ → Bool
+allCountsGood pack = not (hasCounts (edition pack)) || countsSaid pack 0 (sectorCounts (pointDigits pack))
+
+-- "11, pack: 1 trailer; 2 rows; 3 points", "detail 4, after detail 3": how many points an accepted pack has, or the first step that fails
 unfoldable pub opened : List ℕ → Answer
 opened pack =
     cond (trailerGood pack)
     (cond (allRowsGood pack)
-    (cond (allPointsGood pack) (Value (pointCount pack)) (Refused 0 (BadPack 3)))
+    (cond (allPointsGood pack)
+    (cond (allCountsGood pack) (Value (pointCount pack)) (Refused 0 (BadPack 4)))
+    (Refused 0 (BadPack 3)))
     (Refused 0 (BadPack 2)))
     (Refused 0 (BadPack 1))

@@ -1,4 +1,5 @@
--- The labels of a pack, "Labels from a pack: 11, 7, 10", the items of its listing, and the suffixes of its points.
+-- The labels of a pack, "Labels from a pack: 11, 7, 10", the items of its listing, the suffixes of its points, and how many
+-- of them a sector has.
 -- Assumes nothing.
 use Prim.Native.Nat.{ℕ, _+_, _*_, _-_}
 use mathlib.Core.Bool.{Bool, cond, _&&_}
@@ -7,7 +8,7 @@ use mathlib.Core.Option.{Option, none, some}
 use lib.Dec.{eqb, leb}
 use lib.ListN.{getD}
 use Rattle.field.specs.Text.{textIn, part}
-use Rattle.refusal.specs.declared.Reason.the-variants.{NoSuchNumber, NoSuffix}
+use Rattle.refusal.specs.declared.Reason.the-variants.{NoSuchNumber, NoSuffix, BadDigit}
 use Rattle.refusal.specs.declared.Answer.{Answer}
 use Rattle.refusal.specs.declared.Answer.the-variants.{Value, Refused}
 use Rattle.refusal.specs.Outcome.{Outcome, said, after, afterwards}
@@ -17,8 +18,10 @@ use Rattle.label.specs.Label.{labelOf, roomOutcome}
 use Rattle.item.specs.Item.{Heading, itemOutcome}
 use Rattle.ask.specs.Labels.{kth}
 use Rattle.pack.specs.Numbers.{numberFrom}
+use Rattle.pack.specs.Sectors.{inSector}
+use Rattle.pack.specs.Layout.{inwardDigits}
 use Rattle.pack.specs.Names.{hasSuffix, inwardAt, postcodeWidth, concatenationAt, boxAt, offsetsAt, pointWidth, absent}
-use Rattle.pack.specs.Opening.{edition, pointsStart, pointCount, rowArea, rowText, suffixIn, restOf, offsetOfPoint, buildingNumber, opened}
+use Rattle.pack.specs.Opening.{edition, pointsStart, pointCount, rowArea, rowText, suffixIn, restOf, offsetOfPoint, buildingNumber, pointDigits, opened}
 
 -- a text of the row that the n-th offset of a rest gives; none where it is absent
 abbrev pub offsetText : List ℕ → ℕ → ℕ → ℕ → List ℕ
@@ -82,12 +85,14 @@ packItem heading pack k out = afterwards Refused (opened pack) out (pointItem he
 abbrev pub suffixNumber : List ℕ → ℕ
 suffixNumber suffix = numberFrom 0 suffix
 
--- the suffix of a point, of a pack that is opened: "13, no suffix in this edition, after 7"
+-- of a point that is there: "13, no suffix in this edition"
+abbrev pub suffixThere : List ℕ → ℕ → Answer
+suffixThere pack k =
+    cond (hasSuffix (edition pack)) (Value (suffixNumber (suffixIn pack (pointPlace pack k)))) (Refused 0 NoSuffix)
+
+-- of a pack that is opened: 13 "after 7"
 unfoldable pub pointSuffix : List ℕ → ℕ → Answer
-pointSuffix pack k =
-    cond (isPoint pack k)
-    (cond (hasSuffix (edition pack)) (Value (suffixNumber (suffixIn pack (pointPlace pack k)))) (Refused 0 NoSuffix))
-    (Refused 0 NoSuchNumber)
+pointSuffix pack k = cond (isPoint pack k) (suffixThere pack k) (Refused 0 NoSuchNumber)
 
 -- of any bytes: 11, 7, 13
 unfoldable pub packSuffix : List ℕ → ℕ → Answer
@@ -100,3 +105,15 @@ suffixOf (some a) = Value (suffixNumber (a .suffix))
 
 unfoldable pub kthSuffix : List Address → ℕ → Answer
 kthSuffix addresses k = suffixOf (kth addresses k)
+
+-- how many of these first bytes of inward codes are of a sector: "27, inward digit above 9"
+unfoldable pub sectorAnswer : List ℕ → ℕ → Answer
+sectorAnswer firsts digit = cond (leb digit 9) (Value (inSector digit firsts)) (Refused 0 BadDigit)
+
+-- of all points of any bytes: "27 .., after 11"
+unfoldable pub packSector : List ℕ → ℕ → Answer
+packSector pack digit = after (opened pack) (sectorAnswer (pointDigits pack) digit)
+
+-- of the addresses of a source
+abbrev pub addressSector : List Address → ℕ → Answer
+addressSector addresses digit = sectorAnswer (inwardDigits addresses) digit

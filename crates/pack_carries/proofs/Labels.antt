@@ -1,4 +1,5 @@
--- The labels of a pack are those of its source, number by number, and so are the items of its listing and the suffixes.
+-- The labels of a pack are those of its source, number by number, and so are the items of its
+-- listing, the suffixes and the counts of sectors.
 -- Assumes nothing.
 use Prim.Native.Nat.{ℕ, zero, suc, _≤_, _<_}
 use mathlib.Core.Path.{_≡_, refl, sym, ap, _∙_}
@@ -15,14 +16,14 @@ use Rattle.pack.specs.Layout.{packOf}
 use Rattle.refusal.specs.declared.Answer.the-variants.{Value}
 use Rattle.pack.specs.Names.{hasSuffix}
 use Rattle.pack.specs.Opening.{edition, pointCount, suffixIn}
-use Rattle.pack.specs.Points.{elementsAt, pointPlace, isPoint, pointLabel, packLabel, pointItem, packItem, suffixNumber, pointSuffix, packSuffix, suffixOf, kthSuffix}
+use Rattle.pack.specs.Points.{elementsAt, pointPlace, isPoint, pointLabel, packLabel, pointItem, packItem, suffixNumber, pointSuffix, packSuffix, suffixOf, kthSuffix, sectorAnswer, packSector, addressSector}
 use Rattle.pack.proofs.Suffixes.{no-point, its-suffix}
 use Rattle.pack.specs.Sound.{AddressSound, AddressesSound, Sound}
 use Rattle.ask.specs.Labels.{kth, kthLabel}
 use Rattle.ask.specs.Lists.{kthItem}
 use Rattle.item.specs.Item.{Heading}
 use Rattle.ask.proofs.Kth.{kth-zero, kth-none}
-use Rattle.pack_carries.proofs.Carried.{pack-says, pack-opens, pack-points}
+use Rattle.pack_carries.proofs.Carried.{pack-says, pack-opens, pack-points, pack-digits}
 
 -- a sound address is refused nothing
 pub resolved-sound : (look : Lookup) (code : List ℕ) (a : Address) → AddressSound look code a
@@ -113,3 +114,9 @@ module _ (look : Lookup) (addresses : List Address) (code : List ℕ) (g : Sound
       by-case (neither p q) = no-point pack k p ∙ ap suffixOf (sym q)
       by-case (each a p q e s) =
           its-suffix pack k p has-one ∙ (ap (λ l. Value (suffixNumber l)) s ∙ ap suffixOf (sym q))
+
+  -- and counts each sector as the source does
+  pub pack-sectors : (digit : ℕ) → packSector pack digit ≡ addressSector addresses digit
+  unfolding packSector
+  pack-sectors digit =
+      rw (pack-opens look addresses code g) (ap (λ firsts. sectorAnswer firsts digit) (pack-digits look addresses code g))

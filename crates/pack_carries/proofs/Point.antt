@@ -1,15 +1,16 @@
 -- A point of a sound address is accepted, and gives the elements of the address.
 -- Assumes nothing.
-use Prim.Native.Nat.{ℕ, zero, suc, _+_, _*_, _<_}
-use mathlib.Core.Path.{_≡_, refl, ap, ap₂, _∙_}
+use Prim.Native.Nat.{ℕ, zero, suc, _+_, _-_, _*_, _<_}
+use mathlib.Core.Path.{_≡_, refl, sym, ap, ap₂, _∙_}
 use mathlib.Core.Bool.{Bool, true, false, cond, not, _||_}
 use mathlib.Core.List.{List, [], _∷_}
 use native.Mathlib.Omega.{arith}
 use borrow.Author.Tests.{eq-eqb, ne-eqb, eqb-true, le-leb}
 use lib.Dec.{eqb, leb}
 use lib.ListN.{length, getD}
+use lib.Seq.{getD-take, getD-drop}
 use Rattle.field.specs.Test.{elem}
-use Rattle.field.specs.Text.{textFault, trim, textIn}
+use Rattle.field.specs.Text.{textFault, trim, part, textIn}
 use Rattle.field.proofs.Tests.{or-true}
 use Rattle.file_compare.specs.Order.{same}
 use Rattle.file_compare.proofs.Order.{order-same}
@@ -17,9 +18,9 @@ use Rattle.field_outward.specs.Inward.{inwardFault}
 use Rattle.source.specs.Address.{Lookup, Organisation, none-needed, named, lacking, Address}
 use Rattle.source.specs.Resolve.{forbidden, nameOf, elementsOf}
 use Rattle.label.specs.Lines.{isEmpty}
-use Rattle.pack.specs.Names.{newest, hasSuffix, restAt, pointWidth}
-use Rattle.pack.specs.Layout.{Entry, markOf, pointsBytes}
-use Rattle.pack.specs.Opening.{edition, outward, restOf, offsetKinds, offsetsGood, given, postcodeGood, suffixIn, suffixGood, plainGood, allowedMix, organisationGood, partsGood, pointGood, pointsGood, rowArea, rowText, offsetOfPoint}
+use Rattle.pack.specs.Names.{newest, hasSuffix, inwardAt, postcodeWidth, restAt, pointWidth}
+use Rattle.pack.specs.Layout.{Entry, markOf, inwardDigits, pointsBytes}
+use Rattle.pack.specs.Opening.{edition, outward, restOf, offsetKinds, offsetsGood, given, postcodeGood, suffixIn, suffixGood, plainGood, allowedMix, organisationGood, partsGood, pointGood, pointsGood, rowArea, rowText, offsetOfPoint, digitsFrom}
 use Rattle.pack.specs.Points.{elementsFrom, elementsAt}
 use Rattle.pack.specs.Sound.{OrganisationSound, AddressSound, AddressesSound}
 use Rattle.pack_carries.proofs.Stands.{Stands}
@@ -160,6 +161,12 @@ module _ (look : Lookup) (code pack : List ℕ) (at rest : ℕ) (is-rest : restO
   pub said-read : PointSaid look pack at a
   said-read = record { of-elements = ap (elementsFrom pack at) is-rest ∙ from-rest; of-suffix = p .of-suffix }
 
+pub part-first : (l : List ℕ) (from to : ℕ) → from < to → getD (part l from to) 0 0 ≡ getD l from 0
+part-first l from to h =
+    let some : 0 < to - from = omega arith in
+    let here : from + 0 ≡ from = omega arith in
+    rw (getD-take, getD-drop, here)
+
 -- all points, one after the other
 module _ (look : Lookup) (code : List ℕ) (four : length code ≡ 4) (pack : List ℕ) (of-edition : edition pack ≡ newest)
     (of-code : outward pack ≡ code) (es : List Entry) (g : RowsSaid pack es) where
@@ -179,6 +186,17 @@ module _ (look : Lookup) (code : List ℕ) (four : length code ≡ 4) (pack : Li
 
     said-here : PointSaid look pack at a
     said-here = said-read look code pack at (restAt newest at) rest-here a (s .1 .0) of-code es here refs-here
+
+  -- the first byte of each inward code, read where it stands
+  pub points-digits : (low at : ℕ) (addresses : List Address) → AddressesSound look code low addresses
+      → Stands pack at (pointsBytes newest es addresses)
+      → digitsFrom pack (pointWidth newest) (length addresses) at ≡ inwardDigits addresses
+  points-digits low at [] s h = refl
+  points-digits low at (a ∷ more) s h =
+      let read = point-read look code four es a (s .1 .0) pack at (first-point look code four es pack low a more at s h) in
+      ap₂ _∷_ (sym (part-first pack (at + inwardAt) (at + postcodeWidth) (omega arith)) ∙ ap (λ l. getD l 0 0) (read .of-inward))
+      (points-digits (a .view) (at + pointWidth newest) more (s .1 .1)
+      (other-points look code four es pack low a more at s h))
 
   pub points-good : (low at : ℕ) (addresses : List Address) → AddressesSound look code low addresses
       → AllFound look es addresses

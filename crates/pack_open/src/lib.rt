@@ -1,4 +1,5 @@
 // Opening any bytes as a pack.
+use pack_counts::inner::counts_good;
 use pack_points::inner::fields_good;
 use pack_points::inner::offsets_marked;
 use pack_points::inner::offsets_told;
@@ -99,6 +100,9 @@ pub fn open_pack(pack: &[u8]) -> Answer
     }
     if !all_points_good(pack, rows, fine, layout, &mut kept) {
         return bad_pack(3);
+    }
+    if !counts_good(pack, layout) {
+        return bad_pack(4);
     }
     Answer::Value(trailer_number(pack, layout, PackTrailer::POINTS))
 }

@@ -52,6 +52,13 @@ impl PackTrailer {
 
     pub const FIELDS: usize = 20;
 
+    // Behind the fields, in an edition that has counts: where they begin, the bytes of one, and of all ten.
+    pub const COUNTS: usize = 20;
+
+    pub const COUNT: usize = 4;
+
+    pub const COUNTS_WIDTH: usize = 40;
+
     pub const EDITION: usize = 1;
 }
 
@@ -59,9 +66,11 @@ impl PackTrailer {
 pub struct NewestPack;
 
 impl NewestPack {
-    pub const EDITION: u8 = 2;
+    pub const EDITION: u8 = 3;
 
     pub const POINT: usize = PackPoint::POSTCODE_END + PackPoint::SUFFIX_WIDTH + PackPoint::REST;
 
-    pub const TRAILER: usize = PackTrailer::FIELDS + PackTrailer::EDITION;
+    pub const TRAILER: usize = PackTrailer::FIELDS
+        + PackTrailer::COUNTS_WIDTH
+        + PackTrailer::EDITION;
 }

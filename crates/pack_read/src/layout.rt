@@ -3,7 +3,7 @@ use crate::kinds::PackPoint;
 use crate::kinds::PackTrailer;
 ghost use mathlib.Core.Path.{_≡_};
 ghost use Prim.Native.Nat.{_≤_};
-ghost use Rattle.pack.specs.Names.{known, hasSuffix, suffixWidth, behindPostcode};
+ghost use Rattle.pack.specs.Names.{known, hasSuffix, hasCounts, suffixWidth, countsWidth, behindPostcode, behindFields};
 ghost use Rattle.pack_read.specs.Laid.{Laid, LaidIn};
 
 // The widths of an edition: a point up to its rest, a point, the trailer.
@@ -18,14 +18,21 @@ pub struct Layout {
 pub fn is_known(edition: u8) -> bool
     ensures { λ r. ⌜ r ≡ known edition ⌝ }
 {
-    (edition == 1) | (edition == 2)
+    (edition == 1) | ((edition == 2) | (edition == 3))
 }
 
 // Whether the points of an edition have a suffix.
 pub fn has_suffix(edition: u8) -> bool
     ensures { λ r. ⌜ r ≡ hasSuffix edition ⌝ }
 {
-    edition == 2
+    (edition == 2) | (edition == 3)
+}
+
+// Whether the trailer of an edition has counts.
+pub fn has_counts(edition: u8) -> bool
+    ensures { λ r. ⌜ r ≡ hasCounts edition ⌝ }
+{
+    edition == 3
 }
 
 // How many bytes an edition puts behind the postcode.
@@ -34,6 +41,16 @@ fn behind_postcode(edition: u8) -> usize
 {
     if has_suffix(edition) {
         return PackPoint::SUFFIX_WIDTH;
+    }
+    0
+}
+
+// How many bytes an edition puts behind the trailer's fields.
+fn behind_fields(edition: u8) -> usize
+    ensures { λ r. ⌜ (r ≡ behindFields edition) × (r ≤ countsWidth) ⌝ }
+{
+    if has_counts(edition) {
+        return PackTrailer::COUNTS_WIDTH;
     }
     0
 }
@@ -47,7 +64,7 @@ pub fn layout_of(edition: u8) -> Layout
         edition,
         rest,
         point: rest + PackPoint::REST,
-        trailer: PackTrailer::FIELDS + PackTrailer::EDITION,
+        trailer: PackTrailer::FIELDS + behind_fields(edition) + PackTrailer::EDITION,
     }
 }
 

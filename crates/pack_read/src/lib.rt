@@ -7,6 +7,7 @@ pub use kinds::NewestPack;
 pub use kinds::PackPoint;
 pub use kinds::PackTrailer;
 pub use layout::Layout;
+pub use layout::has_counts;
 pub use layout::has_suffix;
 pub use layout::is_known;
 pub use layout::layout_in;

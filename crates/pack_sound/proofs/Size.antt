@@ -19,9 +19,10 @@ use Rattle.shelf.specs.Shelf.{textsIn, recordOf, refAt, textsAt}
 use Rattle.shelf.specs.Stock.{Stock, stockOf, ahead, joined, lookIn}
 use Rattle.pack.specs.Names.{newest, pointWidth, trailerWidth}
 use Rattle.pack.specs.Numbers.{bytesOf}
-use Rattle.pack.specs.Layout.{Entry, insert, insertKeys, usedBy, textsOr, tableEntries, organisationEntry, organisationEntries, entriesOf, textsBytes, entriesBytes, refsBytes, refsOf, postcodeOf, plainOf, pointBytes, pointsBytes, trailerBytes, packBytes, packOf}
+use Rattle.pack.specs.Layout.{Entry, insert, insertKeys, usedBy, textsOr, tableEntries, organisationEntry, organisationEntries, entriesOf, textsBytes, entriesBytes, refsBytes, refsOf, postcodeOf, plainOf, pointBytes, pointsBytes, inwardDigits, countsOf, trailerBytes, packBytes, packOf}
 use Rattle.pack.specs.Opening.{slot}
 use Rattle.pack.specs.Sound.{OrganisationSound}
+use Rattle.pack.proofs.Sectors.{counts-wide}
 use Rattle.field_outward.proofs.Long.{outward-long, inward-long, suffix-long}
 use Rattle.pack_sound.proofs.Texts.{good-text}
 use Rattle.pack_sound.proofs.Fields.{FieldsSound}
@@ -222,14 +223,15 @@ points-bound es (a ∷ more) f =
 
 -- ---- the pack
 
--- "Trailer, 21 bytes"
-trailer-length : (edition rows start points : ℕ) (code : List ℕ)
-    → length (trailerBytes edition rows start points code) ≡ 17 + length code
-trailer-length edition rows start points code =
+-- "The trailer is then 61 bytes", of which the outward code has 4 and the counts 40
+trailer-length : (edition rows start points : ℕ) (code counts : List ℕ)
+    → length (trailerBytes edition rows start points code counts) ≡ 17 + length code + length counts
+trailer-length edition rows start points code counts =
     omega (
       arith,
       length-append code
-          (bytesOf 4 (start + pointWidth edition * points + trailerWidth edition) ++ (edition ∷ [])),
+          (bytesOf 4 (start + pointWidth edition * points + trailerWidth edition) ++ (counts ++ (edition ∷ []))),
+      length-append counts (edition ∷ []),
     )
 
 module _ (st : Stock) (short : ShortRows st) (as′ : List Address) (fields : AllOf FieldsSound as′) where
@@ -244,17 +246,19 @@ module _ (st : Stock) (short : ShortRows st) (as′ : List Address) (fields : Al
         organisations-bound as′ fields,
       )
 
-  pack-bound : (code : List ℕ) → length (packOf (lookIn st) as′ code) ≤ (851 + pointWidth newest) * length as′ + 17 + length code
+  pack-bound : (code : List ℕ) → length (packOf (lookIn st) as′ code) ≤ (851 + pointWidth newest) * length as′ + 57 + length code
   unfolding packOf packBytes
   pack-bound code =
       let es = entriesOf (lookIn st) as′ in
       let start = length (entriesBytes es) in
-      let behind = trailerBytes newest (length es) start (length as′) code in
+      let counts = countsOf newest as′ in
+      let behind = trailerBytes newest (length es) start (length as′) code counts in
       omega (
         arith,
         length-append (entriesBytes es) (pointsBytes newest es as′ ++ behind),
         length-append (pointsBytes newest es as′) behind,
-        trailer-length newest (length es) start (length as′) code,
+        trailer-length newest (length es) start (length as′) code counts,
+        counts-wide (inwardDigits as′),
         rows-bound,
         points-bound es as′ fields,
       )

@@ -10,7 +10,7 @@ use borrow.Author.Tests.{leb-true}
 use lib.Dec.{leb}
 use lib.ListN.{getD}
 use Rattle.refusal.specs.declared.Reason.{Reason}
-use Rattle.refusal.specs.declared.Reason.the-variants.{Length, Header, Trailer, Malformed, NotAbove, Follower, NoSuchNumber, Combination, MissingKey, Room, BadPack, BadCode, NoSuffix}
+use Rattle.refusal.specs.declared.Reason.the-variants.{Length, Header, Trailer, Malformed, NotAbove, Follower, NoSuchNumber, Combination, MissingKey, Room, BadPack, BadCode, NoSuffix, BadDigit}
 use Rattle.refusal.specs.declared.Answer.{Answer}
 use Rattle.refusal.specs.declared.Answer.the-variants.{Value, Refused}
 use Rattle.refusal.specs.Refusal.{number, detail, second}
@@ -25,8 +25,9 @@ reason-of n d s =
     ∷ Room d
     ∷ BadPack d
     ∷ BadCode
+    ∷ NoSuffix
     ∷ [])
-    n NoSuffix
+    n BadDigit
 
 -- a reason is known by its number and its details, and its number is one of the documents'
 abbrev Known : Reason → Type 0
@@ -47,6 +48,7 @@ known (Room d) = (refl, refl, refl)
 known (BadPack d) = (refl, refl, refl)
 known BadCode = (refl, refl, refl)
 known NoSuffix = (refl, refl, refl)
+known BadDigit = (refl, refl, refl)
 
 pub number-above-0 : (r : Reason) → 0 < number r
 number-above-0 r = leb-true 1 (number r) (known r .1)

@@ -2,9 +2,9 @@
 -- Assumes nothing.
 use Prim.Native.Nat.{ℕ}
 use Rattle.refusal.specs.declared.Reason.{Reason}
-use Rattle.refusal.specs.declared.Reason.the-variants.{Length, Header, Trailer, Malformed, NotAbove, Follower, NoSuchNumber, Combination, MissingKey, Room, BadPack, BadCode, NoSuffix}
+use Rattle.refusal.specs.declared.Reason.the-variants.{Length, Header, Trailer, Malformed, NotAbove, Follower, NoSuchNumber, Combination, MissingKey, Room, BadPack, BadCode, NoSuffix, BadDigit}
 
--- column "no."; "13, no suffix in this edition" (document 02, No. 6)
+-- column "no."; "13, no suffix in this edition" (document 02, No. 6); "27, inward digit above 9" (No. 7)
 abbrev pub number : Reason → ℕ
 number Length = 1
 number Header = 2
@@ -19,6 +19,7 @@ number (Room needed) = 10
 number (BadPack step) = 11
 number BadCode = 12
 number NoSuffix = 13
+number BadDigit = 27
 
 -- column "detail"; "No detail named means 0"
 abbrev pub detail : Reason → ℕ
@@ -35,6 +36,7 @@ detail (Room needed) = needed
 detail (BadPack step) = step
 detail BadCode = 0
 detail NoSuffix = 0
+detail BadDigit = 0
 
 -- "refusal 4 then carries record and byte of the record" (document 02, No. 1); "Building: .. the label's 8 or 9 of the first
 -- live view in that code that has one, together with its view number"
@@ -52,6 +54,7 @@ second (Room needed) = 0
 second (BadPack step) = 0
 second BadCode = 0
 second NoSuffix = 0
+second BadDigit = 0
 
 -- refusal 4 of a record, with the byte of its first fault
 abbrev pub malformedAt : ℕ → ℕ → Reason
@@ -72,3 +75,4 @@ withView view (Room needed) = Room needed
 withView view (BadPack step) = BadPack step
 withView view BadCode = BadCode
 withView view NoSuffix = NoSuffix
+withView view BadDigit = BadDigit

@@ -20,6 +20,7 @@ pub enum Reason {
     BadPack { step: usize },
     BadCode,
     NoSuffix,
+    BadDigit,
 }
 
 // What a check says: of a record, of a file, of a delivery point.
@@ -53,6 +54,7 @@ pub fn number_of(reason: Reason) -> usize
         Reason::BadPack { step: _ } => 11,
         Reason::BadCode => 12,
         Reason::NoSuffix => 13,
+        Reason::BadDigit => 27,
     }
 }
 
@@ -74,6 +76,7 @@ pub fn detail_of(reason: Reason) -> usize
         Reason::BadPack { step } => step,
         Reason::BadCode => 0,
         Reason::NoSuffix => 0,
+        Reason::BadDigit => 0,
     }
 }
 
@@ -95,6 +98,7 @@ pub fn second_of(reason: Reason) -> usize
         Reason::BadPack { step: _ } => 0,
         Reason::BadCode => 0,
         Reason::NoSuffix => 0,
+        Reason::BadDigit => 0,
     }
 }
 
@@ -149,5 +153,6 @@ pub fn with_view(reason: Reason, view: usize) -> Reason
         Reason::BadPack { step } => Reason::BadPack { step },
         Reason::BadCode => Reason::BadCode,
         Reason::NoSuffix => Reason::NoSuffix,
+        Reason::BadDigit => Reason::BadDigit,
     }
 }

@@ -7,7 +7,7 @@ use changes_label::label_in_code;
 use changes_runs::labels_in_code;
 ghost use mathlib.Core.Path.{_≡_};
 ghost use mathlib.Core.List.{[]};
-ghost use Rattle.call.specs.Call.{of-table, of-points, of-views, of-letter, of-live, of-codes, of-label, of-code-label, of-build, of-pack, of-pack-label, of-labels, of-code-labels, of-pack-labels, of-list, of-code-list, of-pack-list, of-pack-suffix, pair, called, comesTo};
+ghost use Rattle.call.specs.Call.{of-table, of-points, of-views, of-letter, of-live, of-codes, of-label, of-code-label, of-build, of-pack, of-pack-label, of-labels, of-code-labels, of-pack-labels, of-list, of-code-list, of-pack-list, of-pack-suffix, of-sector, pair, called, comesTo};
 
 // How many records a table file has.
 #[no_mangle]
@@ -115,6 +115,14 @@ pub extern "C" fn ttw_pack_suffix(pack: &[u8], k: u64) -> u64
     ensures { λ r. ⌜ called r [] 0 ≡ comesTo (of-pack-suffix (now (pack .entry)) k) [] 0 ⌝ }
 {
     refusal::packed_answer(pack_suffix::suffix_of_point(pack, k as usize)) as u64
+}
+
+// How many points of a pack have this inward digit, 0 to 9.
+#[no_mangle]
+pub extern "C" fn ttw_sector(pack: &[u8], digit: u64) -> u64
+    ensures { λ r. ⌜ called r [] 0 ≡ comesTo (of-sector (now (pack .entry)) digit) [] 0 ⌝ }
+{
+    refusal::packed_answer(pack_sector::points_in_sector(pack, digit as usize)) as u64
 }
 
 // So many labels from a view on, one behind the other in `out`, and their bytes in `bytes`.

@@ -10,7 +10,7 @@ use lib.Dec.{lit≤}
 use lib.ListN.{length, take}
 use mathlib.Core.List.{List}
 use Rattle.pack_points.specs.Ready.{Sized, Kept}
-use Rattle.pack.specs.Opening.{rowCount, rowArea, rowsGood, trailerGood, allRowsGood, opened}
+use Rattle.pack.specs.Opening.{rowCount, rowArea, rowsGood, trailerGood, allRowsGood, allPointsGood, opened}
 use Rattle.pack_rows.specs.Marks.{Fine}
 use Rattle.pack_read.specs.Laid.{Trailed}
 use Rattle.pack_points.proofs.PointLaws.{trailed}
@@ -128,21 +128,54 @@ returns-3 c =
       sym (p .all-points-good .ensures) ∙ not-true _ (c .before .if3 .taken),
     ))
 
-trailer-number-requires-3 : tie.Need-trailer-number-requires-3
-trailer-number-requires-3 c κs = (there (past (c .before .before .before .before .before)), lit≤ tt)
+-- past step 3
+module _ (c : tie.Else3) where
+  abbrev at-points : tie.After-all-points-good
+  at-points = c .before .before
+
+  abbrev past-rows : tie.Else2
+  past-rows = at-points .before .before
+
+  abbrev of-rows : tie.After-all-rows-good
+  of-rows = past-rows .before
+
+  rows-good : allRowsGood (Pack (past of-rows)) ≡ true
+  rows-good = sym (rows-said of-rows) ∙ not-false _ (past-rows .if2 .left)
+
+  points-good : allPointsGood (Pack (past of-rows)) ≡ true
+  points-good = sym (at-points .all-points-good .ensures) ∙ not-false _ (c .if3 .left)
+
+counts-good-requires : tie.Need-counts-good-requires
+counts-good-requires c κs = (sized (past (of-rows c)), past (of-rows c) .before .before .layout-in .ensures)
 
 returns-4 : tie.Need-returns-4
 unfolding opened
 returns-4 c =
-    let i = c .before in
-    let p = i .before .before in
-    let e = p .before .before in
-    let g = e .before in
+    let asked = c .before .before in
+    let e = asked .before in
+    rw (c .bad-pack4 .ensures)
+    (simp (
+      trailer (past (of-rows e)),
+      rows-good e,
+      points-good e,
+      sym (asked .counts-good .ensures) ∙ not-true _ (c .before .if4 .taken),
+    ))
+
+trailer-number-requires-3 : tie.Need-trailer-number-requires-3
+trailer-number-requires-3 c κs = (there (past (of-rows (c .before .before))), lit≤ tt)
+
+returns-5 : tie.Need-returns-5
+unfolding opened
+returns-5 c =
+    let last = c .before in
+    let asked = last .before in
+    let e = asked .before in
     rw (c .trailer-number3 .ensures .0)
     (simp (
-      trailer (past g),
-      sym (rows-said g) ∙ not-false _ (e .if2 .left),
-      sym (p .all-points-good .ensures) ∙ not-false _ (i .if3 .left),
+      trailer (past (of-rows e)),
+      rows-good e,
+      points-good e,
+      sym (asked .counts-good .ensures) ∙ not-false _ (last .if4 .left),
     ))
 
 pub open-pack-spec : {M : Type 1} → statement M
@@ -165,5 +198,8 @@ open-pack-spec =
     all-points-good-requires
     (search needs)
     returns-3
+    counts-good-requires
+    (search needs)
+    returns-4
     trailer-number-requires-3
-    returns-4)
+    returns-5)

@@ -50,6 +50,7 @@ with-view-spec =
     (λ c. search needs)
     (λ c. search needs)
     (λ c. search needs)
+    (λ c. search needs)
     returns-3
     returns-4
     returns-5
@@ -59,5 +60,6 @@ with-view-spec =
     returns-9
     returns-10
     returns-11
+    (λ c. search needs)
     (λ c. search needs)
     (λ c. search needs))

@@ -8,7 +8,7 @@ use lib.ListN.{length, drop, getD}
 use Rattle.pack.specs.Numbers.{bytesOf}
 use Rattle.label.proofs.Going.{Going, going-start, going-as, going-room, going-step, going-end}
 use Rattle.build.specs.Bytes.{offsetBytes}
-use Rattle.build_points.proofs.Point.{offsets-step, offsets-end}
+use Rattle.build.proofs.Counts.{counts-step, counts-end}
 use Rattle.build_points.proofs.inner.keys_at.Statement.{statement}
 use Rattle.build_points.proofs.inner.keys_at.Tie as tie
 
@@ -34,7 +34,7 @@ word-at-requires c κs =
     let i = l .loop .i in
     let seven : length (a .t1) ≡ 7 = s .good .0 .1 .0 .1 in
     going-room (bytesOf 4 (getD (a .t1) i 0)) (offsetBytes (drop (i + 1) (a .t1)))
-    (going-as (offsets-step (a .t1) i (omega arith)) (l .loop .inv .2)) (s .pre)
+    (going-as (counts-step (a .t1) i (omega arith)) (l .loop .inv .2)) (s .pre)
 
 loop-again : tie.Need-loop-again Inv-loop μ-loop
 loop-again c =
@@ -46,7 +46,7 @@ loop-again c =
     let seven : length (a .t1) ≡ 7 = s .good .0 .1 .0 .1 in (
       omega arith,
       word .word-at .kept .1 .1 .0 ∙ l .loop .inv .1,
-      going-step (offsetBytes (drop (i + 1) (a .t1))) (going-as (offsets-step (a .t1) i (omega arith)) (l .loop .inv .2))
+      going-step (offsetBytes (drop (i + 1) (a .t1))) (going-as (counts-step (a .t1) i (omega arith)) (l .loop .inv .2))
           (word .word-at .ensures) (s .pre),
     )
 
@@ -57,7 +57,7 @@ returns c =
     let a = s .args in
     let seven : length (a .t1) ≡ 7 = s .good .0 .1 .0 .1 in
     let end : l .loop .i ≡ length (a .t1) = omega arith in
-    going-end (going-as (offsets-end (a .t1) (l .loop .i) end) (l .loop .inv .2))
+    going-end (going-as (counts-end (a .t1) (l .loop .i) end) (l .loop .inv .2))
 
 pub keys-at-spec : {M : Type 1} → statement M
 keys-at-spec =

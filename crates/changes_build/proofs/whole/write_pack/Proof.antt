@@ -1,6 +1,6 @@
 -- `changes_build::whole::write_pack` meets its contract. Assumes nothing.
 use borrow.Author.Needs.{needs}
-use Prim.Native.Nat.{ℕ, _+_, _≤_}
+use Prim.Native.Nat.{ℕ, _+_, _*_, _≤_}
 use mathlib.Core.Path.{refl, ap}
 use mathlib.Core.List.{List, _++_}
 use native.Mathlib.Omega.{arith}
@@ -10,17 +10,19 @@ use Rattle.changes_views.proofs.Laws.{count-bound}
 use Rattle.label.specs.Put.{Put}
 use Rattle.label.proofs.Puts.{wrote, put-as}
 use Rattle.label.proofs.Going.{Going, going-left, going-room, going-last}
-use Rattle.pack.specs.Names.{newest}
+use Rattle.pack.specs.Names.{newest, pointWidth}
 use Rattle.pack.specs.Layout.{trailerBytes}
 use Rattle.shelf.specs.declared.Shelf.{Shelf}
 use Rattle.shelf.specs.Stock.{Stock, stockOf}
 use Rattle.changes_source.specs.Rows.{tableStock}
 use Rattle.changes_source.proofs.Table.{table-fits}
 use Rattle.build.specs.Plan.{Packed, organisationRows}
-use Rattle.build.specs.Bytes.{usedRows, pointsIn, packIn}
-use Rattle.build.proofs.Pack.{behindRows, pack-room, pack-start, after-rows, after-organisations, after-points}
+use Rattle.build.specs.Bytes.{usedRows, pointsIn, countsAtIn, packIn}
+use Rattle.build.proofs.Pack.{trailerFrom, behindRows, pack-room, pack-start, after-rows, after-organisations, after-points}
+use Rattle.build_exact.proofs.Size.{points-long}
 use Rattle.changes_build.specs.Views.{packedIn}
 use Rattle.changes_build.proofs.Packed.{packed-length}
+use Rattle.changes_build.proofs.Said.{all-said, all-within}
 use Rattle.changes_build.proofs.whole.write_pack.Statement.{statement}
 use Rattle.changes_build.proofs.whole.write_pack.Tie as tie
 
@@ -47,8 +49,15 @@ module _ (s : tie.Start) where
   abbrev behind : ℕ → ℕ → List ℕ
   behind = behindRows st points points starts ds code (s .args .rows) (s .args .count)
 
+  abbrev behind-points : ℕ → ℕ → List ℕ
+  behind-points = trailerFrom st points points starts ds code (s .args .rows) (s .args .count)
+
   room : 0 + length pack ≤ length (s .args .out .now)
   room = pack-room st points points starts ds code (s .args .rows) (s .args .count) (s .pre .1)
+
+  -- all points have one width
+  points-size : (i : ℕ) → pointWidth newest * s .args .count ≤ length (pointsIn st points points starts i ds)
+  points-size i = omega (arith, points-long st starts i (all-said points code) (all-within points code), s .pre .1 .of-points)
 
 -- the rows are written
 module _ (at-rows : tie.After-rows-at) where
@@ -109,7 +118,7 @@ points-at-requires c κs =
       (
         omega (arith, at-organisations .organisations-at .ensures .size),
         going-room (pointsIn (st s) (points s) (points s) (starts s) i (ds s))
-            (trailerBytes newest (s .args .rows) j (s .args .count) (code s)) (points-left at-organisations) (room s),
+            (behind-points s i j) (points-left at-organisations) (room s),
       ),
     )
 
@@ -121,12 +130,17 @@ module _ (at-points : tie.After-points-at) where
   abbrev start-of-points : tie.Start
   start-of-points = start-of-organisations organisations-before
 
+  abbrev out-with-points : List ℕ
+  out-with-points = at-points .points-at .last .1 .1 .1 .1 .1 .1 .1 .0
+
   trailer-left : Going (pack start-of-points)
-      (trailerBytes newest (start-of-points .args .rows) (organisations-before .organisations-at .result) (start-of-points .args .count) (code start-of-points))
-      (start-of-points .args .out .now) 0 (at-points .points-at .result) (at-points .points-at .last .1 .1 .1 .1 .1 .1 .1 .0)
+      (trailerBytes newest (start-of-points .args .rows) (organisations-before .organisations-at .result) (start-of-points .args .count) (code start-of-points)
+      (countsAtIn out-with-points (start-of-points .args .count) (organisations-before .organisations-at .result)))
+      (start-of-points .args .out .now) 0 (at-points .points-at .result) out-with-points
   trailer-left =
       after-points (st start-of-points) (points start-of-points) (points start-of-points) (starts start-of-points) (ds start-of-points) (code start-of-points) (start-of-points .args .rows) (start-of-points .args .count)
       (start-of-points .pre .1) (rows-put (rows-before organisations-before)) (organisations-before .organisations-at .ensures) (at-points .points-at .ensures)
+      (points-size start-of-points (rows-before organisations-before .rows-at .result))
 
 trailer-at-requires : tie.Need-trailer-at-requires
 unfolding wantedCount
@@ -141,7 +155,14 @@ trailer-at-requires c κs =
         count-bound (code s) (points s),
         s .good,
       ),
-      going-left (trailer-left at-points) (room s),
+      (
+        omega (
+          arith,
+          at-points .points-at .ensures .size,
+          points-size s (rows-before (organisations-before at-points) .rows-at .result),
+        ),
+        going-left (trailer-left at-points) (room s),
+      ),
     )
 
 returns : tie.Need-returns

@@ -1,6 +1,6 @@
 -- `mainfile_build::whole::write_pack` meets its contract. Assumes nothing.
 use borrow.Author.Needs.{needs}
-use Prim.Native.Nat.{ℕ, _+_, _≤_}
+use Prim.Native.Nat.{ℕ, _+_, _*_, _≤_}
 use mathlib.Core.Path.{_≡_, refl, sym, ap}
 use mathlib.Core.List.{List, _++_}
 use native.Mathlib.Omega.{arith}
@@ -8,15 +8,17 @@ use lib.ListN.{length}
 use Rattle.label.specs.Put.{Put}
 use Rattle.label.proofs.Puts.{wrote, put-as}
 use Rattle.label.proofs.Going.{Going, going-left, going-room, going-last}
-use Rattle.pack.specs.Names.{newest}
+use Rattle.pack.specs.Names.{newest, pointWidth}
 use Rattle.pack.specs.Layout.{trailerBytes}
 use Rattle.shelf.specs.Stock.{Stock}
 use Rattle.build.specs.Plan.{Packed, organisationRows}
-use Rattle.build.specs.Bytes.{usedRows, pointsIn, packIn}
-use Rattle.build.proofs.Pack.{behindRows, pack-room, pack-start, after-rows, after-organisations, after-points}
+use Rattle.build.specs.Bytes.{usedRows, pointsIn, countsAtIn, packIn}
+use Rattle.build.proofs.Pack.{trailerFrom, behindRows, pack-room, pack-start, after-rows, after-organisations, after-points}
+use Rattle.build_exact.proofs.Size.{points-long}
 use Rattle.mainfile.specs.Set.{Set, setOf}
 use Rattle.mainfile.specs.Rows.{setStock}
 use Rattle.mainfile_mark.specs.Packed.{packedIn, packedBy}
+use Rattle.mainfile_points.proofs.Said.{all-say, all-within}
 use Rattle.mainfile_build.specs.Written.{setStarts}
 use Rattle.mainfile_build.proofs.Laws.{ended-only, rows-are, packed-is, standing, stop-few}
 use Rattle.mainfile_build.proofs.whole.write_pack.Statement.{statement}
@@ -68,8 +70,17 @@ module _ (k : tie.After-slice-known) where
   abbrev behind : ℕ → ℕ → List ℕ
   behind = behindRows st own others starts ds code rows many
 
+  abbrev behind-points : ℕ → ℕ → List ℕ
+  behind-points = trailerFrom st own others starts ds code rows many
+
   room : 0 + length pack ≤ length (start .args .out .now)
   room = pack-room st own others starts ds code rows many (start .pre .1)
+
+  -- all points have one width
+  points-size : (i : ℕ) → pointWidth newest * many ≤ length (pointsIn st own others starts i ds)
+  points-size i =
+      let ok = start .pre .0 .marks .judged .of-set in
+      omega (arith, points-long st starts i (all-say files ok code) (all-within files ok code), start .pre .1 .of-points)
 
   same-ds : ds ≡ packedBy own others (start .args .first) many
   same-ds = packed-is files (start .pre .0)
@@ -149,7 +160,7 @@ points-at-requires c κs =
       (
         omega (arith, organisations-put o .size),
         going-room (pointsIn (st k) (own k) (others k) (starts k) i (ds k))
-            (trailerBytes newest (rows k) (organisations-end o) (many k) (code k)) (points-left o) (room k),
+            (behind-points k i (organisations-end o)) (points-left o) (room k),
       ),
     )
 
@@ -161,14 +172,17 @@ module _ (p : tie.After-points-at) where
   abbrev p-start : tie.After-slice-known
   p-start = o-start p-organisations
 
+  abbrev out-with-points : List ℕ
+  out-with-points = p .points-at .last .1 .1 .1 .1 .1 .1 .1 .1 .1 .1 .1 .1 .1 .1 .1 .1 .1 .1 .1 .1 .1 .1 .0
+
   trailer-left : Going (pack p-start)
-      (trailerBytes newest (rows p-start) (organisations-end p-organisations) (many p-start) (code p-start))
-      (start p-start .args .out .now) 0 (p .points-at .result)
-      (p .points-at .last .1 .1 .1 .1 .1 .1 .1 .1 .1 .1 .1 .1 .1 .1 .1 .1 .1 .1 .1 .1 .1 .1 .0)
+      (trailerBytes newest (rows p-start) (organisations-end p-organisations) (many p-start) (code p-start)
+      (countsAtIn out-with-points (many p-start) (organisations-end p-organisations)))
+      (start p-start .args .out .now) 0 (p .points-at .result) out-with-points
   trailer-left =
       after-points (st p-start) (own p-start) (others p-start) (starts p-start) (ds p-start) (code p-start) (rows p-start)
       (many p-start) (start p-start .pre .1) (rows-put (o-rows p-organisations)) (organisations-put p-organisations)
-      (p .points-at .ensures)
+      (p .points-at .ensures) (points-size p-start (rows-end (o-rows p-organisations)))
 
 trailer-at-requires : tie.Need-trailer-at-requires
 trailer-at-requires c κs =
@@ -180,7 +194,10 @@ trailer-at-requires c κs =
         stop-few (files k) (start k .pre .0),
         start k .good,
       ),
-      going-left (trailer-left p) (room k),
+      (
+        omega (arith, p .points-at .ensures .size, points-size k (rows-end (o-rows (p-organisations p)))),
+        going-left (trailer-left p) (room k),
+      ),
     )
 
 returns : tie.Need-returns
