@@ -6,7 +6,7 @@
 use crate::address::{text_rules, Texts, ORGANISATION, REFERENCES, ROW_TYPE};
 use crate::fields::value;
 use crate::label::lend;
-use crate::layout::pack::{ABSENT, BUILT};
+use crate::layout::pack::{ABSENT, BUILT, SECTORS};
 use crate::pair::Changes;
 use crate::refusal::Refusal;
 use crate::source::{rows_of, Rows, Source, View};
@@ -57,8 +57,20 @@ fn pack_bytes<'a>(source: impl Source<'a>, packed: &[(View, Rows)], code: &[u8])
     pack.extend(number_of(packed.len()).to_be_bytes());
     pack.extend(code);
     pack.extend(number_of(length).to_be_bytes());
+    for count in sector_counts(packed) {
+        pack.extend(number_of(count).to_be_bytes());
+    }
     pack.push(BUILT.number);
     pack
+}
+
+/// "Ten counts of 4 bytes", "for inward digits 0 to 9": the packed views of each.
+fn sector_counts(packed: &[(View, Rows)]) -> [usize; SECTORS] {
+    let mut counts = [0; SECTORS];
+    for (view, _) in packed {
+        counts[value(&view.inward()[..1]) as usize] += 1;
+    }
+    counts
 }
 
 /// First the table rows used by a packed view, by type then key, each once.

@@ -329,6 +329,8 @@ pub mod pack {
         pub suffix: Option<Field>,
         /// Where the rest of a point stands, behind postcode and suffix.
         pub rest: Field,
+        /// Where the counts of the sectors stand in the trailer, if it has them.
+        pub counts: Option<Field>,
     }
 
     impl Edition {
@@ -344,6 +346,7 @@ pub mod pack {
         trailer: 21,
         suffix: None,
         rest: 7..57,
+        counts: None,
     };
 
     /// Document 02, No. 6: "Each point grows from 57 to 59 bytes, the suffix
@@ -353,13 +356,29 @@ pub mod pack {
         trailer: 21,
         suffix: Some(7..9),
         rest: 9..59,
+        counts: None,
+    };
+
+    /// Document 02, No. 7: "Put ten counts of 4 bytes into the trailer, for
+    /// inward digits 0 to 9, in front of the edition byte, which becomes 3. The
+    /// trailer is then 61 bytes".
+    const THIRD: Edition = Edition {
+        number: 3,
+        trailer: 61,
+        counts: Some(20..60),
+        ..SECOND
     };
 
     /// The editions that open.
-    pub static EDITIONS: [Edition; 2] = [FIRST, SECOND];
+    pub static EDITIONS: [Edition; 3] = [FIRST, SECOND, THIRD];
 
-    /// "Only edition 2 is built".
-    pub static BUILT: Edition = SECOND;
+    /// "Demands 2 and 3 read edition 3 from here."
+    pub static BUILT: Edition = THIRD;
+
+    /// How many sectors a code has, one for each inward digit.
+    pub const SECTORS: usize = 10;
+    /// Bytes of the count of a sector.
+    pub const COUNT: usize = 4;
 
     pub const ROW_COUNT: Field = 0..4;
     pub const POINTS_START: Field = 4..8;

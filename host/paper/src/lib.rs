@@ -20,7 +20,7 @@
 //! | `pair` | Labels asked of two files |
 //! | `mainfile` | Document 02, Mainfile; layouts in the guide's chapter 5 |
 //! | `runs` | Document 02, Print a street at a time |
-//! | `pack`, `build` | The pack; Pack check; document 02, Suffix in the pack |
+//! | `pack`, `build` | The pack; Pack check; document 02, Suffix in the pack and How many in this sector? |
 //! | `listing`, `report` | One run, complete; listings of many views or points |
 //! | [`make`] | Test data: files, damaged files, packs, codes, the guide's examples, the samples |
 //!
@@ -56,6 +56,8 @@
 //! | A pack of an edition that there is none of? | 11 with step 1 | document 01 has the edition in step 1 |
 //! | A suffix asked of edition 1 where there is no such point? | 7 | document 02: 13 after 7 |
 //! | How is a suffix answered? | as a number, most significant byte first | as numbers stand in a pack |
+//! | How is a sector asked for? | by its inward digit as a number, 0 to 9; the character `9` is 57 and so refused with 27 | "inward digit above 9" |
+//! | Which points does a count count? | all of the pack, by the first byte of the inward code | "equals counting all points" |
 //! | When is a file longer than 300 records? | when it has more than 300 x 169 or 168 bytes | also if it isn't whole records |
 //! | A run of no labels, or from number 0? | no label is asked for, so none is refused; 7 before the first, if there is to be one | "equal to asking for each in turn" |
 //! | Table file refused, point file too long, or both long? | the table file's one line | "the table file first" |
@@ -87,7 +89,7 @@ pub use build::build;
 pub use files::{check_points, check_table, codes, letter, live, point_fault, table_fault, views};
 pub use label::{label_bytes, lines, Elements};
 pub use listing::{code_list, list, pack_list};
-pub use pack::{open, pack_label, pack_suffix};
+pub use pack::{open, pack_label, pack_suffix, sector};
 pub use pair::{code_label, label, label_of};
 pub use refusal::{packed, Refusal};
 pub use report::report;

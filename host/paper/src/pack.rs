@@ -1,12 +1,13 @@
 //! Document 01, "The pack" and "Pack check", in every edition: opening a pack,
-//! and labels and suffixes asked of it. Numbers are most significant byte first.
+//! and labels, suffixes and counts of sectors asked of it. Numbers are most
+//! significant byte first.
 
 use crate::address::{
     forbidden, text_rules, TextRule, Texts, LOCALITY, NO_TEXTS, ORGANISATION, REFERENCES, ROW_TYPE,
 };
-use crate::fields::{inward_fault, outward_fault, suffix_fault, text_fault, trimmed};
+use crate::fields::{inward_fault, outward_fault, suffix_fault, text_fault, trimmed, value};
 use crate::label::{label_bytes, lend, Elements};
-use crate::layout::pack::{self as place, Edition, EDITIONS};
+use crate::layout::pack::{self as place, Edition, EDITIONS, SECTORS};
 use crate::layout::Field;
 use crate::records::{mark_fault, postcode_type_fault};
 use crate::refusal::Refusal;
@@ -36,6 +37,17 @@ pub fn pack_suffix(pack: &[u8], k: u64) -> Result<u64, Refusal> {
     point.suffix().map(number).ok_or(Refusal::new(13, 0))
 }
 
+/// How many points a sector has, asked for by its inward digit. "The answer is
+/// read from there and equals counting all points"; "Editions 1 and 2 still open,
+/// their points walked." The refusals are 11, 27, in this order.
+pub fn sector(pack: &[u8], digit: u64) -> Result<u64, Refusal> {
+    let pack = Pack::accept(pack)?;
+    let counts = pack.said_counts().unwrap_or_else(|| pack.counted());
+    let place = usize::try_from(digit).ok();
+    let count = place.and_then(|place| counts.get(place).copied());
+    count.ok_or(Refusal::new(27, 0))
+}
+
 /// The points of a pack, in order.
 pub(crate) fn points(pack: &[u8]) -> Result<impl Iterator<Item = Point<'_>>, Refusal> {
     Ok(Pack::accept(pack)?.all_points())
@@ -56,6 +68,7 @@ struct Pack<'a> {
     row_count: u64,
     points: &'a [u8],
     outward: &'a [u8],
+    counts: Option<&'a [u8]>,
 }
 
 impl<'a> Pack<'a> {
@@ -65,12 +78,19 @@ impl<'a> Pack<'a> {
         if !pack.all_points().all(|point| point.is_sound(&row_types)) {
             return Err(Refusal::new(11, 3));
         }
+        if pack
+            .said_counts()
+            .is_some_and(|said| said != pack.counted())
+        {
+            return Err(Refusal::new(11, 4));
+        }
         Ok(pack)
     }
 
     /// Step 1: at least 21 bytes, an edition that there is, length true, outward
-    /// well formed, points start + 57 x point count + 21 equal to the length; in
-    /// edition 2, 59 x point count.
+    /// well formed, points start + 57 x point count + 21 equal to the length; from
+    /// edition 2 on, 59 x point count; in edition 3, 61 "both times that step 1
+    /// says 21".
     fn split(pack: &'a [u8]) -> Option<Pack<'a>> {
         let last = pack.last()?;
         let edition = EDITIONS.iter().find(|edition| edition.number == *last)?;
@@ -92,7 +112,30 @@ impl<'a> Pack<'a> {
             row_count: number(&trailer[place::ROW_COUNT]),
             points,
             outward,
+            counts: edition.counts.clone().map(|counts| &trailer[counts]),
         })
+    }
+
+    /// The counts of the sectors that the trailer says, where the edition has
+    /// them.
+    fn said_counts(self) -> Option<[u64; SECTORS]> {
+        let mut said = [0; SECTORS];
+        for (count, bytes) in said.iter_mut().zip(self.counts?.chunks_exact(place::COUNT)) {
+            *count = number(bytes);
+        }
+        Some(said)
+    }
+
+    /// The points of each sector, by their inward digits.
+    fn counted(self) -> [u64; SECTORS] {
+        let mut counts = [0; SECTORS];
+        for point in self.all_points() {
+            let digit = &point.postcode(place::POINT_INWARD)[..1];
+            if let Some(count) = counts.get_mut(value(digit) as usize) {
+                *count += 1;
+            }
+        }
+        counts
     }
 
     /// Step 2: the bytes before points start are exactly row-count rows, types

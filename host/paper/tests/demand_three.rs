@@ -1,12 +1,13 @@
 //! Demand 3 on thousands of random pairs and Mainfile sets: building is refused
 //! exactly when it has to be, and otherwise gives a pack that opens and answers,
-//! for every k and every buffer, what the files answer, and for every k the suffix.
+//! for every k and every buffer, what the files answer, for every k the suffix, and
+//! for every sector its points.
 //!
 //! What is expected is worked out here from the plain rows and views that the
 //! makers made the files from, and not by reading the files.
 
 use paper::make::{joined_key, main_set, outward, pair, MainSet, Pair, Rng, TableRow, View};
-use paper::{mainfile, open, pack_label, pack_suffix, Refusal};
+use paper::{mainfile, open, pack_label, pack_suffix, sector, Refusal};
 use std::collections::{BTreeMap, BTreeSet};
 
 const ROUNDS: u64 = 4_000;
@@ -165,7 +166,7 @@ fn used_rows(views: &[Packed]) -> BTreeSet<(u8, u32)> {
     all.filter(|(_, key)| *key > 0).collect()
 }
 
-/// The pack that document 01 asks for, in edition 2: the used table rows once
+/// The pack that document 01 asks for, in edition 3: the used table rows once
 /// each by type then key, one row of type 6 for each packed view with an
 /// organisation, the points and the trailer.
 fn expected_pack(views: &[Packed], rows: &BTreeMap<(u8, u32), &TableRow>, code: &[u8]) -> Vec<u8> {
@@ -187,15 +188,24 @@ fn expected_pack(views: &[Packed], rows: &BTreeMap<(u8, u32), &TableRow>, code: 
         points.extend(point_bytes(packed.view, code, &offsets, organisation));
     }
     let points_start = pack.len() as u32;
-    let length = points_start + points.len() as u32 + 21;
+    let length = points_start + points.len() as u32 + 61;
     pack.extend(points);
     for number in [row_count, points_start, views.len() as u32] {
         pack.extend(number.to_be_bytes());
     }
     pack.extend(code);
     pack.extend(length.to_be_bytes());
-    pack.push(2);
+    for digit in '0'..='9' {
+        pack.extend(in_sector(views, digit).to_be_bytes());
+    }
+    pack.push(3);
     pack
+}
+
+/// How many of these views have an inward code that begins with this digit.
+fn in_sector(views: &[Packed], digit: char) -> u32 {
+    let here = |packed: &&Packed| packed.view.inward.starts_with(digit);
+    views.iter().filter(here).count() as u32
 }
 
 fn point_bytes(
@@ -277,6 +287,19 @@ fn check_suffixes(pack: &[u8], views: &[Packed]) {
     }
 }
 
+/// The sectors have the views of their digits, and together all of them.
+fn check_sectors(pack: &[u8], views: &[Packed]) {
+    let counts = (0..10).map(|digit| sector(pack, digit).expect("a sector"));
+    assert_eq!(counts.sum::<u64>(), views.len() as u64);
+    for (number, digit) in (0..10).zip('0'..='9') {
+        let expected = u64::from(in_sector(views, digit));
+        assert_eq!(sector(pack, number), Ok(expected), "{digit}");
+    }
+    for digit in [10, b'9'.into(), 1 << 32, u64::MAX] {
+        assert_eq!(sector(pack, digit), Err(Refusal::new(27, 0)), "{digit}");
+    }
+}
+
 /// A pack that has to build.
 fn check_pack(rng: &Rng, files: Files, code: &[u8], expected: &[u8], seen: &mut Seen) {
     let into = |out: &mut [u8]| files.build(code, out);
@@ -352,6 +375,7 @@ fn check_code(rng: &Rng, files: Files, code: &[u8], seen: &mut Seen) {
             seen.organisation_rows += views.iter().filter(has_row).count();
             check_pack(rng, files, code, &expected, seen);
             check_suffixes(&expected, &views);
+            check_sectors(&expected, &views);
         }
     }
 }
@@ -405,11 +429,12 @@ fn packs_answer_what_their_mainfile_sets_answer() {
 }
 
 #[test]
-fn a_code_without_live_views_gives_21_bytes() {
+fn a_code_without_live_views_gives_61_bytes() {
     let pair = paper::make::worked_pair();
-    let mut pack = [7; 30];
-    assert_eq!(Files::Pair(&pair).build(b"DN55", &mut pack), Ok(21));
-    assert_eq!(&pack[..21], b"\0\0\0\0\0\0\0\0\0\0\0\0DN55\0\0\0\x15\x02");
-    assert_eq!(pack[21..], [7; 9]);
-    assert_eq!(open(&pack[..21]), Ok(0));
+    let mut pack = [7; 70];
+    assert_eq!(Files::Pair(&pair).build(b"DN55", &mut pack), Ok(61));
+    assert_eq!(&pack[..20], b"\0\0\0\0\0\0\0\0\0\0\0\0DN55\0\0\0\x3d");
+    assert_eq!((&pack[20..60], pack[60]), (&[0; 40][..], 3));
+    assert_eq!(pack[61..], [7; 9]);
+    assert_eq!(open(&pack[..61]), Ok(0));
 }

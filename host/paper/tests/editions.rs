@@ -1,8 +1,8 @@
-//! The editions of a pack: what each is byte by byte, that both open and print the
+//! The editions of a pack: what each is byte by byte, that all open and print the
 //! same, and suffixes asked of them.
 
 use paper::make::{
-    full_draft, pack_draft, worked_pack, Edition, PackDraft, Rng, BUILT, EDITIONS, FIRST,
+    full_draft, pack_draft, worked_pack, Edition, PackDraft, Rng, BUILT, EDITIONS, FIRST, SECOND,
 };
 use paper::{open, pack_label, pack_labels, pack_list, pack_suffix, packed, Refusal};
 
@@ -33,21 +33,32 @@ fn in_edition(draft: &PackDraft, edition: Edition) -> Vec<u8> {
 
 #[test]
 fn the_worked_pack_grows_by_its_suffix() {
-    let [first, built] = [FIRST, BUILT].map(worked_pack);
-    assert_eq!((first.len(), built.len()), (129, 131));
-    assert_eq!(built[..58], first[..58], "rows and postcode");
-    assert_eq!(built[58..60], *b"1A");
-    assert_eq!(built[60..129], first[58..127], "all up to the length");
+    let [first, second] = [FIRST, SECOND].map(worked_pack);
+    assert_eq!((first.len(), second.len()), (129, 131));
+    assert_eq!(second[..58], first[..58], "rows and postcode");
+    assert_eq!(second[58..60], *b"1A");
+    assert_eq!(second[60..129], first[58..127], "all up to the length");
     assert_eq!(
-        (&first[127..], &built[129..]),
+        (&first[127..], &second[129..]),
         (&b"\x81\x01"[..], &b"\x83\x02"[..])
     );
-    assert_eq!(said(&first), said(&built));
+    assert_eq!(said(&first), said(&second));
 }
 
 #[test]
-fn a_pack_without_points_has_21_bytes_in_each_edition() {
-    for edition in EDITIONS {
+fn the_worked_pack_grows_by_its_counts() {
+    let [second, built] = [SECOND, BUILT].map(worked_pack);
+    assert_eq!((second.len(), built.len()), (131, 171));
+    assert_eq!(built[..129], second[..129], "all up to the length");
+    assert_eq!(built[129], 0xab);
+    assert_eq!(built[130..166], [0; 36], "sectors 0 to 8");
+    assert_eq!(built[166..], *b"\0\0\0\x01\x03", "sector 9, edition");
+    assert_eq!(said(&second), said(&built));
+}
+
+#[test]
+fn a_pack_without_points_is_a_trailer() {
+    for (edition, length) in EDITIONS.into_iter().zip([21, 21, 61]) {
         let draft = PackDraft {
             edition,
             rows: Vec::new(),
@@ -55,8 +66,11 @@ fn a_pack_without_points_has_21_bytes_in_each_edition() {
             outward: b"AB1 ".to_vec(),
         };
         let pack = draft.bytes();
-        assert_eq!(pack[..20], *b"\0\0\0\0\0\0\0\0\0\0\0\0AB1 \0\0\0\x15");
-        assert_eq!(pack[20..], [edition.number]);
+        assert_eq!(pack.len(), length);
+        assert_eq!(pack[..19], *b"\0\0\0\0\0\0\0\0\0\0\0\0AB1 \0\0\0");
+        assert_eq!(usize::from(pack[19]), length);
+        assert_eq!(pack[20..length - 1], vec![0; length - 21], "counts");
+        assert_eq!(pack[length - 1], edition.number);
         assert_eq!(open(&pack), Ok(0));
         for k in [0, 1, u64::MAX] {
             assert_eq!(pack_suffix(&pack, k), Err(Refusal::new(7, 0)));
@@ -69,10 +83,11 @@ fn each_edition_prints_the_same_labels_runs_and_listings() {
     let mut points = 0;
     for seed in 0..1_000 {
         let draft = pack_draft(&mut Rng::new(seed), 20);
-        let [first, built] = [FIRST, BUILT].map(|edition| in_edition(&draft, edition));
-        let added = 2 * draft.points.len();
-        assert_eq!(built.len(), first.len() + added);
-        assert_eq!(said(&first), said(&built));
+        let [first, second, built] = EDITIONS.map(|edition| in_edition(&draft, edition));
+        assert_eq!(second.len(), first.len() + 2 * draft.points.len());
+        assert_eq!(built.len(), second.len() + 40);
+        assert_eq!(said(&first), said(&second));
+        assert_eq!(said(&second), said(&built));
         points += draft.points.len();
     }
     assert!(points > 3_000, "{points}");
@@ -114,10 +129,10 @@ fn every_suffix_of_two_bytes() {
     assert_eq!(opened, 260);
 }
 
-/// "A sum of numbers": with an edition byte that the points do not have the width
-/// of no pack opens, but one without points.
+/// "A sum of numbers": with an edition byte that points and trailer do not have the
+/// widths of no pack opens; one without points has those of editions 1 and 2.
 #[test]
-fn points_have_the_width_that_the_edition_byte_says() {
+fn points_and_trailer_have_the_widths_that_the_edition_byte_says() {
     let mut tried = 0;
     for seed in 0..600 {
         let draft = pack_draft(&mut Rng::new(seed), 6);
@@ -125,11 +140,14 @@ fn points_have_the_width_that_the_edition_byte_says() {
         let last = pack.len() - 1;
         for number in 0..=u8::MAX {
             pack[last] = number;
-            let known = EDITIONS.iter().any(|edition| edition.number == number);
-            let same = known && (draft.points.is_empty() || number == draft.edition.number);
+            let said = EDITIONS.iter().find(|edition| edition.number == number);
+            let same = said.is_some_and(|said| {
+                said.trailer == draft.edition.trailer
+                    && (said.point == draft.edition.point || draft.points.is_empty())
+            });
             let expected = same.then_some(draft.points.len());
             assert_eq!(open(&pack), expected.ok_or(Refusal::new(11, 1)), "{number}");
-            tried += usize::from(known && !same);
+            tried += usize::from(said.is_some() && !same);
         }
     }
     assert!(tried > 100, "{tried}");

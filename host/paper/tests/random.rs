@@ -7,7 +7,7 @@ use paper::make::{
 };
 use paper::{
     build, check_points, check_table, code_label, label, label_of, letter, live, open, pack_label,
-    pack_suffix, point_fault, report, table_fault, views, Refusal,
+    pack_suffix, point_fault, report, sector, table_fault, views, Refusal,
 };
 
 #[test]
@@ -171,7 +171,7 @@ fn random_packs_open_and_print_every_point() {
 
 #[test]
 fn scratched_packs_always_get_an_answer() {
-    let mut opened = [0; 4];
+    let mut opened = [0; 5];
     for seed in 0..20_000 {
         let rng = &mut Rng::new(seed);
         let mut pack = pack_draft(rng, 12).bytes();
@@ -188,6 +188,9 @@ fn scratched_packs_always_get_an_answer() {
                 _ => label,
             };
             assert_eq!(suffix, expected, "{k}, {edition:?}");
+        }
+        for digit in [0, 9] {
+            assert_eq!(sector(&pack, digit).err(), answer.err(), "{digit}");
         }
     }
     println!("{opened:?}");

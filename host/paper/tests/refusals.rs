@@ -7,7 +7,7 @@ use paper::make::{
 };
 use paper::{
     build, check_points, check_table, code_label, label, label_of, letter, live, open, pack_label,
-    pack_suffix, packed, point_fault, table_fault, views, Refusal,
+    pack_suffix, packed, point_fault, sector, table_fault, views, Refusal,
 };
 use std::collections::BTreeMap;
 
@@ -388,15 +388,15 @@ fn a_short_buffer_is_10_with_the_bytes_needed() {
     assert_eq!(label(table, points, 1, &mut [0; 52]), Ok(52));
     assert_eq!(code_label(table, points, b"AB1 ", 1, &mut []), label_room);
     assert_eq!(
-        build(table, points, b"AB1 ", &mut [0; 130]),
-        Err(refusal(10, 0, 131))
+        build(table, points, b"AB1 ", &mut [0; 170]),
+        Err(refusal(10, 0, 171))
     );
-    let mut pack = [0; 131];
-    assert_eq!(build(table, points, b"AB1 ", &mut pack), Ok(131));
+    let mut pack = [0; 171];
+    assert_eq!(build(table, points, b"AB1 ", &mut pack), Ok(171));
     assert_eq!(pack_label(&pack, 1, &mut [0; 51]), label_room);
     assert_eq!(
-        build(table, points, b"AB2 ", &mut [0; 20]),
-        Err(refusal(10, 0, 21))
+        build(table, points, b"AB2 ", &mut [0; 60]),
+        Err(refusal(10, 0, 61))
     );
 }
 
@@ -484,13 +484,15 @@ fn every_clause_of_the_pack_check_is_11_with_its_step() {
         assert_eq!(open(pack), Err(expected), "{clause}");
         assert_eq!(pack_label(pack, 0, &mut []), Err(expected), "{clause}");
         assert_eq!(pack_suffix(pack, 0), Err(expected), "{clause}");
-        let seen: &mut [usize; 4] = steps.entry(damaged.edition.number).or_default();
+        assert_eq!(sector(pack, 10), Err(expected), "{clause}");
+        let seen: &mut [usize; 5] = steps.entry(damaged.edition.number).or_default();
         seen[damaged.step as usize] += 1;
     }
     println!("{steps:?}");
     for edition in EDITIONS {
         let seen = steps[&edition.number];
         assert!(seen[1] >= 20 && seen[2] >= 90 && seen[3] >= 150);
+        assert_eq!(seen[4] >= 150, edition.has_counts());
     }
 }
 
@@ -508,7 +510,7 @@ fn no_point_of_that_number_is_7_behind_11() {
 
 #[test]
 fn answers_are_packed_into_bits() {
-    assert_eq!(packed(Ok(131)), 131);
+    assert_eq!(packed(Ok(171)), 171);
     let refused = Refusal {
         number: 9,
         file: 0,

@@ -1,7 +1,7 @@
 //! Document 01's run, made from its words, and its pack.
 
 use paper::make::{padded, worked_pack, worked_pair, Pair, BUILT};
-use paper::{build, label, label_of, open, pack_label, pack_suffix, report};
+use paper::{build, label, label_of, open, pack_label, pack_suffix, report, sector};
 
 const PRINTED: &str = "\
 pair 7 4 2
@@ -68,8 +68,8 @@ fn points() -> Vec<u8> {
 }
 
 fn pack() -> Vec<u8> {
-    let mut pack = vec![0; 131];
-    assert_eq!(build(&table(), &points(), b"AB1 ", &mut pack), Ok(131));
+    let mut pack = vec![0; 171];
+    assert_eq!(build(&table(), &points(), b"AB1 ", &mut pack), Ok(171));
     pack
 }
 
@@ -104,22 +104,26 @@ fn the_first_label_stands_in_a_fresh_buffer() {
     assert!(buffer[expected.len()..].iter().all(|byte| *byte == 0));
 }
 
-/// In the edition that is built, so that the point has a suffix.
+/// In the edition that is built, so that the point has a suffix and the trailer
+/// has counts.
 #[test]
 fn the_pack_has_the_bytes_that_document_01_says() {
     let expected = worked_pack(BUILT);
-    assert_eq!(expected.len(), 51 + 59 + 21);
+    assert_eq!(expected.len(), 51 + 59 + 61);
     assert_eq!(pack(), expected);
 }
 
 #[test]
 fn the_pack_has_the_counts_and_offsets_that_document_01_says() {
     let pack = pack();
-    let trailer = &pack[131 - 21..];
+    let trailer = &pack[171 - 61..];
     assert_eq!(number(&trailer[0..4]), 5);
     assert_eq!(number(&trailer[4..8]), 51);
     assert_eq!(number(&trailer[8..12]), 1);
-    assert_eq!(trailer[12..], *b"AB1 \0\0\0\x83\x02");
+    assert_eq!(trailer[12..20], *b"AB1 \0\0\0\xab");
+    let counts: Vec<u32> = trailer[20..60].chunks(4).map(number).collect();
+    assert_eq!(counts, [0, 0, 0, 0, 0, 0, 0, 0, 0, 1]);
+    assert_eq!(trailer[60..], [3]);
     let offsets: Vec<u32> = pack[51 + 27..51 + 59].chunks(4).map(number).collect();
     let present: Vec<u32> = offsets
         .into_iter()
@@ -138,4 +142,5 @@ fn the_pack_opens_and_prints_the_first_view() {
         label_of(&table(), &points(), 1)
     );
     assert_eq!(pack_suffix(&pack(), 1), Ok(12_609), "1A");
+    assert_eq!(sector(&pack(), 9), Ok(1), "AB1 9");
 }

@@ -16,15 +16,22 @@ pub const FIRST: Edition = Edition {
     trailer: 21,
 };
 
-/// The edition that is built, with a suffix in each point.
-pub const BUILT: Edition = Edition {
+/// The edition with a suffix in each point.
+pub const SECOND: Edition = Edition {
     number: 2,
     point: 59,
     trailer: 21,
 };
 
+/// The edition that is built, with the counts of its sectors in the trailer.
+pub const BUILT: Edition = Edition {
+    number: 3,
+    point: 59,
+    trailer: 61,
+};
+
 /// The editions that open.
-pub const EDITIONS: [Edition; 2] = [FIRST, BUILT];
+pub const EDITIONS: [Edition; 3] = [FIRST, SECOND, BUILT];
 
 impl Edition {
     /// The edition that a pack's last byte says; none where there is no such one.
@@ -36,6 +43,11 @@ impl Edition {
     /// Whether a point has a suffix.
     pub fn has_suffix(self) -> bool {
         self != FIRST
+    }
+
+    /// Whether the trailer has the counts of the sectors.
+    pub fn has_counts(self) -> bool {
+        self == BUILT
     }
 
     /// Where the eight offsets stand in a point: they end it.

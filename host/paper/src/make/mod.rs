@@ -26,7 +26,7 @@ pub use damage::{
     damaged_main, damaged_points, damaged_table, main_breaks, point_breaks, scratch, table_breaks,
     Break, Damaged, Place,
 };
-pub use editions::{Edition, BUILT, EDITIONS, FIRST};
+pub use editions::{Edition, BUILT, EDITIONS, FIRST, SECOND};
 pub use pack_damage::{damaged_packs, DamagedPack};
 pub use packs::{full_draft, pack_draft, worked_pack, PackDraft, PackPoint, PackRow};
 pub use pairs::{exact_pair, pair, worked_pair, Pair};

@@ -1,5 +1,5 @@
 use super::packs::{full_draft, PackDraft, PackPoint, PackRow};
-use super::{Edition, EDITIONS};
+use super::{Edition, EDITIONS, FIRST};
 
 /// A damaged pack: its edition before the damage, the clause of the pack check
 /// that it breaks, and the step to which the clause belongs.
@@ -22,6 +22,7 @@ fn damaged_packs_of(edition: Edition) -> Vec<DamagedPack> {
     [
         full.damaged_trailers(),
         full.damaged_editions(),
+        full.short_packs(),
         full.damaged_row_areas(),
         full.damaged_row_texts(),
         full.damaged_offsets(),
@@ -29,6 +30,8 @@ fn damaged_packs_of(edition: Edition) -> Vec<DamagedPack> {
         full.damaged_suffixes(),
         full.damaged_point_numbers(),
         full.damaged_point_rows(),
+        full.damaged_counts(),
+        full.moved_counts(),
     ]
     .concat()
 }
@@ -39,6 +42,8 @@ const POINTS_START: usize = 4;
 const POINT_COUNT: usize = 8;
 const OUTWARD: usize = 12;
 const LENGTH: usize = 16;
+/// In editions that have them.
+const COUNTS: usize = 20;
 
 /// Suffixes that aren't a digit and a letter A to Z.
 const BAD_SUFFIXES: [&[u8; 2]; 13] = [
@@ -113,6 +118,13 @@ impl Full {
         self.overwritten(at, &offset.to_be_bytes())
     }
 
+    /// After a change of the counts that its trailer says.
+    fn recounted(&self, change: impl Fn(&mut [u32; 10])) -> Vec<u8> {
+        let mut counts = self.0.counts();
+        change(&mut counts);
+        self.retrailed(COUNTS, &counts.map(u32::to_be_bytes).concat())
+    }
+
     /// After a change of its first point.
     fn repointed(&self, change: impl Fn(&mut PackPoint)) -> Vec<u8> {
         self.redrafted(|draft| change(&mut draft.points[0]))
@@ -167,9 +179,9 @@ impl Full {
         )
     }
 
-    /// Step 1: an edition that there is none of, and one whose points have another
-    /// width. Where the points start is moved to suit that width, the rows are no
-    /// more what they were: step 2.
+    /// Step 1: an edition that there is none of, and one whose points or trailer
+    /// have another width. With the trailer of an edition whose points have another
+    /// width, the rows are no more what they were: step 2.
     fn damaged_editions(&self) -> Vec<DamagedPack> {
         let edition = self.0.edition;
         let unknown = |number| {
@@ -180,21 +192,64 @@ impl Full {
         let numbers = [0, next, b'0' + edition.number, 255];
         let mut packs = numbers.map(unknown).to_vec();
         for other in EDITIONS.into_iter().filter(|other| *other != edition) {
-            let clause = format!("points of another width than edition {}", other.number);
+            let clause = format!("widths of another edition than {}", other.number);
             packs.push(self.damaged(&clause, 1, self.as_edition(other.number)));
-            let clause = format!("rows that end as in edition {}", other.number);
-            packs.push(self.damaged(&clause, 2, self.restarted(other)));
+            if other.point != edition.point {
+                let clause = format!("rows that end as in edition {}", other.number);
+                packs.push(self.damaged(&clause, 2, self.restarted(other)));
+            }
         }
         packs
     }
 
     /// As one of another edition whose sum is right.
     fn restarted(&self, other: Edition) -> Vec<u8> {
-        let mut pack = self.as_edition(other.number);
-        let trailer = pack.len() - other.trailer;
-        let start = (trailer - self.0.points.len() * other.point) as u32;
-        let field = trailer + POINTS_START;
-        pack[field..field + 4].copy_from_slice(&start.to_be_bytes());
+        let mut pack = self.0.body();
+        let points_start = pack.len() - self.0.points.len() * other.point;
+        let trailer = self.0.trailer(other, pack.len(), points_start);
+        pack.extend(trailer);
+        pack
+    }
+
+    /// Step 1: fewer bytes than the edition's trailer has, but as many as that of
+    /// edition 1. Some end with a trailer that would do for edition 1, others with
+    /// what there is room for of their own; all that they say of their length is
+    /// true.
+    fn short_packs(&self) -> Vec<DamagedPack> {
+        let edition = self.0.edition;
+        let no_view = self.redrafted(|draft| {
+            draft.rows.clear();
+            draft.points.clear();
+        });
+        let mut packs = Vec::new();
+        for length in FIRST.trailer..edition.trailer {
+            let mut cut = no_view[edition.trailer - length..].to_vec();
+            let behind = length.checked_sub(edition.trailer - LENGTH);
+            if let Some(field) = behind.and_then(|at| cut.get_mut(at..at + 4)) {
+                field.copy_from_slice(&(length as u32).to_be_bytes());
+            }
+            packs.push(self.damaged(&format!("{length} bytes of a trailer"), 1, cut));
+            let clause = format!("{length} bytes that end as in edition 1");
+            packs.push(self.damaged(&clause, 1, self.ending_as_first(length)));
+        }
+        packs
+    }
+
+    /// So many bytes without points: rows, then a trailer of edition 1 but for the
+    /// edition.
+    fn ending_as_first(&self, length: usize) -> Vec<u8> {
+        let row = PackRow::new(6, &["", ""]);
+        let area = length - FIRST.trailer;
+        let draft = PackDraft {
+            edition: FIRST,
+            rows: vec![row; area / 3],
+            points: Vec::new(),
+            outward: self.0.outward.clone(),
+        };
+        let mut pack = draft.body();
+        pack.resize(area, 0);
+        pack.extend(draft.trailer(FIRST, area, area));
+        pack[length - 1] = self.0.edition.number;
         pack
     }
 
@@ -372,5 +427,64 @@ impl Full {
             organised("organisation row with key zero", 2, Some(8)),
             organised("nameless row with key zero", 2, Some(9)),
         ]
+    }
+
+    /// Step 4: counts of one sector, where the edition has them.
+    fn damaged_counts(&self) -> Vec<DamagedPack> {
+        if !self.0.edition.has_counts() {
+            return Vec::new();
+        }
+        let mut packs = Vec::new();
+        for digit in 0..10 {
+            for (words, added) in [
+                ("one more", 1),
+                ("one less", u32::MAX),
+                ("256 more", 256),
+                ("2^24 more", 1 << 24),
+            ] {
+                let added_to = |counts: &mut [u32; 10]| {
+                    counts[digit] = counts[digit].wrapping_add(added);
+                };
+                let clause = format!("count {words} in sector {digit}");
+                packs.push(self.damaged(&clause, 4, self.recounted(added_to)));
+            }
+        }
+        let other_digit = self.overwritten(self.0.points_start() + 4, b"8");
+        packs.push(self.damaged("point in another sector", 4, other_digit));
+        packs
+    }
+
+    /// Step 4: counts that together are still the points, and all of them at once.
+    fn moved_counts(&self) -> Vec<DamagedPack> {
+        if !self.0.edition.has_counts() {
+            return Vec::new();
+        }
+        let all =
+            |clause, change: fn(&mut [u32; 10])| self.damaged(clause, 4, self.recounted(change));
+        let mut packs = vec![
+            all("counts all zero", |counts| counts.fill(0)),
+            all("counts one sector on", |counts| counts.rotate_right(1)),
+            all("counts from sector 9 to 0", |counts| counts.reverse()),
+            all("counts least significant byte first", |counts| {
+                *counts = counts.map(u32::swap_bytes);
+            }),
+        ];
+        for (from, to) in (0..100).map(|pair| (pair / 10, pair % 10)) {
+            let moved = |counts: &mut [u32; 10]| {
+                counts[from] = counts[from].wrapping_sub(1);
+                counts[to] = counts[to].wrapping_add(1);
+            };
+            if from != to {
+                let clause = format!("one counted in sector {to} and not in {from}");
+                packs.push(self.damaged(&clause, 4, self.recounted(moved)));
+            }
+            let counts = self.0.counts();
+            if from < to && counts[from] != counts[to] {
+                let clause = format!("counts of sectors {from} and {to} changed over");
+                let pack = self.recounted(|counts| counts.swap(from, to));
+                packs.push(self.damaged(&clause, 4, pack));
+            }
+        }
+        packs
     }
 }

@@ -1,12 +1,18 @@
 use super::texts::{any_text, organisation, place, po_box, premises};
-use super::{inward, outward, padded, suffix, Edition, Rng, EDITIONS, FIRST};
+use super::{inward, outward, padded, suffix, Edition, Rng, EDITIONS, FIRST, SECOND};
 
-/// Document 01's pack, of 129 bytes in edition 1 and of 131 in edition 2: its
-/// rows, its point and its trailer.
+/// The counts of document 01's pack: nine sectors without a point, and the last
+/// with one.
+const WORKED_COUNTS: &[u8] = b"\0\0\0\0\0\0\0\0\0\0\0\0\0\0\0\0\0\0\0\0\
+    \0\0\0\0\0\0\0\0\0\0\0\0\0\0\0\0\0\0\0\x01";
+
+/// Document 01's pack, of 129 bytes in edition 1, of 131 in edition 2 and of 171
+/// in edition 3: its rows, its point and its trailer.
 pub fn worked_pack(edition: Edition) -> Vec<u8> {
-    let (suffix, length): (&[u8], u8) = match edition {
-        FIRST => (b"", 0x81),
-        _ => (b"1A", 0x83),
+    let (suffix, length, counts): (&[u8], u8, &[u8]) = match edition {
+        FIRST => (b"", 0x81, b""),
+        SECOND => (b"1A", 0x83, b""),
+        _ => (b"1A", 0xab, WORKED_COUNTS),
     };
     let rows: &[u8] = b"\x01\x0cHARTWELL BAY\x00\x00\
         \x02\x06QUARRY\
@@ -18,7 +24,8 @@ pub fn worked_pack(edition: Edition) -> Vec<u8> {
         \0\0\0\x1e\0\0\0\x27\xff\xff\xff\xff";
     let trailer: &[u8] = b"\0\0\0\x05\0\0\0\x33\0\0\0\x01AB1 \0\0\0";
     let point = [b"AB1 9ZZ", suffix, rest].concat();
-    [rows, &point, trailer, &[length, edition.number]].concat()
+    let end = [&[length], counts, &[edition.number]].concat();
+    [rows, &point, trailer, &end].concat()
 }
 
 /// A row of a pack, as it is written.
@@ -112,21 +119,49 @@ impl PackDraft {
 
     /// The pack.
     pub fn bytes(&self) -> Vec<u8> {
-        let offsets = self.offsets();
-        let mut pack: Vec<u8> = self.rows.iter().flat_map(PackRow::bytes).collect();
-        for point in &self.points {
-            pack.extend(point.bytes(self.edition, &offsets));
-        }
-        let length = (pack.len() + self.edition.trailer) as u32;
-        pack.extend((self.rows.len() as u32).to_be_bytes());
-        pack.extend((self.points_start() as u32).to_be_bytes());
-        pack.extend((self.points.len() as u32).to_be_bytes());
-        pack.extend(&self.outward);
-        pack.extend(length.to_be_bytes());
-        pack.push(self.edition.number);
+        let mut pack = self.body();
+        let trailer = self.trailer(self.edition, pack.len(), self.points_start());
+        pack.extend(trailer);
         pack
     }
+
+    /// The pack without its trailer.
+    pub(super) fn body(&self) -> Vec<u8> {
+        let offsets = self.offsets();
+        let mut body: Vec<u8> = self.rows.iter().flat_map(PackRow::bytes).collect();
+        for point in &self.points {
+            body.extend(point.bytes(self.edition, &offsets));
+        }
+        body
+    }
+
+    /// The trailer of an edition behind a body of so many bytes, in which the
+    /// points start there.
+    pub(super) fn trailer(&self, edition: Edition, body: usize, points_start: usize) -> Vec<u8> {
+        let length = (body + edition.trailer) as u32;
+        let mut trailer = (self.rows.len() as u32).to_be_bytes().to_vec();
+        trailer.extend((points_start as u32).to_be_bytes());
+        trailer.extend((self.points.len() as u32).to_be_bytes());
+        trailer.extend(&self.outward);
+        trailer.extend(length.to_be_bytes());
+        if edition.has_counts() {
+            trailer.extend(self.counts().map(u32::to_be_bytes).concat());
+        }
+        trailer.push(edition.number);
+        trailer
+    }
+
+    /// How many points each sector has: those whose inward code begins with its
+    /// digit.
+    pub fn counts(&self) -> [u32; 10] {
+        DIGITS.map(|digit| {
+            let here = |point: &&PackPoint| point.inward.first() == Some(&digit);
+            self.points.iter().filter(here).count() as u32
+        })
+    }
 }
+
+const DIGITS: [u8; 10] = *b"0123456789";
 
 /// A random pack that opens, of any edition and of at most so many rows and
 /// points. It may have what no building gives: rows that no point uses, and equal
@@ -245,8 +280,8 @@ fn full_rows() -> Vec<PackRow> {
 }
 
 /// A pack of an edition that opens and that has all: rows of every type with
-/// every text, a small user with all eight rows, a large user without name, a
-/// small user without organisation.
+/// every text, a small user with all eight rows, a large user without name in a
+/// sector of its own, a small user without organisation.
 pub fn full_draft(edition: Edition) -> PackDraft {
     let small_user = PackPoint {
         outward: b"AB1 ".to_vec(),
@@ -261,6 +296,7 @@ pub fn full_draft(edition: Edition) -> PackDraft {
         rows: [0, 2, 4, 3, 5, 6, 7, 8].map(Some),
     };
     let large_user = PackPoint {
+        inward: b"0AA".to_vec(),
         suffix: b"0A".to_vec(),
         postcode_type: b'L',
         organisation_key: 0,

@@ -5,7 +5,7 @@ use paper::mainfile::{
     build, check, code_label, code_labels, code_list, codes, label, labels, list, live, views, Set,
 };
 use paper::make::{padded, worked_pair, MainSet, Organisation, Pair, View};
-use paper::{open, pack_label, pack_suffix, packed_run, Refusal, Run};
+use paper::{open, pack_label, pack_suffix, packed_run, sector, Refusal, Run};
 
 /// The seven files.
 fn files() -> [Vec<u8>; 7] {
@@ -294,8 +294,10 @@ fn expected_pack() -> Vec<u8> {
     pack.extend(point(b"1AL", [2, 7], 0, b"70    ", town(51)));
     pack.extend(point(b"1BS", [3, 5], 0, b"      ", town(54)));
     pack.extend(point(b"9ZS", [4, 5], 3, b"      ", town(70)));
-    pack.extend(b"\0\0\0\x08\0\0\0\x56\0\0\0\x04AB1 \0\0\x01\x57\x02");
-    assert_eq!(pack.len(), 86 + 4 * 59 + 21);
+    pack.extend(b"\0\0\0\x08\0\0\0\x56\0\0\0\x04AB1 \0\0\x01\x7f");
+    pack.extend([0; 36]);
+    pack.extend(b"\0\0\0\x04\x03");
+    assert_eq!(pack.len(), 86 + 4 * 59 + 61);
     pack
 }
 
@@ -322,6 +324,7 @@ fn the_pack_has_these_bytes() {
     let (of_1a, of_1b, of_9z) = (Ok(0x3141), Ok(0x3142), Ok(0x395a));
     let none = Err(Refusal::new(7, 0));
     assert_eq!(suffixes, [of_1a, of_1a, of_1b, of_9z, none]);
+    assert_eq!([8, 9].map(|digit| sector(&expected, digit)), [Ok(0), Ok(4)]);
 }
 
 #[test]
@@ -334,6 +337,7 @@ fn building_names_the_view_that_is_refused() {
     };
     assert_eq!(build(set(&files), b"AB10", &mut pack), Err(refused));
     assert_eq!(pack, [9; 400]);
-    assert_eq!(build(set(&files), b"AB2 ", &mut pack), Ok(21));
-    assert_eq!(&pack[..21], b"\0\0\0\0\0\0\0\0\0\0\0\0AB2 \0\0\0\x15\x02");
+    assert_eq!(build(set(&files), b"AB2 ", &mut pack), Ok(61));
+    assert_eq!(&pack[..20], b"\0\0\0\0\0\0\0\0\0\0\0\0AB2 \0\0\0\x3d");
+    assert_eq!((&pack[20..60], pack[60]), (&[0; 40][..], 3));
 }
