@@ -1,9 +1,9 @@
 //! The packs in `samples/packs`, of each edition the same: handsets have packs of
-//! edition 1, so that whatever editions come, these have to open.
+//! older editions, so that whatever editions come, these have to open.
 
 use paper::make::samples::{kept, labelled, packs, KEPT};
-use paper::make::{worked_pair, Edition, Pair, BUILT, EDITIONS, FIRST};
-use paper::{build, open, pack_list, pack_suffix, Refusal};
+use paper::make::{worked_pair, Edition, Pair, BUILT, EDITIONS, FIRST, SECOND};
+use paper::{build, open, pack_list, pack_suffix, sector, Refusal};
 use std::fs;
 
 /// The page of all packs of an edition: a line for each, and what `of` says of it.
@@ -37,15 +37,17 @@ fn kept_packs_of_each_edition_print_the_same_labels() {
 
 #[test]
 fn kept_packs_have_their_suffixes_or_are_refused_with_13() {
-    let suffixes = page(BUILT, |pack, points| {
-        let line = |k| {
-            let suffix = pack_suffix(pack, k).expect("a suffix") as u16;
-            let suffix = suffix.to_be_bytes().map(char::from);
-            format!("point {k} {}{}\n", suffix[0], suffix[1])
-        };
-        (1..=points).map(line).collect()
-    });
-    assert_eq!(suffixes, text_of("suffixes.txt"));
+    for edition in [SECOND, BUILT] {
+        let suffixes = page(edition, |pack, points| {
+            let line = |k| {
+                let suffix = pack_suffix(pack, k).expect("a suffix") as u16;
+                let suffix = suffix.to_be_bytes().map(char::from);
+                format!("point {k} {}{}\n", suffix[0], suffix[1])
+            };
+            (1..=points).map(line).collect()
+        });
+        assert_eq!(suffixes, text_of("suffixes.txt"), "{edition:?}");
+    }
     page(FIRST, |pack, points| {
         let refused = |k| assert_eq!(pack_suffix(pack, k), Err(Refusal::new(13, 0)));
         (1..=points).for_each(refused);
@@ -53,22 +55,49 @@ fn kept_packs_have_their_suffixes_or_are_refused_with_13() {
     });
 }
 
-/// A pack without the suffix of each point, as one of edition 1.
-fn without_suffixes(pack: &[u8]) -> Vec<u8> {
+#[test]
+fn kept_packs_of_each_edition_have_the_same_sectors() {
+    for edition in EDITIONS {
+        let sectors = page(edition, |pack, points| {
+            let counts = (0..10).map(|digit| sector(pack, digit).expect("a sector"));
+            assert_eq!(counts.clone().sum::<u64>(), points);
+            let line = |(digit, count)| format!("sector {digit}: {count}\n");
+            (0..10).zip(counts).map(line).collect()
+        });
+        assert_eq!(sectors, text_of("sectors.txt"), "{edition:?}");
+    }
+}
+
+/// A pack as one of another edition whose trailer is shorter: its body, what the
+/// trailer says up to the length, the length, the edition.
+fn ended(body: &[u8], trailer: &[u8], edition: Edition) -> Vec<u8> {
+    let length = (body.len() + edition.trailer) as u32;
+    let end = [&length.to_be_bytes()[..], &[edition.number]].concat();
+    [body, &trailer[..16], &end].concat()
+}
+
+/// A pack without the counts of its sectors, as one of edition 2.
+fn without_counts(pack: &[u8]) -> Vec<u8> {
     let (body, trailer) = pack.split_at(pack.len() - BUILT.trailer);
+    ended(body, trailer, SECOND)
+}
+
+/// A pack of edition 2 without the suffix of each point, as one of edition 1.
+fn without_suffixes(pack: &[u8]) -> Vec<u8> {
+    let (body, trailer) = pack.split_at(pack.len() - SECOND.trailer);
     let start = u32::from_be_bytes(trailer[4..8].try_into().expect("4 bytes"));
     let (rows, points) = body.split_at(start as usize);
     let bare = |point: &[u8]| [&point[..7], &point[9..]].concat();
-    let points: Vec<u8> = points.chunks(BUILT.point).flat_map(bare).collect();
-    let length = (rows.len() + points.len() + FIRST.trailer) as u32;
-    let end = [&length.to_be_bytes()[..], &[FIRST.number]].concat();
-    [rows, &points, &trailer[..16], &end].concat()
+    let points: Vec<u8> = points.chunks(SECOND.point).flat_map(bare).collect();
+    ended(&[rows, &points].concat(), trailer, FIRST)
 }
 
 #[test]
-fn without_its_suffixes_each_is_the_one_of_edition_1() {
+fn without_what_an_edition_added_each_is_the_one_of_the_edition_before() {
     for name in KEPT {
-        let bare = without_suffixes(&kept(BUILT, name));
+        let bare = without_counts(&kept(BUILT, name));
+        assert_eq!(bare, kept(SECOND, name), "{name}");
+        let bare = without_suffixes(&bare);
         assert_eq!(bare, kept(FIRST, name), "{name}");
     }
 }
