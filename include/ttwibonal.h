@@ -7,10 +7,10 @@
  * memory, or opens a file. What a call writes (`out`, `*bytes`) may overlap nothing else that it is lent.
  *
  * Stack: a call on files takes less than 2,048 bytes, labels and listings from files less than 4,096, opening a pack,
- * labels, listings or a suffix from a pack less than 80 KiB, building a pack or listing codes less than 192 KiB. A call on
- * a Mainfile set takes what that call on a pair of files does, but labels and listings from a set take less than 6,144
- * bytes, and building a pack from a set takes less than 1 MiB. A thread that makes such a call needs its stack sized for
- * that.
+ * labels, listings, a suffix or a sector from a pack less than 80 KiB, building a pack or listing codes less than 192 KiB.
+ * A call on a Mainfile set takes what that call on a pair of files does, but labels and listings from a set take less than
+ * 6,144 bytes, and building a pack from a set takes less than 1 MiB. A thread that makes such a call needs its stack sized
+ * for that.
  *
  * Each call answers one number. Take it apart with the macros below and never compare whole words: later calls fill bits
  * that are 0 today.
@@ -64,7 +64,8 @@ enum ttw_refused {
     TTW_REFUSED_ROOM = 10,
     TTW_REFUSED_PACK = 11,
     TTW_REFUSED_CODE = 12,
-    TTW_REFUSED_SUFFIX = 13
+    TTW_REFUSED_SUFFIX = 13,
+    TTW_REFUSED_DIGIT = 27
 };
 
 /* Refusals of a file, in the order in which they are tried (the detail is the record's number, counted from 1):
@@ -186,8 +187,9 @@ uint64_t ttw_code_list(const uint8_t *table, size_t table_len, const uint8_t *po
 
 /* Packs. A pack holds the labels of the live views in one outward code, and needs no file beside it: its k-th point has
  * the label that ttw_code_label gives for the k-th live view of the files that it was built from. Its last byte is its
- * edition. Packs of edition 2 are built, whose points have a delivery point suffix too; those of edition 1, which have
- * none, open and print the same labels.
+ * edition. Packs of edition 3 are built, whose points have a delivery point suffix too, and which say how many points
+ * each sector has. Those of editions 1 and 2 open and print the same labels: in edition 2 the sectors are counted, and
+ * edition 1 has no suffix either.
  *
  *     uint64_t answer = ttw_pack_label(pack, pack_len, 1, label, sizeof label);
  *     if (TTW_REFUSAL(answer) == 0)
@@ -195,7 +197,7 @@ uint64_t ttw_code_list(const uint8_t *table, size_t table_len, const uint8_t *po
  */
 
 /* The pack of an outward code, written into `out`: how many bytes were written. The code is 4 bytes, padded with spaces;
- * one with no live view gives a pack of 21 bytes. A refused call leaves all of `out` as it was, an accepted one
+ * one with no live view gives a pack of 61 bytes. A refused call leaves all of `out` as it was, an accepted one
  * everything behind the pack.
  * Refusals, in this order: the table file's (file 1), the point file's (file 2), 12 the code is malformed, then
  *   8 or 9 as for labels, of the first live view in the code that has one; the second detail is the view's number
@@ -205,7 +207,7 @@ uint64_t ttw_build(const uint8_t *table, size_t table_len, const uint8_t *points
                    const uint8_t *code, size_t code_len, uint8_t *out, size_t out_len);
 
 /* How many points a pack has. Refusal: 11, these bytes are no pack (the first step that fails: 1 trailer, 2 rows,
- * 3 points). */
+ * 3 points, 4 the counts of the sectors). */
 uint64_t ttw_pack(const uint8_t *pack, size_t pack_len);
 
 /* The label of the k-th point of a pack, k counted from 1, printed into `out` as by the label calls: how many bytes were
@@ -222,6 +224,16 @@ uint64_t ttw_pack_label(const uint8_t *pack, size_t pack_len, uint64_t k, uint8_
  *         printf("%c%c\n", (int)(TTW_VALUE(answer) / 256), (int)(TTW_VALUE(answer) % 256));
  */
 uint64_t ttw_pack_suffix(const uint8_t *pack, size_t pack_len, uint64_t k);
+
+/* How many points of a pack are in a sector, those whose inward code begins with that digit: of a pack of AB1, digit 9
+ * is sector AB1 9. The digit is a number, 0 to 9, and no character. A pack of edition 3 says it; of an older one the
+ * points are counted. Refusals, in this order: 11 as above, 27 the digit is above 9 (detail 0).
+ *
+ *     uint64_t answer = ttw_sector(pack, pack_len, 9);
+ *     if (TTW_REFUSAL(answer) == 0)
+ *         printf("%lu points\n", (unsigned long)TTW_VALUE(answer));
+ */
+uint64_t ttw_sector(const uint8_t *pack, size_t pack_len, uint64_t digit);
 
 /* The labels of `count` points of a pack from point `first` on, counted from 1: how many labels were written. It is a
  * run of labels as above, refused as a whole with 11, and stops with 7 or 10. */

@@ -15,7 +15,7 @@ const ROOM: u8 = 10;
 /// Why a call was refused.
 #[derive(Clone, Copy, Debug, PartialEq, Eq)]
 pub struct Refusal {
-    /// 1 to 13.
+    /// 1 to 13, or 27.
     pub number: u8,
     /// The file to blame: 1 the table file, 2 the point file; of a set 1 to 7;
     /// 0 no file.
@@ -124,6 +124,11 @@ pub fn pack_label(pack: &[u8], k: u64) -> Result<Vec<u8>, Refusal> {
 pub fn pack_suffix(pack: &[u8], k: u64) -> Result<String, Refusal> {
     let suffix = answer(calls::pack_suffix(pack, k))? as u16;
     Ok(suffix.to_be_bytes().map(char::from).iter().collect())
+}
+
+/// How many points of a pack are in the sector of an inward digit, 0 to 9.
+pub fn sector(pack: &[u8], digit: u64) -> Result<u64, Refusal> {
+    answer(calls::sector(pack, digit))
 }
 
 /// Runs and listings: so many from `first` on, written into `out`.

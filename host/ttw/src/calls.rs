@@ -95,6 +95,9 @@ calls! {
     /// second.
     pack_suffix = ttw_pack_suffix(pack) (k) () ();
 
+    /// How many points of a pack are in the sector of an inward digit, 0 to 9.
+    sector = ttw_sector(pack) (digit) () ();
+
     /// The labels of so many points from `first` on, printed into `out` one behind
     /// the other; `bytes` becomes the bytes that they take.
     pack_labels = ttw_pack_labels(pack) (first, count) (out) (bytes);

@@ -87,6 +87,7 @@ fn reason(refusal: &Refusal, files: &Files) -> String {
         11 => damaged(detail).to_string(),
         12 => "not an outward code, such as AB1 or EC1N in capitals".to_string(),
         13 => "a pack of this edition has no suffix".to_string(),
+        27 => "there is no inward digit above 9".to_string(),
         number => format!("refused with {number}, detail {detail}"),
     }
 }
@@ -141,7 +142,8 @@ fn damaged(step: u64) -> &'static str {
     match step {
         1 => "not a pack, or its end is damaged",
         2 => "the rows are damaged",
-        _ => "the points are damaged",
+        3 => "the points are damaged",
+        _ => "the counts of the sectors are damaged",
     }
 }
 
