@@ -1,6 +1,6 @@
 /* What a handset does with a pack: loads it, prints the label of a point or of many, or says why it cannot.
  *
- *     handset AB1.pack        how many points the pack has
+ *     handset AB1.pack        how many points the pack has, and how many in each sector
  *     handset AB1.pack 3      the label of point 3, and its suffix
  *     handset AB1.pack 3 40   the labels of 40 points, from point 3 on
  *
@@ -68,19 +68,35 @@ static void complain(const char *path, const char *why)
 /* The refusals that a handset can meet, in words for its screen. */
 static int say_refusal(uint64_t answer)
 {
-    static const char *const parts[] = {"pack", "end", "rows", "points"};
+    static const char *const parts[] = {"end", "rows", "points", "counts"};
 
     switch (TTW_REFUSAL(answer)) {
     case TTW_REFUSED_NUMBER:
         puts("This pack has no point of that number.");
         break;
     case TTW_REFUSED_PACK:
-        printf("This pack is damaged: its %s. Load it again.\n", parts[TTW_DETAIL(answer) & 3]);
+        printf("This pack is damaged: its %s. Load it again.\n", parts[(TTW_DETAIL(answer) - 1) & 3]);
         break;
     default:
         printf("Refused with %" PRIu64 ".\n", TTW_REFUSAL(answer));
     }
     return REFUSED;
+}
+
+/* The sectors that have points: of a pack of AB1, sector 9 is AB1 9. */
+static int say_sectors(const struct pack *pack)
+{
+    uint64_t digit;
+
+    for (digit = 0; digit <= 9; digit++) {
+        uint64_t answer = ttw_sector(pack->bytes, pack->length, digit);
+
+        if (TTW_REFUSAL(answer) != 0)
+            return say_refusal(answer);
+        if (TTW_VALUE(answer) != 0)
+            printf("sector %" PRIu64 ": %" PRIu64 "\n", digit, TTW_VALUE(answer));
+    }
+    return DONE;
 }
 
 static int say_points(const struct pack *pack)
@@ -90,7 +106,7 @@ static int say_points(const struct pack *pack)
     if (TTW_REFUSAL(answer) != 0)
         return say_refusal(answer);
     printf("points: %" PRIu64 "\n", TTW_VALUE(answer));
-    return DONE;
+    return say_sectors(pack);
 }
 
 /* The suffix that the grid form asks for. A pack of edition 1 has none, and its labels are as good without. */

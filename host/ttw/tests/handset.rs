@@ -3,7 +3,9 @@
 
 mod support;
 
-use paper::make::{damaged_packs, exact_pair, worked_pack, worked_pair, Rng, FIRST};
+use paper::make::{
+    damaged_packs, exact_pair, full_draft, worked_pack, worked_pair, Rng, BUILT, FIRST,
+};
 use std::path::Path;
 use std::process::Command;
 use support::{compiled_handset, is_emulated, is_installed, run, Folder, Run};
@@ -14,7 +16,7 @@ const LABEL: &str = "ATTIC FLAT\n110-114 QUARRY LANE\nHARTWELL BAY\nAB1 9ZZ\n";
 /// A folder with the packs that are tried.
 fn packs() -> Folder {
     let folder = Folder::with_pack(&worked_pair());
-    for step in 1..=3 {
+    for step in 1..=4 {
         let packs = damaged_packs();
         let damaged = packs.iter().find(|damaged| damaged.step == step);
         let pack = &damaged.expect("a pack for each step").pack;
@@ -22,18 +24,20 @@ fn packs() -> Folder {
     }
     folder.put("empty.pack", b"");
     folder.put("older.pack", &worked_pack(FIRST));
+    folder.put("full.pack", &full_draft(BUILT).bytes());
     folder
 }
 
 /// What the program is asked, its exit status and what it prints.
-const ASKED: [(&[&str], i32, &str); 16] = [
-    (&["AB1.pack"], 0, "points: 1\n"),
+const ASKED: [(&[&str], i32, &str); 18] = [
+    (&["AB1.pack"], 0, "points: 1\nsector 9: 1\n"),
+    (&["full.pack"], 0, "points: 3\nsector 0: 1\nsector 9: 2\n"),
     (
         &["AB1.pack", "1"],
         0,
         "ATTIC FLAT\n110-114 QUARRY LANE\nHARTWELL BAY\nAB1 9ZZ\nsuffix: 1A\n",
     ),
-    (&["older.pack"], 0, "points: 1\n"),
+    (&["older.pack"], 0, "points: 1\nsector 9: 1\n"),
     (
         &["older.pack", "1"],
         0,
@@ -88,6 +92,11 @@ const ASKED: [(&[&str], i32, &str); 16] = [
         &["damaged3.pack", "1"],
         1,
         "This pack is damaged: its points. Load it again.\n",
+    ),
+    (
+        &["damaged4.pack"],
+        1,
+        "This pack is damaged: its counts. Load it again.\n",
     ),
 ];
 
