@@ -49,11 +49,12 @@ impl Takes {
 }
 
 /// Every option.
-pub const OPTIONS: [(&str, Takes); 9] = [
+pub const OPTIONS: [(&str, Takes); 10] = [
     ("--help", Takes::NothingAnywhere),
     ("--version", Takes::NothingAnywhere),
     ("--all", Takes::Nothing),
     ("--suffix", Takes::Nothing),
+    ("--sectors", Takes::Nothing),
     ("--view", Takes::Number),
     ("--nth", Takes::Number),
     ("--count", Takes::Number),
@@ -71,6 +72,7 @@ pub struct Arguments {
     pub count: Option<u64>,
     pub all: bool,
     pub suffix: bool,
+    pub sectors: bool,
     pub out: Option<PathBuf>,
     pub help: bool,
     pub version: bool,
@@ -82,6 +84,7 @@ impl Arguments {
         let given = [
             ("--all", self.all),
             ("--suffix", self.suffix),
+            ("--sectors", self.sectors),
             ("--view", self.view.is_some()),
             ("--nth", self.nth.is_some()),
             ("--count", self.count.is_some()),
@@ -154,6 +157,7 @@ fn set_mark(arguments: &mut Arguments, name: &str) -> Result<(), Stop> {
         "--help" => &mut arguments.help,
         "--version" => &mut arguments.version,
         "--suffix" => &mut arguments.suffix,
+        "--sectors" => &mut arguments.sectors,
         _ => &mut arguments.all,
     };
     *mark = true;

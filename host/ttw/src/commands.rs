@@ -338,8 +338,12 @@ impl Packs<'_> {
     }
 }
 
-/// `ttw show`: the labels of a pack.
+/// `ttw show`: the labels of a pack, or the counts of its sectors.
 pub fn show(given: &Arguments) -> Outcome {
+    if given.sectors && (given.nth.is_some() || given.count.is_some() || given.suffix) {
+        let words = "--sectors stands alone, without --nth, --count and --suffix";
+        return Err(Stop::could_not(words.to_string()));
+    }
     if given.count.is_some() && given.nth.is_none() {
         let words = "--count needs --nth, to count from";
         return Err(Stop::could_not(words.to_string()));
@@ -347,6 +351,9 @@ pub fn show(given: &Arguments) -> Outcome {
     send_to(given.out.as_deref());
     let pack = read_pack(&given.files[0])?;
     let points = ask::pack(&pack).map_err(|why| Stop::Refused(words(&why, "pack")))?;
+    if given.sectors {
+        return show_sectors(&pack);
+    }
     if given.suffix {
         return show_suffixes(&pack, points, given);
     }
@@ -398,4 +405,16 @@ fn show_suffixes(pack: &[u8], points: u64, given: &Arguments) -> Outcome {
         tell(&format!("labels printed: {points}, refused: 0"));
     }
     Ok(Ended::Done)
+}
+
+/// `ttw show --sectors`: how many points each sector has.
+fn show_sectors(pack: &[u8]) -> Outcome {
+    let mut lines = String::new();
+    for digit in 0..=9 {
+        let subject = format!("sector {digit}");
+        let refused = |why| Stop::Refused(words(&why, &subject));
+        let points = ask::sector(pack, digit).map_err(refused)?;
+        lines += &format!("{subject}: {points}\n");
+    }
+    print(lines)
 }

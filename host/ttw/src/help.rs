@@ -9,7 +9,7 @@ ttw prints labels from Royal Mail's files and cuts packs for handsets.
   ttw labels CHANGES1 CHANGES2 [--view N | --code AB1 [--nth K]]
              [--count N] [--out FILE]
   ttw pack   CHANGES1 CHANGES2 (--code AB1 | --all) --out FOLDER
-  ttw show   PACK [--nth K [--count N]] [--suffix] [--out FILE]
+  ttw show   PACK [--nth K [--count N]] [--suffix | --sectors] [--out FILE]
   ttw main   check|codes|labels|pack FILES.. [OPTIONS]
                                             the same of a Mainfile set
 
@@ -79,7 +79,7 @@ replaces an older one has its mode and, where this may be given, its owner.
 ";
 
 pub const SHOW: &str = "\
-ttw show PACK [--nth K [--count N]] [--suffix] [--out FILE]
+ttw show PACK [--nth K [--count N]] [--suffix | --sectors] [--out FILE]
 
 Checks a pack and prints the labels of its points, numbered from 1. Where - is
 given for the pack, it is read from standard input.
@@ -87,6 +87,8 @@ given for the pack, it is read from standard input.
   --nth K      the label of point K alone
   --count N    with --nth: so many labels from there on, one behind the other
   --suffix     the delivery point suffix too, in a line before each label
+  --sectors    how many points each sector has, and no label: ten lines, one for
+               each inward digit; stands alone
   --out FILE   into a file, not to standard output: see ttw help labels
 
 A pack of edition 1 has no suffixes, and with --suffix its first point is
@@ -145,9 +147,11 @@ const REFUSALS: &str = "\
     7 sub building; in a Mainfile set a key has no row in its file, and 8: an
     address has no row for the organisation that it needs
 10  the room is too short
-11  a pack is damaged: 1 its end, 2 its rows, 3 its points
+11  a pack is damaged: 1 its end, 2 its rows, 3 its points, 4 the counts of its
+    sectors
 12  not an outward code
 13  a pack of this edition has no suffix
+27  an inward digit is above 9
 ";
 
 const STATUS: &str = "\

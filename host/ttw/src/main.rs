@@ -73,7 +73,7 @@ const COMMANDS: [Command; 6] = [
         name: "show",
         verbs: &[],
         files: Some(1),
-        options: &["--nth", "--count", "--suffix", "--out"],
+        options: &["--nth", "--count", "--suffix", "--sectors", "--out"],
         help: help::SHOW,
         run: commands::show,
     },

@@ -201,7 +201,7 @@ fn a_pack_longer_than_the_first_room_is_whole() {
 }
 
 #[test]
-fn a_code_without_live_views_gives_the_pack_of_21_bytes() {
+fn a_code_without_live_views_gives_the_pack_of_61_bytes() {
     let folder = Folder::with_pair(&worked_pair());
     let arguments = [
         "pack", "changes1", "changes2", "--code", "EC1N", "--out", ".",
@@ -209,7 +209,7 @@ fn a_code_without_live_views_gives_the_pack_of_21_bytes() {
     folder
         .ttw(&arguments)
         .only_tells(0, "packs written: 1, codes refused: 0");
-    assert_eq!(folder.read("EC1N.pack").len(), 21);
+    assert_eq!(folder.read("EC1N.pack").len(), 61);
     folder.ttw(&["show", "EC1N.pack"]).prints("");
 }
 

@@ -282,8 +282,10 @@ fn damaged_packs_name_the_step() {
     }
 }
 
+const SECTORS_ALONE: &str = "--sectors stands alone, without --nth, --count and --suffix";
+
 /// Wrong usage, and what is told about it.
-const MISUSES: [(&[&str], &str); 22] = [
+const MISUSES: [(&[&str], &str); 26] = [
     (&[], "no command is given; see: ttw help"),
     (&["chekc"], "there is no command \"chekc\"; see: ttw help"),
     (&["help", "me"], "there is no help on \"me\"; see: ttw help"),
@@ -304,6 +306,10 @@ const MISUSES: [(&[&str], &str); 22] = [
         "there is no option --suffix here",
     ),
     (&["show", "a", "--suffix=1"], "--suffix takes no value"),
+    (&["show", "a", "--sectors=9"], "--sectors takes no value"),
+    (&["show", "a", "--sectors", "--nth", "1"], SECTORS_ALONE),
+    (&["show", "a", "--count", "1", "--sectors"], SECTORS_ALONE),
+    (&["show", "a", "--suffix", "--sectors"], SECTORS_ALONE),
     (&["labels", "a", "b", "--nth", "1"], "--nth needs --code"),
     (
         &["labels", "a", "b", "--count", "3"],
@@ -411,7 +417,7 @@ fn a_pack_that_cannot_be_written_does_not_stop_the_others() {
     assert_eq!((told[3], told.len(), run.status), (counts, 4, Some(2)));
     assert_eq!(folder.names(".").len(), 2 + 8, "nothing else stays behind");
     for n in [2, 3, 4, 6, 7, 9] {
-        assert!(folder.read(&format!("A{n}.pack")).len() > 21, "A{n}");
+        assert!(folder.read(&format!("A{n}.pack")).len() > 61, "A{n}");
     }
 }
 

@@ -209,7 +209,7 @@ type Words = fn(&Refusal, &str) -> String;
 
 /// Each message of docs/REFUSALS.md, as the command makes it.
 fn messages() -> Vec<String> {
-    let all: [(Words, Refusal, &str); 23] = [
+    let all: [(Words, Refusal, &str); 25] = [
         (words, refusal(1, 1, 0, 0), "files"),
         (main_words, refusal(1, 4, 0, 0), "files"),
         (words, refusal(2, 1, 0, 1), "files"),
@@ -227,12 +227,14 @@ fn messages() -> Vec<String> {
         (words, refusal(9, 0, 35, 6), "code AB1"),
         (main_words, refusal(9, 0, 0, 2), "view 40"),
         (main_words, refusal(9, 0, 0, 8), "view 46"),
-        (words, refusal(10, 0, 0, 131), "AB1"),
+        (words, refusal(10, 0, 0, 171), "AB1"),
         (words, refusal(11, 0, 0, 1), "pack"),
         (words, refusal(11, 0, 0, 2), "pack"),
         (words, refusal(11, 0, 0, 3), "pack"),
+        (words, refusal(11, 0, 0, 4), "pack"),
         (words, refusal(12, 0, 0, 0), "code ab1"),
         (words, refusal(13, 0, 0, 0), "point 1"),
+        (words, refusal(27, 0, 0, 0), "sector 10"),
     ];
     all.map(|(words, why, subject)| words(&why, subject))
         .to_vec()
@@ -250,7 +252,8 @@ fn the_page_of_refusals_has_the_words_that_a_user_sees() {
         .lines()
         .filter_map(|line| line.strip_prefix("## ")?.split(':').next())
         .collect();
-    let numbers: Vec<String> = (1..=13).map(|number: u8| number.to_string()).collect();
+    let numbers = (1..=13).chain([27]);
+    let numbers: Vec<String> = numbers.map(|number: u8| number.to_string()).collect();
     assert_eq!(headings, numbers);
 }
 

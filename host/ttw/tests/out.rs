@@ -201,7 +201,7 @@ fn nothing_but_a_plain_file_is_replaced() {
 #[test]
 fn a_pack_comes_on_standard_input() {
     let folder = desk();
-    for options in ["", "--nth 1", "--nth 1 --count 1", "--suffix"] {
+    for options in ["", "--nth 1", "--nth 1 --count 1", "--suffix", "--sectors"] {
         let shown = folder.shell(&format!("\"$TTW\" show AB1.pack {options}"));
         for line in [
             format!("\"$TTW\" show - {options} <AB1.pack"),

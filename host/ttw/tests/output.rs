@@ -8,7 +8,7 @@ use std::process::Command;
 use support::faults::Faults;
 use support::{compiled_handset, run, Folder, PRINTING_LABELS};
 
-/// What prints no labels of a pair or a pack, each way once.
+/// What prints no labels of a pair or a pack and no sectors, each way once.
 const PRINTING_OTHERS: [&str; 16] = [
     "check changes1 changes2",
     "codes changes1 changes2",

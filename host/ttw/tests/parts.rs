@@ -27,7 +27,7 @@ fn desk() -> Folder {
 fn cut_alone(folder: &Folder, seen: &Seen) {
     seen.run.only_tells(0, "packs written: 1, codes refused: 0");
     assert_eq!(folder.names("packs"), ["AB1.pack"]);
-    assert_eq!(folder.read("packs/AB1.pack").len(), 131);
+    assert_eq!(folder.read("packs/AB1.pack").len(), 171);
 }
 
 /// Fails unless the run told this and left the older pack alone.
@@ -104,7 +104,7 @@ fn a_link_in_the_place_of_a_part_is_not_followed() {
     let seen = Faults::new(&folder).ttw(&[("FAULTS_PLACE", "link 3")], &CUT);
     seen.run.only_tells(0, "packs written: 1, codes refused: 0");
     assert_eq!(folder.read("packs/victim"), b"someone's");
-    assert_eq!(folder.read("packs/AB1.pack").len(), 131);
+    assert_eq!(folder.read("packs/AB1.pack").len(), 171);
     // The three links that were met are another's, and stay.
     assert_eq!(folder.names("packs").len(), 2 + 3);
     assert_eq!(seen.parts().len(), 4, "{:?}", seen.calls);
@@ -115,7 +115,7 @@ fn a_fifo_in_the_place_of_a_part_does_not_hang() {
     let folder = desk();
     let seen = Faults::new(&folder).ttw(&[("FAULTS_PLACE", "fifo 1")], &CUT);
     seen.run.only_tells(0, "packs written: 1, codes refused: 0");
-    assert_eq!(folder.read("packs/AB1.pack").len(), 131);
+    assert_eq!(folder.read("packs/AB1.pack").len(), 171);
     assert_eq!(seen.parts().len(), 2, "{:?}", seen.calls);
 }
 

@@ -3,7 +3,7 @@
 
 mod support;
 
-use paper::make::{exact_pair, full_draft, worked_pack, worked_pair, Rng, BUILT, FIRST};
+use paper::make::{exact_pair, full_draft, worked_pack, worked_pair, Rng, BUILT, EDITIONS, FIRST};
 use support::Folder;
 
 const LABEL: &str = "ATTIC FLAT\n110-114 QUARRY LANE\nHARTWELL BAY\nAB1 9ZZ\n";
@@ -14,7 +14,7 @@ const NO_POINT: &str = "there is none of that number (refusal 7)";
 fn desk() -> Folder {
     let folder = Folder::with_pack(&worked_pair());
     folder.put("older.pack", &worked_pack(FIRST));
-    for edition in [FIRST, BUILT] {
+    for edition in EDITIONS {
         let mut draft = full_draft(edition);
         draft.points.clear();
         folder.put(&format!("none{}.pack", edition.number), &draft.bytes());
@@ -53,7 +53,7 @@ fn a_pack_of_edition_1_prints_its_labels_and_has_no_suffix() {
     folder
         .ttw(&other)
         .only_tells(1, &format!("point 2: {NO_POINT}"));
-    for pack in ["none1.pack", "none2.pack"] {
+    for pack in ["none1.pack", "none2.pack", "none3.pack"] {
         folder.ttw(&["show", pack, "--suffix"]).prints("");
     }
 }

@@ -25,8 +25,9 @@ pub const TTW: &str = env!("CARGO_BIN_EXE_ttw");
 /// How a run ends in which the one pack could not be written.
 pub const NOT_WRITTEN: &str = "packs written: 0, codes refused: 0, packs not written: 1";
 
-/// Everything that prints labels to their end, each way once, in a folder with a pair and its pack.
-pub const PRINTING_LABELS: [&str; 11] = [
+/// Everything that prints labels of a pair or a pack to their end, or sectors, each way once, in a folder with a pair and
+/// its pack.
+pub const PRINTING_LABELS: [&str; 12] = [
     "labels changes1 changes2",
     "labels changes1 changes2 --code AB1",
     "labels changes1 changes2 --view 1",
@@ -38,6 +39,7 @@ pub const PRINTING_LABELS: [&str; 11] = [
     "show AB1.pack --nth 1 --count 1",
     "show AB1.pack --suffix",
     "show AB1.pack --suffix --nth 1",
+    "show AB1.pack --sectors",
 ];
 
 /// The names of a set's files in its folder, in the set's order.
