@@ -122,6 +122,14 @@ pub fn pack_suffix(pack: &[u8], k: u64) -> u64 {
     same(&format!("suffix of point {k}"), pack, answer, plain)
 }
 
+/// How many points of a pack are in the sector of an inward digit, or the refusal.
+#[track_caller]
+pub fn sector(pack: &[u8], digit: u64) -> u64 {
+    let answer = lent(pack, |pack| calls::sector(pack, digit));
+    let plain = paper::sector(pack, digit);
+    same(&format!("sector {digit}"), pack, answer, plain)
+}
+
 /// The label of the k-th point of a pack that was built from this pair and code. The library has to give the answer and
 /// the buffer that it gives for the k-th live view of the files, beside agreeing with the second program about both.
 #[track_caller]

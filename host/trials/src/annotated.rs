@@ -1,6 +1,6 @@
 //! A pack byte by byte, with what each byte says, for docs/PACK.md.
 
-use paper::make::{worked_pack, worked_pair, Edition, FIRST};
+use paper::make::{worked_pack, worked_pair, Edition, FIRST, SECOND};
 
 /// What stands in a point, in order: how many bytes, and what they say. The suffix stands in none of edition 1.
 const POINT: [(usize, &str); 8] = [
@@ -38,11 +38,11 @@ const ROWS: [(&str, &[&str]); 6] = [
     ("organisation", &["name", "department"]),
 ];
 
-/// Document 01's pack as it is built, and as it stood in edition 1.
-pub fn worked_packs() -> [Vec<u8>; 2] {
+/// Document 01's pack as it is built, and as it stood in editions 2 and 1.
+pub fn worked_packs() -> [Vec<u8>; 3] {
     let pair = worked_pair();
     let built = ttw::ask::build(&pair.table, &pair.points, b"AB1 ", 0).expect("a pack");
-    [built, worked_pack(FIRST)]
+    [built, worked_pack(SECOND), worked_pack(FIRST)]
 }
 
 /// An accepted pack with each of its bytes explained: where it stands, the
@@ -61,7 +61,7 @@ pub fn annotated(pack: &[u8]) -> String {
         page.point(edition);
     }
     page.heading("trailer");
-    page.trailer();
+    page.trailer(edition);
     page.text
 }
 
@@ -138,21 +138,23 @@ impl<'a> Page<'a> {
         }
     }
 
-    fn trailer(&mut self) {
+    fn trailer(&mut self, edition: Edition) {
         for name in ["rows", "points start", "points"] {
-            let (start, bytes) = self.next(4);
-            self.line(start, bytes, &format!("{name}: {}", number(bytes)));
+            self.number(4, name);
         }
         let (start, bytes) = self.next(4);
         let code = String::from_utf8_lossy(bytes);
         self.line(start, bytes, &format!("outward code: `{code}`"));
-        let (start, bytes) = self.next(4);
-        self.line(
-            start,
-            bytes,
-            &format!("bytes of the pack: {}", number(bytes)),
-        );
-        let (start, bytes) = self.next(1);
-        self.line(start, bytes, &format!("edition: {}", bytes[0]));
+        self.number(4, "bytes of the pack");
+        if edition.has_counts() {
+            (0..10).for_each(|digit| self.number(4, &format!("points in sector {digit}")));
+        }
+        self.number(1, "edition");
+    }
+
+    /// A number of so many bytes.
+    fn number(&mut self, length: usize, name: &str) {
+        let (start, bytes) = self.next(length);
+        self.line(start, bytes, &format!("{name}: {}", number(bytes)));
     }
 }

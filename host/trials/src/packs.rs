@@ -24,9 +24,12 @@ pub fn built(pair: &Pair, code: &[u8]) -> Option<Vec<u8>> {
     ttw::ask::build(&pair.table, &pair.points, code, 0).ok()
 }
 
-/// What both programs answer about a pack. Opening it, asking for a label and for a suffix have to give the same 11; the
-/// labels of an accepted pack are asked for with every number and the edge buffers, and so are its suffixes, which are
-/// refused where the label is, or all of them.
+/// Numbers that are no inward digit, also where only some of their bits are read.
+pub const NO_DIGITS: [u64; 6] = [10, 57, 256, 1 << 32, (1 << 32) + 9, u64::MAX];
+
+/// What both programs answer about a pack. Opening it, asking for a label, for a suffix and for a sector have to give the
+/// same 11; the labels of an accepted pack are asked for with every number and the edge buffers, and so are its suffixes,
+/// which are refused where the label is, or all of them, and its sectors, which together have all points.
 #[track_caller]
 pub fn ask(pack: &[u8]) -> u64 {
     let answer = agree::pack(pack);
@@ -40,13 +43,34 @@ pub fn ask(pack: &[u8]) -> u64 {
             };
             assert_eq!(refusal(agree::pack_suffix(pack, k)), expected, "{k}");
         }
+        assert_eq!(sectors(pack).iter().sum::<u64>(), answer);
+        for digit in NO_DIGITS {
+            assert_eq!(agree::sector(pack, digit), 27 << 56, "{digit}");
+        }
     } else {
         for (k, room) in [(0, 0), (1, 499), (u64::MAX, 60)] {
             assert_eq!(agree::pack_label(pack, k, room), answer);
             assert_eq!(agree::pack_suffix(pack, k), answer);
+            assert_eq!(agree::sector(pack, k), answer);
         }
     }
     answer
+}
+
+/// How many points each sector of a pack has, which opens.
+#[track_caller]
+pub fn sectors(pack: &[u8]) -> [u64; 10] {
+    [0, 1, 2, 3, 4, 5, 6, 7, 8, 9].map(|digit| agree::sector(pack, digit))
+}
+
+/// How many of these views each sector has, by the first byte of their inward codes.
+pub fn sectors_of<'a>(views: impl Iterator<Item = &'a View>) -> [u64; 10] {
+    let mut sectors = [0; 10];
+    for view in views {
+        let digit = view.inward.as_bytes()[0] - b'0';
+        sectors[usize::from(digit)] += 1;
+    }
+    sectors
 }
 
 /// A view's suffix as it is told of a point.

@@ -10,6 +10,8 @@
 /* Bytes of a point record, and where its amendment letter stands. */
 #define POINT_RECORD 168
 #define LETTER 40
+/* How far from the end of a pack the last byte of its counts stands. */
+#define LAST_COUNT 2
 
 /* Reads a whole file of less than ROOM bytes. Answers its length, 0 where it
  * can't be read. */
@@ -138,12 +140,17 @@ static void say_labels(const uint8_t *table, size_t table_length, const uint8_t 
     say("point 2", ttw_pack_label(pack, (size_t)TTW_VALUE(built), 2, label, sizeof label));
     say("suffix of point 1", ttw_pack_suffix(pack, (size_t)TTW_VALUE(built), 1));
     say("suffix of point 2", ttw_pack_suffix(pack, (size_t)TTW_VALUE(built), 2));
+    say("points in sector 9", ttw_sector(pack, (size_t)TTW_VALUE(built), 9));
+    say("points in sector 8", ttw_sector(pack, (size_t)TTW_VALUE(built), 8));
+    say("points in sector 10", ttw_sector(pack, (size_t)TTW_VALUE(built), 10));
     say_runs(table, table_length, points, points_length, pack, (size_t)TTW_VALUE(built));
     say_lists(table, table_length, points, points_length, pack, (size_t)TTW_VALUE(built));
     say("pack without its last byte", ttw_pack(pack, (size_t)TTW_VALUE(built) - 1));
+    pack[TTW_VALUE(built) - LAST_COUNT]++;
+    say("pack with another count", ttw_pack(pack, (size_t)TTW_VALUE(built)));
 }
 
-/* A pack of edition 1: its label is printed, and it has no suffix. */
+/* A pack of edition 1: its label is printed, it has no suffix, and its points are counted. */
 static void say_older(const uint8_t *pack, size_t length)
 {
     uint8_t label[TTW_LABEL_MAX];
@@ -153,6 +160,8 @@ static void say_older(const uint8_t *pack, size_t length)
     say("its suffix of point 1", ttw_pack_suffix(pack, length, 1));
     say("its suffix of point 2", ttw_pack_suffix(pack, length, 2));
     say("its suffix without its last byte", ttw_pack_suffix(pack, length - 1, 1));
+    say("its points in sector 9", ttw_sector(pack, length, 9));
+    say("its points in sector 10", ttw_sector(pack, length, 10));
 }
 
 #define SAY_NAME(name) printf("%s %d\n", #name, name)
@@ -173,6 +182,7 @@ static void say_names(void)
     SAY_NAME(TTW_REFUSED_PACK);
     SAY_NAME(TTW_REFUSED_CODE);
     SAY_NAME(TTW_REFUSED_SUFFIX);
+    SAY_NAME(TTW_REFUSED_DIGIT);
 }
 
 int main(int argc, char **argv)

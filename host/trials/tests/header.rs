@@ -29,8 +29,8 @@ ATTIC FLAT
 110-114 QUARRY LANE
 HARTWELL BAY
 AB1 9ZZ
-pack without room: refused 10, file 0, second 0, detail 131
-pack: 131
+pack without room: refused 10, file 0, second 0, detail 171
+pack: 171
 points in the pack: 1
 point 1: 52
 ATTIC FLAT
@@ -41,6 +41,9 @@ point 1 without room: refused 10, file 0, second 0, detail 52
 point 2: refused 7, file 0, second 0, detail 0
 suffix of point 1: 12609
 suffix of point 2: refused 7, file 0, second 0, detail 0
+points in sector 9: 1
+points in sector 8: 0
+points in sector 10: refused 27, file 0, second 0, detail 0
 labels from 1, 2 of them: refused 9, file 0, second 1, detail 6
 52 bytes
 ATTIC FLAT
@@ -93,6 +96,7 @@ ATTIC FLAT
 HARTWELL BAY
 AB1 9ZZ
 pack without its last byte: refused 11, file 0, second 0, detail 1
+pack with another count: refused 11, file 0, second 0, detail 4
 points in an older pack: 1
 its point 1: 52
 ATTIC FLAT
@@ -102,6 +106,8 @@ AB1 9ZZ
 its suffix of point 1: refused 13, file 0, second 0, detail 0
 its suffix of point 2: refused 7, file 0, second 0, detail 0
 its suffix without its last byte: refused 11, file 0, second 0, detail 1
+its points in sector 9: 1
+its points in sector 10: refused 27, file 0, second 0, detail 0
 empty table: refused 1, file 1, second 0, detail 0
 table with another header: refused 2, file 1, second 0, detail 1
 points with another letter: refused 4, file 2, second 41, detail 3
@@ -118,6 +124,7 @@ TTW_REFUSED_ROOM 10
 TTW_REFUSED_PACK 11
 TTW_REFUSED_CODE 12
 TTW_REFUSED_SUFFIX 13
+TTW_REFUSED_DIGIT 27
 ";
 
 #[test]

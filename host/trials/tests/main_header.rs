@@ -43,7 +43,7 @@ STORES
 QUARRY LANE
 HARTWELL BAY
 AB10 9ZZ
-pack without room: refused 10, file 0, second 0, detail 631
+pack without room: refused 10, file 0, second 0, detail 671
 points in the pack: 8
 pack of AB2: refused 9, file 0, second 39, detail 1
 without sub buildings: refused 1, file 5, second 0, detail 0

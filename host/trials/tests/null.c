@@ -84,6 +84,7 @@ static uint64_t ask_pack_label(struct lent *l)
     return ttw_pack_label(l->pack.bytes, l->pack.length, 1, l->out.bytes, l->out.length);
 }
 static uint64_t ask_pack_suffix(struct lent *l) { return ttw_pack_suffix(l->pack.bytes, l->pack.length, 1); }
+static uint64_t ask_sector(struct lent *l) { return ttw_sector(l->pack.bytes, l->pack.length, 9); }
 static uint64_t ask_pack_labels(struct lent *l)
 {
     return ttw_pack_labels(l->pack.bytes, l->pack.length, 1, 1, l->out.bytes, l->out.length, &l->bytes);
@@ -186,6 +187,7 @@ static const struct call {
     {"ttw_pack", ask_pack, "k"},
     {"ttw_pack_label", ask_pack_label, "ko"},
     {"ttw_pack_suffix", ask_pack_suffix, "k"},
+    {"ttw_sector", ask_sector, "k"},
     {"ttw_pack_labels", ask_pack_labels, "ko"},
     {"ttw_pack_list", ask_pack_list, "ko"},
     {"ttw_main", ask_main, "1234567"},

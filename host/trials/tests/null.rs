@@ -39,11 +39,12 @@ ttw_code_list o: 10 0 61
 ttw_build t: 1 1 0
 ttw_build p: 1 2 0
 ttw_build c: 12 0 0
-ttw_build o: 10 0 131
+ttw_build o: 10 0 171
 ttw_pack k: 11 0 1
 ttw_pack_label k: 11 0 1
 ttw_pack_label o: 10 0 52
 ttw_pack_suffix k: 11 0 1
+ttw_sector k: 11 0 1
 ttw_pack_labels k: 11 0 1
 ttw_pack_labels o: 10 0 52
 ttw_pack_list k: 11 0 1
@@ -62,7 +63,7 @@ const MAIN: [(&str, std::ops::RangeInclusive<u8>, bool, Option<u64>); 10] = [
     ("ttw_main_code_labels", 1..=7, true, Some(52)),
     ("ttw_main_list", 1..=7, false, Some(59)),
     ("ttw_main_code_list", 1..=7, true, Some(59)),
-    ("ttw_main_build", 1..=7, true, Some(131)),
+    ("ttw_main_build", 1..=7, true, Some(171)),
 ];
 
 /// All answers: those of these calls behind the others.

@@ -242,6 +242,8 @@ fn pack_of_many(points: u32) -> Vec<u8> {
     let mut pack = [rows, &point.repeat(points as usize), trailer].concat();
     let count = pack.len() - BUILT.trailer + 8;
     pack[count..count + 4].copy_from_slice(&points.to_be_bytes());
+    let in_its_sector = pack.len() - 5;
+    pack[in_its_sector..in_its_sector + 4].copy_from_slice(&points.to_be_bytes());
     mend(&mut pack);
     pack
 }

@@ -9,7 +9,7 @@ use ttw::main_set::MainSet;
 /// What the calls on a pair and on a pack answer about a number.
 #[derive(Debug, PartialEq, Eq)]
 struct Answers {
-    counts: [Result<u64, Refusal>; 5],
+    counts: [Result<u64, Refusal>; 6],
     letter: Result<char, Refusal>,
     suffix: Result<String, Refusal>,
     texts: [Result<Vec<u8>, Refusal>; 4],
@@ -31,6 +31,7 @@ fn answers(table: &[u8], points: &[u8], pack: &[u8], k: u64) -> Answers {
             ask::views(points),
             ask::live(points, code),
             ask::pack(pack),
+            ask::sector(pack, k % 11),
         ],
         letter: ask::letter(points, k),
         suffix: ask::pack_suffix(pack, k),

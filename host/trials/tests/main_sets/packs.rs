@@ -7,7 +7,7 @@ use paper::make::{
 use paper::{packed, Refusal};
 use trials::agree;
 use trials::main_sets::{build, built, code_label, codes_of, live};
-use trials::packs::{ask, suffix_of};
+use trials::packs::{ask, sectors, sectors_of, suffix_of};
 use trials::rooms::{pack_rooms, refusal};
 use ttw::{calls, main_calls};
 
@@ -17,12 +17,15 @@ fn build_of(made: &MainSet, code: &[u8]) -> u64 {
     pack_rooms(|room| build(made.set(), code, room))
 }
 
-/// Fails unless point k of a pack has the suffix of the k-th address of the code,
-/// and gives, for every k and for rooms around, the label that the set gives.
+/// Fails unless the sectors of a pack have the addresses of the code, and point k
+/// has the suffix of the k-th of these and gives, for every k and for rooms around,
+/// the label that the set gives.
 #[track_caller]
 fn compare_labels(made: &MainSet, code: &[u8], pack: &[u8]) {
     let of_code = |address: &&View| padded(&address.outward, 4) == code;
-    for (k, address) in (1..).zip(made.addresses.iter().filter(of_code)) {
+    let addresses = made.addresses.iter().filter(of_code);
+    assert_eq!(sectors(pack), sectors_of(addresses.clone()));
+    for (k, address) in (1..).zip(addresses) {
         assert_eq!(agree::pack_suffix(pack, k), suffix_of(address), "{k}");
     }
     for k in 0..=live(made.set()[6], code) + 1 {
@@ -81,7 +84,7 @@ fn larger_sets_and_codes_without_addresses() {
     for _ in 0..60 {
         let code = outward(&mut rng);
         if live(made.set()[6], &code) == 0 {
-            assert_eq!(build_of(&made, &code), 21);
+            assert_eq!(build_of(&made, &code), 61);
         }
         let malformed = packed(Err(Refusal::new(12, 0)));
         assert_eq!(build_of(&made, &bad_outward(&mut rng)), malformed);
@@ -121,7 +124,7 @@ fn a_shared_organisation_stands_once_for_each_address() {
     let pack = built(made.set(), b"AB1 ").expect("a pack");
     let rows = b"\x01\x04HOLT\0\0\x06\x04LEDA\0\x06\0\0\x06\x04LEDA\0";
     assert!(pack.starts_with(rows), "{}", pack.escape_ascii());
-    assert_eq!(pack.len(), rows.len() + 4 * 59 + 21);
+    assert_eq!(pack.len(), rows.len() + 4 * 59 + 61);
     let of_large = &pack[rows.len() + 2 * 59..][..59];
     assert_eq!(of_large[7..18], *b"1AL\0\0\0\x03\0\0\0\x07");
     compare_labels(&made, b"AB1 ", &pack);

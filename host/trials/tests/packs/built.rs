@@ -35,14 +35,14 @@ fn a_long_pair() {
 }
 
 #[test]
-fn a_code_with_no_live_view_gives_21_bytes() {
+fn a_code_with_no_live_view_gives_61_bytes() {
     let mut rng = Rng::new(67);
     let mut without_views = 0;
     for _ in 0..300 {
         let pair = make::pair(&mut rng, 30);
         let code = make::outward(&mut rng);
         if agree::live(&pair.points, &code) == 0 {
-            assert_eq!(build(&pair, &code), 21);
+            assert_eq!(build(&pair, &code), 61);
             without_views += 1;
         }
     }
@@ -50,11 +50,11 @@ fn a_code_with_no_live_view_gives_21_bytes() {
 }
 
 #[test]
-fn codes_with_dead_views_alone_give_21_bytes() {
+fn codes_with_dead_views_alone_give_61_bytes() {
     let mut pair = broken_pair(b"BDBD", &FAULTS[0]);
-    assert_eq!(build(&pair, b"AB1 "), 21);
+    assert_eq!(build(&pair, b"AB1 "), 61);
     pair = broken_pair(b"", &FAULTS[0]);
-    assert_eq!(build(&pair, b"AB1 "), 21);
+    assert_eq!(build(&pair, b"AB1 "), 61);
 }
 
 #[test]

@@ -1,13 +1,13 @@
 //! Damaged packs: every byte to every value, bytes taken away and put in at every place, random bytes. What is expected
 //! comes from the second program; the counts say that a trial reached what it is for.
 
-use paper::make::{pack_draft, worked_pack, Edition, PackPoint, Rng, EDITIONS};
+use paper::make::{pack_draft, worked_pack, Edition, PackPoint, Rng, EDITIONS, FIRST};
 use trials::packs::{ask, draft, in_edition, large_user, mend, no_pack, row, small_user};
 use trials::rooms::refusal;
 
 /// How often a pack was accepted, [0], and refused at each step.
 #[derive(Default, Debug)]
-struct Reached([usize; 4]);
+struct Reached([usize; 5]);
 
 impl Reached {
     /// Asks about a pack and counts the answer.
@@ -58,6 +58,7 @@ fn small_packs() -> Vec<Vec<u8>> {
 fn every_byte_to_every_value() {
     for mut pack in small_packs() {
         let mut reached = Reached::default();
+        let has_counts = Edition::of(&pack).is_some_and(Edition::has_counts);
         for place in 0..pack.len() {
             let before = pack[place];
             for value in 0..=255 {
@@ -67,6 +68,7 @@ fn every_byte_to_every_value() {
             pack[place] = before;
         }
         reached.assert_all(&[0, 1, 2, 3]);
+        assert_eq!(reached.0[4] > 0, has_counts);
     }
 }
 
@@ -147,7 +149,7 @@ fn two_bytes_of_random_packs() {
         }
         reached.ask(&pack);
     }
-    reached.assert_all(&[0, 1, 2, 3]);
+    reached.assert_all(&[0, 1, 2, 3, 4]);
 }
 
 fn random_bytes(rng: &mut Rng, length: usize) -> Vec<u8> {
@@ -181,6 +183,7 @@ fn random_rows_and_points_with_a_true_trailer() {
         let rows = rng.below(4) as u8;
         pack.extend([0, 0, 0, rows, 0, 0, 0, 0, 0, 0, 0, points as u8]);
         pack.extend(b"AB1 \0\0\0\0");
+        pack.extend(vec![0; edition.trailer - FIRST.trailer]);
         pack.push(edition.number);
         mend(&mut pack);
         reached.ask(&pack);

@@ -1,11 +1,11 @@
-//! The packs in `samples/packs`, the same for each edition: handsets have packs of edition 1, so that whatever editions
-//! come, these have to open and print the labels beside them.
+//! The packs in `samples/packs`, the same for each edition: handsets have packs of older editions, so that whatever
+//! editions come, these have to open and print the labels beside them.
 
 use paper::make::samples::{kept, labelled, packs, KEPT};
-use paper::make::{samples, worked_pack, Edition, BUILT, EDITIONS, FIRST};
+use paper::make::{samples, worked_pack, Edition, BUILT, EDITIONS, FIRST, SECOND};
 use std::fs;
 use trials::agree;
-use trials::packs::{ask, built};
+use trials::packs::{ask, built, sectors};
 
 /// All packs of an edition with what is said of each of their points.
 fn pages(edition: Edition, of_point: impl Fn(&[u8], u64) -> String) -> String {
@@ -33,16 +33,33 @@ fn kept_packs_open_and_print_their_labels() {
 
 #[test]
 fn kept_packs_have_their_suffixes_from_edition_2_on() {
-    let suffixes = pages(BUILT, |pack, k| {
-        let suffix = ttw::ask::pack_suffix(pack, k).expect("a suffix");
-        format!("point {k} {suffix}\n")
-    });
     let expected = fs::read_to_string(packs().join("suffixes.txt")).expect("suffixes.txt");
-    assert_eq!(suffixes, expected);
+    for edition in [SECOND, BUILT] {
+        let suffixes = pages(edition, |pack, k| {
+            let suffix = ttw::ask::pack_suffix(pack, k).expect("a suffix");
+            format!("point {k} {suffix}\n")
+        });
+        assert_eq!(suffixes, expected, "{edition:?}");
+    }
     pages(FIRST, |pack, k| {
         assert_eq!(agree::pack_suffix(pack, k), 13 << 56);
         String::new()
     });
+}
+
+#[test]
+fn kept_packs_have_their_sectors() {
+    let expected = fs::read_to_string(packs().join("sectors.txt")).expect("sectors.txt");
+    for edition in EDITIONS {
+        let mut page = String::new();
+        for name in KEPT {
+            let pack = kept(edition, name);
+            page += &format!("pack {name} {}\n", agree::pack(&pack));
+            let lines = sectors(&pack).into_iter().zip(0..);
+            page.extend(lines.map(|(points, digit)| format!("sector {digit}: {points}\n")));
+        }
+        assert_eq!(page, expected, "{edition:?}");
+    }
 }
 
 #[test]

@@ -1,5 +1,5 @@
-//! Packs built, opened and asked for labels and suffixes: the library against the second program, answer and buffer, and both against
-//! what document 01 says.
+//! Packs built, opened and asked for labels, suffixes and sectors: the library against the second program, answer and
+//! buffer, and both against what document 01 says.
 
 mod accepted;
 mod areas;
@@ -9,5 +9,6 @@ mod editions;
 mod kept;
 mod labels;
 mod refused;
+mod sectors;
 mod suffixes;
 mod worked;

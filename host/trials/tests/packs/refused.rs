@@ -1,7 +1,7 @@
 //! Packs refused at each clause of each step of the pack check, with the step that is told. The packs and their clauses
 //! come from the second program's makers; each breaks its clause alone.
 
-use paper::make::{damaged_packs, full_draft, DamagedPack, Edition, BUILT, EDITIONS};
+use paper::make::{damaged_packs, full_draft, DamagedPack, Edition, BUILT, EDITIONS, SECOND};
 use trials::packs::{ask, draft, in_edition, no_pack, resident, row};
 
 /// The packs that fail at a step, of each edition.
@@ -11,23 +11,21 @@ fn failing(step: u64) -> Vec<DamagedPack> {
     packs
 }
 
-/// Fails where a pack isn't refused at its step, or where a clause that is named here has no pack of each edition.
+/// Fails where a pack isn't refused at its step, or where a clause that is named here has no pack of each of these
+/// editions, or one of another.
 #[track_caller]
-fn assert_refused(step: u64, clauses: &[&str]) {
+fn assert_refused(step: u64, clauses: &[&str], editions: &[Edition]) {
     let packs = failing(step);
     for damaged in &packs {
         assert_eq!(ask(&damaged.pack), no_pack(step), "{}", damaged.clause);
     }
     for edition in EDITIONS {
-        let mut of_edition = packs.iter().filter(|pack| pack.edition == edition);
         for clause in clauses {
-            let known = of_edition
-                .clone()
-                .any(|pack| pack.clause.starts_with(clause));
-            assert!(known, "no pack for: {clause}");
+            let known = packs
+                .iter()
+                .any(|pack| pack.edition == edition && pack.clause.starts_with(clause));
+            assert_eq!(known, editions.contains(&edition), "{clause}, {edition:?}");
         }
-        let suffixes = of_edition.any(|pack| pack.clause.starts_with("suffix "));
-        assert_eq!(suffixes, step == 3 && edition.has_suffix());
     }
 }
 
@@ -36,9 +34,9 @@ fn each_clause_of_the_trailer_is_step_1() {
     let clauses = [
         "a byte less than a trailer",
         "edition 0",
-        "edition 3",
+        "edition 4",
         "edition 255",
-        "points of another width than edition ",
+        "widths of another edition than ",
         "length one less",
         "length one more",
         "outward in no pattern",
@@ -49,7 +47,9 @@ fn each_clause_of_the_trailer_is_step_1() {
         "one point more",
         "sum right in 32 bits only",
     ];
-    assert_refused(1, &clauses);
+    assert_refused(1, &clauses, &EDITIONS);
+    let short = ["21 bytes of a trailer", "60 bytes that end as in edition 1"];
+    assert_refused(1, &short, &[BUILT]);
 }
 
 #[test]
@@ -70,7 +70,7 @@ fn each_clause_of_the_rows_is_step_2() {
         "empty in row",
         "double without dependent",
     ];
-    assert_refused(2, &clauses);
+    assert_refused(2, &clauses, &EDITIONS);
 }
 
 #[test]
@@ -98,7 +98,22 @@ fn each_clause_of_the_points_is_step_3() {
         "small user without organisation name",
         "organisation row with key zero",
     ];
-    assert_refused(3, &clauses);
+    assert_refused(3, &clauses, &EDITIONS);
+    assert_refused(3, &["suffix "], &[SECOND, BUILT]);
+}
+
+#[test]
+fn each_clause_of_the_counts_is_step_4() {
+    let clauses = [
+        "count one more in sector 0",
+        "count one less in sector 9",
+        "point in another sector",
+        "counts all zero",
+        "counts one sector on",
+        "counts of sectors 0 and 9 changed over",
+        "one counted in sector 8 and not in 9",
+    ];
+    assert_refused(4, &clauses, &[BUILT]);
 }
 
 #[test]
@@ -128,23 +143,29 @@ fn a_fault_of_the_last_point_is_found_as_well() {
         let turned = with_points_turned(&full_draft(edition).bytes(), edition);
         assert_eq!(ask(&turned), 3);
     }
-    for damaged in failing(3) {
+    for damaged in failing(3).into_iter().chain(failing(4)) {
         let turned = with_points_turned(&damaged.pack, damaged.edition);
-        assert_eq!(ask(&turned), no_pack(3), "{}", damaged.clause);
+        assert_eq!(ask(&turned), no_pack(damaged.step), "{}", damaged.clause);
     }
 }
 
 #[test]
 fn the_first_failing_step_is_told() {
-    for damaged in failing(2).into_iter().chain(failing(3)) {
+    for damaged in [2, 3, 4].into_iter().flat_map(failing) {
         let mut pack = damaged.pack;
         *pack.last_mut().expect("a pack") = 0;
         assert_eq!(ask(&pack), no_pack(1), "{} and edition 0", damaged.clause);
     }
-    for damaged in failing(3) {
+    for damaged in [3, 4].into_iter().flat_map(failing) {
         let mut pack = damaged.pack;
         pack[2] = b'h';
         assert_eq!(ask(&pack), no_pack(2), "{} and a row", damaged.clause);
+    }
+    let postcode_type = full_draft(BUILT).points_start() + 9;
+    for damaged in failing(4) {
+        let mut pack = damaged.pack;
+        pack[postcode_type] = b'X';
+        assert_eq!(ask(&pack), no_pack(3), "{} and a point", damaged.clause);
     }
 }
 
