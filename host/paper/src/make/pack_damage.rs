@@ -469,17 +469,15 @@ impl Full {
                 *counts = counts.map(u32::swap_bytes);
             }),
         ];
-        for (from, to) in (0..100).map(|pair| (pair / 10, pair % 10)) {
+        let counts = self.0.counts();
+        for (from, to) in (0..10).map(|digit| (digit, (digit + 1) % 10)) {
             let moved = |counts: &mut [u32; 10]| {
                 counts[from] = counts[from].wrapping_sub(1);
                 counts[to] = counts[to].wrapping_add(1);
             };
-            if from != to {
-                let clause = format!("one counted in sector {to} and not in {from}");
-                packs.push(self.damaged(&clause, 4, self.recounted(moved)));
-            }
-            let counts = self.0.counts();
-            if from < to && counts[from] != counts[to] {
+            let clause = format!("one counted in sector {to} and not in {from}");
+            packs.push(self.damaged(&clause, 4, self.recounted(moved)));
+            if counts[from] != counts[to] {
                 let clause = format!("counts of sectors {from} and {to} changed over");
                 let pack = self.recounted(|counts| counts.swap(from, to));
                 packs.push(self.damaged(&clause, 4, pack));

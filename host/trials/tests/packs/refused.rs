@@ -110,8 +110,8 @@ fn each_clause_of_the_counts_is_step_4() {
         "point in another sector",
         "counts all zero",
         "counts one sector on",
-        "counts of sectors 0 and 9 changed over",
-        "one counted in sector 8 and not in 9",
+        "counts of sectors 9 and 0 changed over",
+        "one counted in sector 0 and not in 9",
     ];
     assert_refused(4, &clauses, &[BUILT]);
 }
