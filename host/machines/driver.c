@@ -33,6 +33,7 @@
     CALL(ttw_pack, READ(0))                                                                   \
     CALL(ttw_pack_label, READ(0), NUMBER(0), WRITE(0))                                        \
     CALL(ttw_pack_suffix, READ(0), NUMBER(0))                                                 \
+    CALL(ttw_sector, READ(0), NUMBER(0))                                                      \
     CALL(ttw_pack_labels, READ(0), NUMBER(0), NUMBER(1), WRITE(0), TELL(1))                   \
     CALL(ttw_pack_list, READ(0), NUMBER(0), NUMBER(1), WRITE(0), TELL(1))                     \
     CALL(ttw_main, SET)                                                                       \

@@ -17,6 +17,8 @@ pub struct Case {
     pub packs: [Vec<u8>; 2],
     /// The number of a point.
     pub point: u64,
+    /// An inward digit, or a number that is none.
+    pub digit: u64,
     pub room: usize,
     /// How many labels a run asks for, and the room for them.
     pub count: u64,
@@ -38,6 +40,7 @@ pub fn make(seed: u64, number: u64) -> Case {
         set: sets::of_case(&mut rng, number),
         packs,
         point,
+        digit: number_of(&mut rng, 9),
         room,
         count,
         run_room,
@@ -353,6 +356,8 @@ fn ask_pack(case: &Case, pack: &[u8], flush: Flush, reached: &mut Reached) {
     );
     let suffix = paper::pack_suffix(pack, k);
     same("pack suffix", calls::pack_suffix(ours, k), suffix, reached);
+    let points = paper::sector(pack, case.digit);
+    same("sector", calls::sector(ours, case.digit), points, reached);
     run_written(
         "pack labels",
         flush,

@@ -5,8 +5,9 @@
 //! Its inputs are accepted pairs, Mainfile sets and packs, mutated by structure
 //! and by bytes, and others that are made by hand: records malformed in every
 //! field, files damaged at a place, views that cannot be printed, Changes files of
-//! as many records as there may be and of one more, and for every case a pack with one field at a
-//! limit, one limit of one edition after the other. Every slice lies flush against memory that no one may touch, first at its end and
+//! as many records as there may be and of one more, and for every case a pack
+//! with one field at a limit, one limit of one edition after the other. Every
+//! slice lies flush against memory that no one may touch, first at its end and
 //! then at its start, and what a call may only read cannot be written.
 
 pub mod case;

@@ -24,6 +24,8 @@ enum Change {
     Offset(usize, u32),
     /// A number of the trailer, by its place in it.
     Trailer(usize, u32),
+    /// The counts of sectors, each by its digit, to which a number is added.
+    Counts(&'static [(usize, u32)]),
     /// The edition byte.
     Edition(u8),
     /// So many bytes less in front.
@@ -36,7 +38,7 @@ pub static ALL: LazyLock<Vec<Limit>> =
 
 fn limits_of(edition: Edition) -> Vec<Limit> {
     let parts = [
-        texts, codes, postcodes, marks, numbers, offsets, rows, trailers, editions,
+        texts, codes, postcodes, marks, numbers, offsets, rows, trailers, editions, counts,
     ];
     parts.into_iter().flat_map(|part| part(edition)).collect()
 }
@@ -62,6 +64,10 @@ pub fn pack(rng: &mut Rng, limit: &Limit) -> Vec<u8> {
         Change::Draft(_) => {}
         Change::Offset(reference, offset) => put(&mut pack, offsets + 4 * reference, *offset),
         Change::Trailer(at, number) => put(&mut pack, trailer + at, *number),
+        Change::Counts(added) => added.iter().for_each(|(digit, number)| {
+            let count = draft.counts()[*digit].wrapping_add(*number);
+            put(&mut pack, trailer + 20 + 4 * digit, count);
+        }),
         Change::Edition(number) => pack[end - 1] = *number,
         Change::Cut(bytes) => drop(pack.drain(..bytes.min(&end))),
     }
@@ -399,4 +405,33 @@ fn editions(edition: Edition) -> Vec<Limit> {
         limit(edition, name, step, Change::Edition(number))
     };
     numbers.chain([u8::MAX]).map(changed).collect()
+}
+
+/// What is added to the counts of sectors: nothing, or what makes one of them
+/// wrong, or two of them whose sum stays right.
+const COUNTS: [&[(usize, u32)]; 10] = [
+    &[],
+    &[(0, 1)],
+    &[(0, u32::MAX)],
+    &[(4, 1)],
+    &[(4, 1 << 31)],
+    &[(9, 1)],
+    &[(9, u32::MAX)],
+    &[(0, 1), (9, u32::MAX)],
+    &[(0, u32::MAX), (1, 1)],
+    &[(4, 1), (5, u32::MAX)],
+];
+
+fn counts(edition: Edition) -> Vec<Limit> {
+    let counts = COUNTS.into_iter().filter(|_| edition.has_counts());
+    let changed = |added: &'static [(usize, u32)]| {
+        let name = format!("counts with {added:?} more");
+        limit(
+            edition,
+            name,
+            unless(added.is_empty(), 4),
+            Change::Counts(added),
+        )
+    };
+    counts.map(changed).collect()
 }

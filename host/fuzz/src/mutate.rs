@@ -92,13 +92,14 @@ fn recount(bytes: &mut [u8], width: usize) {
 /// Mutates a pack, or leaves it as it is.
 pub fn pack(rng: &mut Rng, bytes: &mut Vec<u8>) {
     for _ in 0..rng.below(3) {
-        match rng.below(8) {
+        match rng.below(9) {
             0 => offset(rng, bytes),
             1 => points(rng, bytes),
             2 => insert(rng, bytes),
             3 => cut(rng, bytes),
             4 => lengthen(rng, bytes),
             5 => reedition(rng, bytes),
+            6 => recounted(rng, bytes),
             _ => scratch(rng, bytes),
         }
     }
@@ -167,6 +168,27 @@ fn lengthen(rng: &mut Rng, bytes: &mut [u8]) {
 fn reedition(rng: &mut Rng, bytes: &mut [u8]) {
     if let Some(last) = bytes.last_mut() {
         *last = rng.below(EDITIONS.len() + 2) as u8;
+    }
+}
+
+/// The count of a sector grows or shrinks, or one point of it is counted in
+/// another, where the edition has counts.
+fn recounted(rng: &mut Rng, bytes: &mut [u8]) {
+    let edition = edition_of(bytes);
+    let Some(trailer) = bytes.len().checked_sub(edition.trailer) else {
+        return;
+    };
+    let mut add = |rng: &mut Rng, number: u32| {
+        let at = trailer + 20 + 4 * rng.below(10);
+        if let Some(field) = bytes.get_mut(at..at + 4).filter(|_| edition.has_counts()) {
+            let count = u32::from_be_bytes((&*field).try_into().expect("4 bytes"));
+            field.copy_from_slice(&count.wrapping_add(number).to_be_bytes());
+        }
+    };
+    let number = *rng.pick(&[1, u32::MAX, 1 << 24]);
+    add(rng, number);
+    if rng.one_in(2) {
+        add(rng, number.wrapping_neg());
     }
 }
 

@@ -118,7 +118,7 @@ fn kind(call: &'static str, number: u8, file: u8, detail: u64) -> Kind {
 /// The refusals that each call gives besides a value: those of a table file (t),
 /// of a point file (p), of a view's rows (v), of a pack (k), of a Mainfile set (m),
 /// of its addresses alone (a), of an address's rows (w); and single ones.
-const CALLS: [(&str, &str, &[u8]); 28] = [
+const CALLS: [(&str, &str, &[u8]); 29] = [
     ("table", "t", &[]),
     ("points", "p", &[]),
     ("views", "p", &[]),
@@ -135,6 +135,7 @@ const CALLS: [(&str, &str, &[u8]); 28] = [
     ("pack", "k", &[]),
     ("pack label", "k", &[7, 10]),
     ("pack suffix", "k", &[7, 13]),
+    ("sector", "k", &[27]),
     ("pack labels", "k", &[7, 10]),
     ("pack list", "k", &[7, 10]),
     ("main", "m", &[]),
@@ -179,7 +180,7 @@ pub fn wanted() -> Vec<Kind> {
                 'w' => [(8, 3), (9, 8)]
                     .into_iter()
                     .for_each(|(number, last)| add(number, 0, 1..=last)),
-                _ => add(11, 0, 1..=3),
+                _ => add(11, 0, 1..=4),
             }
         }
     }

@@ -36,9 +36,12 @@ fn two_thousand_cases_reach_every_kind_of_answer_and_repeat() {
         "\nmain list: refusal 5 of the sub building: ",
         "\nmain: refusal 4 of the organisation, at ",
         "\npack: refusal 11, step 3: ",
+        "\npack: refusal 11, step 4: ",
         "\npack labels: value: ",
         "\npack suffix: refusal 13: ",
         "\npack suffix: value: ",
+        "\nsector: refusal 27: ",
+        "\nsector: value: ",
         "\ntable: refusal 4 of the table, at ",
     ] {
         assert!(out.contains(line), "{line}");

@@ -4,7 +4,7 @@
 use fuzz::limits::{self, Limit};
 use fuzz::reached::{wanted, Kind, Reached, ENOUGH};
 use fuzz::{case, malformed, sets};
-use paper::make::{Edition, Rng, EDITIONS, FIRST};
+use paper::make::{Edition, Rng, EDITIONS, FIRST, SECOND};
 use paper::Refusal;
 use std::collections::BTreeSet;
 
@@ -31,11 +31,15 @@ fn sides(edition: Edition) -> Vec<(&'static str, &'static str)> {
     ];
     sides.push(match edition {
         FIRST => ("edition byte 1", "edition byte 2"),
-        _ => ("edition byte 2", "edition byte 3"),
+        SECOND => ("edition byte 2", "edition byte 3"),
+        _ => ("edition byte 3", "edition byte 4"),
     });
     if edition.has_suffix() {
         sides.push(("suffix: 48", "suffix: 47"));
         sides.push(("suffix, second: 90", "suffix, second: 91"));
+    }
+    if edition.has_counts() {
+        sides.push(("counts with [] more", "counts with [(9, 1)] more"));
     }
     sides
 }

@@ -31,7 +31,8 @@ pub struct Lent {
 const FILES: u64 = 2_048;
 /// labels and listings from files less than this,
 const LABELS: u64 = 4_096;
-/// opening a pack, labels, listings or a suffix from a pack less than this,
+/// opening a pack, labels, listings, a suffix or a sector from a pack less than
+/// this,
 const PACKS: u64 = 80 << 10;
 /// building a pack or listing codes less than this.
 const BUILDING: u64 = 192 << 10;
@@ -41,7 +42,7 @@ const LABELS_FROM_A_SET: u64 = 6_144;
 /// call on a pair of files does.
 const BUILDING_FROM_A_SET: u64 = 1 << 20;
 
-pub const CALLS: [Call; 28] = [
+pub const CALLS: [Call; 29] = [
     Call {
         name: "ttw_table",
         stack: FILES,
@@ -149,6 +150,12 @@ pub const CALLS: [Call; 28] = [
         stack: PACKS,
         lend: |case| lent(&[&case.packs[0]], &[case.point], &[]),
         plain: |r, n, _| packed(paper::pack_suffix(&r[0], n[0])),
+    },
+    Call {
+        name: "ttw_sector",
+        stack: PACKS,
+        lend: |case| lent(&[&case.packs[0]], &[case.digit], &[]),
+        plain: |r, n, _| packed(paper::sector(&r[0], n[0])),
     },
     Call {
         name: "ttw_pack_labels",

@@ -178,7 +178,7 @@ pub fn largest() -> Case {
     let length = paper::build(&pair.table, &pair.points, &code, &mut pack).expect("a pack");
     pack.truncate(length);
     let mut case = Put::Pair(pair.table, pair.points, 5).into_case(fuzzed_case(1));
-    (case.files.code, case.packs[0], case.point) = (code, pack, 5);
+    (case.files.code, case.packs[0], case.point, case.digit) = (code, pack, 5, 9);
     case = Put::Set(make::long_set(20_000), 5).into_case(case);
     case.set.code = b"AB10".to_vec();
     case.room = length;

@@ -40,7 +40,7 @@ fn the_header_says_how_much_stack_a_call_may_take() {
     for promise in [
         "a call on files takes less than 2,048 bytes",
         "labels and listings from files less than 4,096",
-        "opening a pack, labels, listings or a suffix from a pack less than 80 KiB",
+        "opening a pack, labels, listings, a suffix or a sector from a pack less than 80 KiB",
         "building a pack or listing codes less than 192 KiB",
         "labels and listings from a set take less than 6,144 bytes",
         "building a pack from a set takes less than 1 MiB",
