@@ -48,9 +48,9 @@ macro_rules! both {
 
 /// Every call that the header declares, in its order: letter and label of the last
 /// view, the label of the code's first live view, the pack of the code, label and
-/// suffix of its last point; runs and listings of the last views, of the code's first, and
-/// of the last points.
-pub const CALLS: [Call; 18] = [
+/// suffix of its last point, its last sector; runs and listings of the last views,
+/// of the code's first, and of the last points.
+pub const CALLS: [Call; 19] = [
     Call {
         pass: Some(Pass {
             file: Input::table,
@@ -79,6 +79,7 @@ pub const CALLS: [Call; 18] = [
     both!(|i, _, _| pack(&i.pack)),
     both!(|i, room, _| pack_label(&i.pack, i.last_point, &mut room[..LABEL])),
     both!(|i, _, _| pack_suffix(&i.pack, i.last_point)),
+    both!(|i, _, _| sector(&i.pack, 9)),
     both!(|i, room, bytes| pack_labels(&i.pack, i.first_point(), ROUND, room, bytes)),
     both!(|i, room, bytes| pack_list(&i.pack, i.first_point(), ROUND, room, bytes)),
 ];

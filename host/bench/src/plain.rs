@@ -58,6 +58,10 @@ pub fn pack_suffix(pack: &[u8], k: u64) -> u64 {
     answer(Pack::accept(pack).and_then(|pack| pack.suffix(k)))
 }
 
+pub fn sector(pack: &[u8], digit: u64) -> u64 {
+    answer(Pack::accept(pack).and_then(|pack| pack.sector(digit)))
+}
+
 /// Runs and listings: what they read, and how they are asked for.
 macro_rules! runs {
     ($($name:ident($($read:ident),*) = |$first:ident, $count:ident, $out:ident| $run:expr;)*) => {

@@ -8,8 +8,8 @@ pub const ABSENT: u32 = u32::MAX;
 
 /// The bytes of a point and of the trailer, and the edition that is built.
 const POINT: usize = 59;
-const TRAILER: usize = 21;
-const EDITION: u8 = 2;
+const TRAILER: usize = 61;
+const EDITION: u8 = 3;
 
 /// Where texts start and end in a record.
 pub type Places = &'static [(usize, usize)];
@@ -60,15 +60,23 @@ impl Sheet<'_> {
     }
 }
 
-/// What is written: the rows, their bytes, and the points.
-#[derive(Default)]
+/// What is written: the rows, their bytes, and the points, by sectors too.
+#[derive(Clone, Copy, Default)]
 pub struct Area {
     pub rows: usize,
     pub bytes: usize,
     pub points: usize,
+    pub sectors: [u32; 10],
 }
 
 impl Area {
+    /// Counts the point of a record.
+    pub fn count(&mut self, places: &PointPlaces, record: &[u8]) {
+        let digit = record[places.postcode + 4] - b'0';
+        self.sectors[usize::from(digit)] += 1;
+        self.points += 1;
+    }
+
     /// The bytes of the pack.
     pub fn length(&self) -> usize {
         self.bytes + POINT * self.points + TRAILER
@@ -80,6 +88,7 @@ impl Area {
         sheet.four(self.points as u32);
         sheet.put(code);
         sheet.four(self.length() as u32);
+        self.sectors.iter().for_each(|count| sheet.four(*count));
         sheet.byte(EDITION);
     }
 }

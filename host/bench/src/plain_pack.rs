@@ -7,9 +7,7 @@ use crate::plain_label::{from, item, label, only, run, trimmed, Sheet};
 use paper::fields::outward_fault;
 use paper::{Elements, Refusal, Run};
 
-/// Bytes of a trailer; of a point's postcode, and of what stands behind postcode
-/// and suffix.
-const TRAILER: usize = 21;
+/// Bytes of a point's postcode, and of what stands behind postcode and suffix.
 const POSTCODE: usize = 7;
 const REST: usize = 50;
 
@@ -17,11 +15,16 @@ const REST: usize = 50;
 const PO_BOX: usize = 12;
 const OFFSETS: usize = 18;
 
-/// Bytes of a point, by the edition byte; none where there is no such edition.
-fn width_of(edition: u8) -> Option<usize> {
+/// Where the counts of the sectors stand in a trailer that has them.
+const COUNTS: usize = 20;
+
+/// Bytes of a point and of the trailer, by the edition byte; none where there is no
+/// such edition.
+fn widths_of(edition: u8) -> Option<(usize, usize)> {
     match edition {
-        1 => Some(57),
-        2 => Some(59),
+        1 => Some((57, 21)),
+        2 => Some((59, 21)),
+        3 => Some((59, 61)),
         _ => None,
     }
 }
@@ -81,32 +84,40 @@ impl<'a> Point<'a> {
     }
 }
 
-/// A pack, accepted: its bytes and its points. What is asked of a pack is asked of
-/// this.
+/// A pack, accepted: its bytes, its points, and how many each sector has. What is
+/// asked of a pack is asked of this.
 pub struct Pack<'a> {
     bytes: &'a [u8],
     points: &'a [u8],
     width: usize,
+    sectors: [u32; 10],
 }
 
 impl<'a> Pack<'a> {
     pub fn accept(bytes: &'a [u8]) -> Result<Pack<'a>, Refusal> {
         let refused = |step| Refusal::new(11, step);
-        let (start, width) = split(bytes).ok_or(refused(1))?;
-        let (body, trailer) = bytes.split_at(bytes.len() - TRAILER);
+        let (start, width, trailer) = split(bytes).ok_or(refused(1))?;
+        let body = bytes.len() - trailer.len();
         let kinds = row_kinds(bytes, start, number(trailer, 0)).ok_or(refused(2))?;
         let outward = number(trailer, 12);
-        let points = &body[start..];
-        let pack = Pack {
+        let mut pack = Pack {
             bytes,
-            points,
+            points: &bytes[start..body],
             width,
+            sectors: [0; 10],
         };
-        if !pack
-            .all()
-            .all(|point| is_sound(bytes, &kinds, outward, point))
+        for point in pack.all() {
+            if !is_sound(bytes, &kinds, outward, point) {
+                return Err(refused(3));
+            }
+            pack.sectors[usize::from(point.postcode[4] - b'0')] += 1;
+        }
+        let said = trailer[COUNTS..].chunks_exact(4);
+        if said
+            .zip(pack.sectors)
+            .any(|(said, count)| number(said, 0) != count)
         {
-            return Err(refused(3));
+            return Err(refused(4));
         }
         Ok(pack)
     }
@@ -133,6 +144,15 @@ impl<'a> Pack<'a> {
         }
     }
 
+    /// The points of a sector.
+    pub fn sector(&self, digit: u64) -> Result<usize, Refusal> {
+        let place = usize::try_from(digit).ok();
+        let count = place.and_then(|place| self.sectors.get(place));
+        count
+            .map(|count| *count as usize)
+            .ok_or(Refusal::new(27, 0))
+    }
+
     pub fn labels(&self, first: u64, count: u64, out: &mut [u8]) -> Run {
         let points = from(first, self.all());
         run(points, count, out, |point, out| {
@@ -153,17 +173,17 @@ impl<'a> Pack<'a> {
     }
 }
 
-/// Step 1: where the rows end, and the bytes of a point.
-fn split(bytes: &[u8]) -> Option<(usize, usize)> {
-    let body = bytes.len().checked_sub(TRAILER)?;
+/// Step 1: where the rows end, the bytes of a point, and the trailer.
+fn split(bytes: &[u8]) -> Option<(usize, usize, &[u8])> {
+    let (width, trailer) = widths_of(*bytes.last()?)?;
+    let body = bytes.len().checked_sub(trailer)?;
     let trailer = &bytes[body..];
     let start = number(trailer, 4) as usize;
     let count = number(trailer, 8) as usize;
-    let width = width_of(trailer[20])?;
     let sound = number(trailer, 16) as usize == bytes.len()
         && outward_fault(&trailer[12..16]) == 0
         && start + width * count == body;
-    sound.then_some((start, width))
+    sound.then_some((start, width, trailer))
 }
 
 /// The top bit of each byte that may stand in no text: below 32, a small
@@ -369,6 +389,9 @@ mod tests {
         let last = if points >> 56 == 0 { points + 1 } else { 1 };
         for k in 0..=last {
             same_call!(what, 0, |_, _| pack_suffix(pack, k));
+        }
+        for digit in (0..=10).chain([b'9'.into(), 1 << 32, u64::MAX]) {
+            same_call!(what, 0, |_, _| sector(pack, digit));
         }
         for room in [0, 30, 60, 90, 498, 499, 519, 520, 700] {
             for k in 0..=last {

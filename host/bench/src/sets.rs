@@ -140,8 +140,8 @@ fn print_beyond(set: Set) {
         [
             &mut || main_calls::views(set),
             &mut || plain_main::views(set),
-            &mut || main_calls::build(set, EMPTY, &mut [0; 21]),
-            &mut || plain_main::build(set, EMPTY, &mut [0; 21]),
+            &mut || main_calls::build(set, EMPTY, &mut [0; 61]),
+            &mut || plain_main::build(set, EMPTY, &mut [0; 61]),
             &mut || main_calls::build(set, CODE, &mut room),
             &mut || plain_main::build(set, CODE, &mut other),
         ],

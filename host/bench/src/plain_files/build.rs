@@ -83,7 +83,7 @@ fn mark(index: &mut Index, rows: &[Row], points: &[Point], code: &[u8]) -> Resul
             area.rows += 1;
             area.bytes += row_len(&points[place + 1], ORGANISATION);
         }
-        area.points += 1;
+        area.count(&POINT, view);
     }
     Ok(area)
 }

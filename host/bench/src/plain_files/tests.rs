@@ -45,7 +45,7 @@ fn same_in_code(table: &[u8], points: &[u8], code: &[u8]) {
             table, points, code, k, 9, out, bytes
         ));
     }
-    for room in [0, 21, 20_000] {
+    for room in [0, 61, 20_000] {
         same_call!("all", room, |out, _| build(table, points, code, out));
     }
 }

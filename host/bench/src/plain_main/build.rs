@@ -87,8 +87,9 @@ impl Main<'_> {
                 ..refusal
             })?;
         let mut area = Area {
-            points: addresses.len(),
-            ..Area::default()
+            rows: 0,
+            bytes: 0,
+            ..own
         };
         for ((used, shelf), texts) in used.iter_mut().zip(&self.shelves).zip(TEXTS) {
             used.place(shelf, texts, &mut area);
@@ -105,7 +106,7 @@ impl Main<'_> {
         Ok(length)
     }
 
-    /// Marks the rows of these addresses and counts their organisations; or the first 8 or 9, with its place.
+    /// Marks the rows of these addresses and counts them and their organisations; or the first 8 or 9, with its place.
     fn mark(&self, used: &mut [Used; 5], addresses: &[Address]) -> Result<Area, (usize, Refusal)> {
         let mut own = Area::default();
         for (n, address) in addresses.iter().enumerate() {
@@ -119,6 +120,7 @@ impl Main<'_> {
                 own.rows += 1;
                 own.bytes += row_len(&self.organisations[place], ORGANISATION);
             }
+            own.count(&POINT, address);
         }
         Ok(own)
     }

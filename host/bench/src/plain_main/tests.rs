@@ -50,7 +50,7 @@ fn same_in_code(set: Set, code: &[u8]) {
         ));
         same_call!([2_000], |out, bytes| code_list(set, code, k, 9, out, bytes));
     }
-    same_call!([0, 21, 20_000], |out, _| build(set, code, out));
+    same_call!([0, 61, 20_000], |out, _| build(set, code, out));
 }
 
 fn same_answers(made: &MainSet) {
