@@ -188,8 +188,8 @@ uint64_t ttw_code_list(const uint8_t *table, size_t table_len, const uint8_t *po
 /* Packs. A pack holds the labels of the live views in one outward code, and needs no file beside it: its k-th point has
  * the label that ttw_code_label gives for the k-th live view of the files that it was built from. Its last byte is its
  * edition. Packs of edition 3 are built, whose points have a delivery point suffix too, and which say how many points
- * each sector has. Those of editions 1 and 2 open and print the same labels: in edition 2 the sectors are counted, and
- * edition 1 has no suffix either.
+ * each sector has. Those of editions 1 and 2 open and print the same labels. They do not say that number, so that the
+ * points are counted for it, and those of edition 1 have no suffixes.
  *
  *     uint64_t answer = ttw_pack_label(pack, pack_len, 1, label, sizeof label);
  *     if (TTW_REFUSAL(answer) == 0)
