@@ -78,10 +78,7 @@ impl<'a> Pack<'a> {
         if !pack.all_points().all(|point| point.is_sound(&row_types)) {
             return Err(Refusal::new(11, 3));
         }
-        if pack
-            .said_counts()
-            .is_some_and(|said| said != pack.counted())
-        {
+        if !pack.has_true_counts() {
             return Err(Refusal::new(11, 4));
         }
         Ok(pack)
@@ -114,6 +111,12 @@ impl<'a> Pack<'a> {
             outward,
             counts: edition.counts.clone().map(|counts| &trailer[counts]),
         })
+    }
+
+    /// Step 4, where the edition has counts: what they say "equals counting all
+    /// points; opening checks this".
+    fn has_true_counts(self) -> bool {
+        self.said_counts().is_none_or(|said| said == self.counted())
     }
 
     /// The counts of the sectors that the trailer says, where the edition has
