@@ -114,7 +114,7 @@ countsWidth = 40
 abbrev pub behindFields : ℕ → ℕ
 behindFields edition = cond (hasCounts edition) countsWidth 0
 
--- "edition 1"
+-- the edition has one byte, the last: "edition 1"
 abbrev pub editionWidth : ℕ
 editionWidth = 1
 

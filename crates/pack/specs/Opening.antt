@@ -54,7 +54,8 @@ module _ (pack : List ℕ) where
   lengthSaid = trailerNumber lengthAt
 
   -- "Step 1: at least 21 bytes, edition 1, length true, outward well formed, points start + 57 x point count + 21 equal to
-  -- the length": 57 and 21 are those of the pack's own edition
+  -- the length": of an edition that there is, 57 and 21 being its own; "Opening counts 59 in step 1" (No. 6); "61 bytes, both
+  -- times that step 1 says 21" (No. 7)
   unfoldable pub trailerGood : Bool
   trailerGood =
       leb (trailerWidth edition) (length pack)
