@@ -206,8 +206,8 @@ uint64_t ttw_code_list(const uint8_t *table, size_t table_len, const uint8_t *po
 uint64_t ttw_build(const uint8_t *table, size_t table_len, const uint8_t *points, size_t points_len,
                    const uint8_t *code, size_t code_len, uint8_t *out, size_t out_len);
 
-/* How many points a pack has. Refusal: 11, these bytes are no pack (the first step that fails: 1 trailer, 2 rows,
- * 3 points, 4 the counts of the sectors). */
+/* How many points a pack has. Refusal: 11, these bytes are no pack (the first step that fails: 1 trailer, which is one of
+ * editions 1, 2 and 3; 2 rows; 3 points; 4 the counts of the sectors). */
 uint64_t ttw_pack(const uint8_t *pack, size_t pack_len);
 
 /* The label of the k-th point of a pack, k counted from 1, printed into `out` as by the label calls: how many bytes were
