@@ -36,6 +36,8 @@ pub enum Takes {
     NothingAnywhere,
     Nothing,
     Number,
+    /// A code, or the letters that codes begin with; some of them where a list is
+    /// taken.
     Code,
     /// A file or a folder.
     Place,
@@ -49,16 +51,19 @@ impl Takes {
 }
 
 /// Every option.
-pub const OPTIONS: [(&str, Takes); 10] = [
+pub const OPTIONS: [(&str, Takes); 13] = [
     ("--help", Takes::NothingAnywhere),
     ("--version", Takes::NothingAnywhere),
     ("--all", Takes::Nothing),
     ("--suffix", Takes::Nothing),
     ("--sectors", Takes::Nothing),
+    ("--line-ends", Takes::Nothing),
     ("--view", Takes::Number),
     ("--nth", Takes::Number),
     ("--count", Takes::Number),
+    ("--most", Takes::Number),
     ("--code", Takes::Code),
+    ("--area", Takes::Code),
     ("--out", Takes::Place),
 ];
 
@@ -68,11 +73,14 @@ pub struct Arguments {
     pub files: Vec<PathBuf>,
     pub view: Option<u64>,
     pub code: Option<Code>,
+    pub area: Option<Code>,
     pub nth: Option<u64>,
     pub count: Option<u64>,
+    pub most: Option<u64>,
     pub all: bool,
     pub suffix: bool,
     pub sectors: bool,
+    pub line_ends: bool,
     pub out: Option<PathBuf>,
     pub help: bool,
     pub version: bool,
@@ -85,10 +93,13 @@ impl Arguments {
             ("--all", self.all),
             ("--suffix", self.suffix),
             ("--sectors", self.sectors),
+            ("--line-ends", self.line_ends),
             ("--view", self.view.is_some()),
             ("--nth", self.nth.is_some()),
             ("--count", self.count.is_some()),
+            ("--most", self.most.is_some()),
             ("--code", self.code.is_some()),
+            ("--area", self.area.is_some()),
             ("--out", self.out.is_some()),
         ];
         given
@@ -158,6 +169,7 @@ fn set_mark(arguments: &mut Arguments, name: &str) -> Result<(), Stop> {
         "--version" => &mut arguments.version,
         "--suffix" => &mut arguments.suffix,
         "--sectors" => &mut arguments.sectors,
+        "--line-ends" => &mut arguments.line_ends,
         _ => &mut arguments.all,
     };
     *mark = true;
@@ -169,7 +181,9 @@ fn set_value(arguments: &mut Arguments, name: &str, value: &OsStr) -> Result<(),
         "--view" => once(&mut arguments.view, name, number(name, value)?),
         "--nth" => once(&mut arguments.nth, name, number(name, value)?),
         "--count" => once(&mut arguments.count, name, number(name, value)?),
+        "--most" => once(&mut arguments.most, name, number(name, value)?),
         "--code" => once(&mut arguments.code, name, Code::new(value.as_bytes())),
+        "--area" => once(&mut arguments.area, name, Code::new(value.as_bytes())),
         _ => once(&mut arguments.out, name, place(name, value)?),
     }
 }

@@ -1,6 +1,7 @@
 //! Reading and writing whole files.
 
-use crate::part;
+use crate::kind::Kind;
+use crate::part::{self, NewFolder};
 use crate::stop::Stop;
 use crate::system::standard_input;
 use std::fs::{self, File};
@@ -13,19 +14,17 @@ use ttw::words::shown;
 /// standard output where labels are written.
 pub const STANDARD: &str = "-";
 
-/// One byte more than the longest file that the library accepts, 20,000 table
-/// records: so much is enough to have a longer file refused, and a disk image
-/// given by mistake does not fill the memory.
-const CHANGES_READ: u64 = 20_000 * 169 + 1;
-
 /// No pack of a pair of files comes near this length. Each address takes at most
 /// 538 bytes of a pack with the rows that it alone uses, so that no pack of a
 /// Mainfile set with less than 124,000 addresses in the code is as long.
 const PACK_READ: u64 = 64 << 20;
 
-/// A Changes file, or as much of it as is needed to refuse it.
-pub fn read_changes(path: &Path) -> Result<Vec<u8>, Stop> {
-    read_at_most(File::open(path), CHANGES_READ, &name_of(path))
+/// A Changes file, or as much of it as is needed to refuse it: one byte more than
+/// the longest that the library accepts. So a disk image given by mistake does not
+/// fill the memory.
+pub fn read_changes(path: &Path, kind: &Kind) -> Result<Vec<u8>, Stop> {
+    let most = kind.most * kind.record + 1;
+    read_at_most(File::open(path), most as u64, &name_of(path))
 }
 
 /// A pack file, or what comes on standard input.
@@ -95,6 +94,19 @@ pub fn write_plain<T>(
         return Err(Stop::could_not(words));
     }
     told_of(path, part::write_whole(path, fill))
+}
+
+/// Has a new folder written by `fill`, with all its files or not at all.
+pub fn write_folder(
+    path: &Path,
+    fill: impl FnOnce(&mut NewFolder) -> Result<(), Stop>,
+) -> Result<(), Stop> {
+    let write = || {
+        let mut folder = NewFolder::create(path)?;
+        fill(&mut folder)?;
+        Ok(folder.rename(path)?)
+    };
+    told_of(path, write())
 }
 
 /// An outcome of writing, in which an error of the system names the file.

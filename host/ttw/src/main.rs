@@ -4,8 +4,10 @@
 mod arguments;
 mod commands;
 mod completion;
+mod extract;
 mod files;
 mod help;
+mod kind;
 mod main_commands;
 mod man;
 mod memory;
@@ -36,7 +38,7 @@ struct Command {
     run: fn(&Arguments) -> Outcome,
 }
 
-const COMMANDS: [Command; 6] = [
+const COMMANDS: [Command; 7] = [
     Command {
         name: "check",
         verbs: &[],
@@ -76,6 +78,21 @@ const COMMANDS: [Command; 6] = [
         options: &["--nth", "--count", "--suffix", "--sectors", "--out"],
         help: help::SHOW,
         run: commands::show,
+    },
+    Command {
+        name: "extract",
+        verbs: &[],
+        files: Some(2),
+        options: &[
+            "--code",
+            "--area",
+            "--all",
+            "--most",
+            "--line-ends",
+            "--out",
+        ],
+        help: help::EXTRACT,
+        run: extract::extract,
     },
     Command {
         name: "main",

@@ -1,16 +1,13 @@
 //! The two Changes files of a command.
 
 use crate::files::{name_of, read_changes};
+use crate::kind::{Kind, POINTS, TABLE};
 use crate::source::{Source, Words};
 use crate::stop::Stop;
 use std::path::PathBuf;
 use ttw::ask::{self, Refusal, Run};
 use ttw::listing;
 use ttw::words::words;
-
-/// Bytes of a record in each file.
-const TABLE_RECORD: usize = 169;
-const POINT_RECORD: usize = 168;
 
 /// The refusal of a header.
 const HEADER: u8 = 2;
@@ -24,8 +21,8 @@ pub struct Pair {
 impl Pair {
     pub fn read(files: &[PathBuf]) -> Result<Pair, Stop> {
         Ok(Pair {
-            table: read_changes(&files[0])?,
-            points: read_changes(&files[1])?,
+            table: read_changes(&files[0], &TABLE)?,
+            points: read_changes(&files[1], &POINTS)?,
         })
     }
 
@@ -51,8 +48,7 @@ impl Pair {
 
     /// Whether each file has the header of the other.
     fn looks_swapped(&self) -> bool {
-        has_header(&self.points, TABLE_RECORD, ask::table)
-            && has_header(&self.table, POINT_RECORD, ask::points)
+        has_header(&self.points, &TABLE) && has_header(&self.table, &POINTS)
     }
 }
 
@@ -109,7 +105,7 @@ impl Source for Pair {
 /// Whether a file begins with the header of such a file. The library is asked
 /// about two records alone, whose length is right, so that whatever stands
 /// behind them it comes to the header.
-fn has_header(file: &[u8], record: usize, ask: fn(&[u8]) -> Result<u64, Refusal>) -> bool {
-    let refused = |two| ask(two).is_err_and(|why| why.number == HEADER);
-    file.get(..2 * record).is_some_and(|two| !refused(two))
+fn has_header(file: &[u8], kind: &Kind) -> bool {
+    let refused = |two| kind.check(two).is_err_and(|why| why.number == HEADER);
+    file.get(..2 * kind.record).is_some_and(|two| !refused(two))
 }

@@ -2,15 +2,16 @@
 //! nobody can guess, and reach the disk before the part gets the file's name, so
 //! that a full disk, a kill or a power cut leaves the older file, if there was
 //! one, as it was. Behind the rename the folder reaches the disk too, so that
-//! what was told as written stays written.
+//! what was told as written stays written. In the same way a new folder is
+//! written with all its files.
 
-use crate::system::{part_stands, random};
+use crate::system::{random, stands};
 use std::ffi::{CStr, CString, OsStr, OsString};
 use std::fs::{self, File, Metadata, OpenOptions, Permissions};
-use std::io;
+use std::io::{self, Write};
 use std::os::unix::ffi::{OsStrExt, OsStringExt};
 use std::os::unix::fs::{fchown, MetadataExt, OpenOptionsExt, PermissionsExt};
-use std::path::Path;
+use std::path::{Path, PathBuf};
 
 /// How often a name is tried that someone else took. One name in 2 to the 64 is
 /// taken by chance, so that more than one is no chance.
@@ -100,35 +101,17 @@ struct Part {
 }
 
 impl Part {
-    /// A new file beside the one that it is to be: what stands under its name
-    /// already is neither opened nor followed, and another name is tried.
+    /// A new file beside the one that it is to be.
     fn create(whole: &Path, mode: u32) -> io::Result<Part> {
-        let whole_name = whole.file_name().ok_or(io::ErrorKind::InvalidInput)?;
         let mut new = OpenOptions::new();
         new.write(true).create_new(true).mode(mode);
-        let mut tries = 1;
-        loop {
-            let mut name = OsString::from(".");
-            name.push(whole_name);
-            name.push(format!(".{:016x}.part", random()?));
-            let path = above(whole).join(name);
-            let path = CString::new(path.into_os_string().into_vec())?;
-            match new.open(path_of(&path)) {
-                Err(why) if why.kind() == io::ErrorKind::AlreadyExists && tries < TRIES => {
-                    tries += 1;
-                }
-                file => return file.map(|file| Part::stands(file, path)),
-            }
-        }
-    }
-
-    fn stands(file: File, path: CString) -> Part {
-        part_stands(Some(&path));
-        Part {
+        let (file, path) = under_a_new_name(whole, |path| new.open(path))?;
+        stands(0, Some(&path));
+        Ok(Part {
             file,
             path,
             named: false,
-        }
+        })
     }
 
     fn rename(&mut self, path: &Path) -> io::Result<()> {
@@ -138,14 +121,102 @@ impl Part {
     }
 }
 
+/// Has something made beside what it is to be, under a name that nobody can
+/// guess: what stands there already is neither opened nor followed, and another
+/// name is tried.
+fn under_a_new_name<T>(
+    whole: &Path,
+    make: impl Fn(&Path) -> io::Result<T>,
+) -> io::Result<(T, CString)> {
+    let whole_name = whole.file_name().ok_or(io::ErrorKind::InvalidInput)?;
+    let mut tries = 1;
+    loop {
+        let mut name = OsString::from(".");
+        name.push(whole_name);
+        name.push(format!(".{:016x}.part", random()?));
+        let path = c_path(above(whole).join(name))?;
+        match make(path_of(&path)) {
+            Err(why) if why.kind() == io::ErrorKind::AlreadyExists && tries < TRIES => {
+                tries += 1;
+            }
+            made => return made.map(|made| (made, path)),
+        }
+    }
+}
+
 impl Drop for Part {
     /// That the writing failed is told already.
     fn drop(&mut self) {
         if !self.named {
             let _ = fs::remove_file(path_of(&self.path));
         }
-        part_stands(None);
+        stands(0, None);
     }
+}
+
+/// A new folder that has not got its name yet, with the files that were written
+/// into it. It goes with all of them where it does not get its name.
+pub struct NewFolder {
+    path: CString,
+    files: Vec<CString>,
+    named: bool,
+}
+
+/// The place behind that of any file, in which the folder stands.
+const FOLDER: usize = 7;
+
+impl NewFolder {
+    /// A new folder beside the one that it is to be.
+    pub fn create(whole: &Path) -> io::Result<NewFolder> {
+        let ((), path) = under_a_new_name(whole, |path| fs::create_dir(path))?;
+        stands(FOLDER, Some(&path));
+        Ok(NewFolder {
+            path,
+            files: Vec::with_capacity(FOLDER),
+            named: false,
+        })
+    }
+
+    pub fn path(&self) -> &Path {
+        path_of(&self.path)
+    }
+
+    /// Writes a file into it, up to seven of them.
+    pub fn write(&mut self, name: &str, parts: &[&[u8]]) -> io::Result<()> {
+        let path = c_path(self.path().join(name))?;
+        let mut file = File::create_new(path_of(&path))?;
+        stands(self.files.len(), Some(&path));
+        self.files.push(path);
+        for bytes in parts {
+            file.write_all(bytes)?;
+        }
+        file.sync_all()
+    }
+
+    /// Gives it its name, under which nothing stands yet.
+    pub fn rename(mut self, path: &Path) -> io::Result<()> {
+        sync_folder(&File::open(self.path())?)?;
+        fs::rename(self.path(), path)?;
+        self.named = true;
+        sync_folder(&File::open(above(path))?)
+    }
+}
+
+impl Drop for NewFolder {
+    /// That the writing failed is told already.
+    fn drop(&mut self) {
+        if !self.named {
+            for file in &self.files {
+                let _ = fs::remove_file(path_of(file));
+            }
+            let _ = fs::remove_dir(self.path());
+        }
+        (0..=FOLDER).for_each(|place| stands(place, None));
+    }
+}
+
+fn c_path(path: PathBuf) -> io::Result<CString> {
+    Ok(CString::new(path.into_os_string().into_vec())?)
 }
 
 fn path_of(path: &CStr) -> &Path {

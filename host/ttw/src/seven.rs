@@ -1,6 +1,7 @@
 //! The seven files of a Mainfile set, told apart by their headers.
 
 use crate::files::{name_of, read_whole};
+use crate::kind::{Kind, MAIN};
 use crate::progress::Progress;
 use crate::source::{Source, Words};
 use crate::stop::Stop;
@@ -12,34 +13,8 @@ use ttw::main_calls::FILES;
 use ttw::main_set::MainSet;
 use ttw::words::{main_words, MAIN_NAMES};
 
-/// What is known of a file: bytes of its record, and what its header says, where.
-struct Kind {
-    record: usize,
-    at: usize,
-    says: &'static [u8; 8],
-}
-
-const fn kind(record: usize, at: usize, says: &'static [u8; 8]) -> Kind {
-    Kind { record, at, says }
-}
-
-/// The kinds in the set's order.
-const KINDS: [Kind; FILES] = [
-    kind(151, 8, b"LOCALITY"),
-    kind(68, 8, b"THOROUGH"),
-    kind(30, 8, b"THDESCRI"),
-    kind(58, 8, b"BUILDING"),
-    kind(38, 8, b"SUBBUILD"),
-    kind(153, 8, b"ORGANISA"),
-    kind(88, 15, b"ADDRESS "),
-];
-
 /// Bytes of a file that tell its kind.
 const FRONT: u64 = 23;
-
-/// The most records of a file. One byte more is read, so that a longer file is
-/// refused.
-const MOST_RECORDS: usize = 1_000_000;
 
 /// Seven files as they were read.
 pub struct Seven {
@@ -61,8 +36,8 @@ impl Seven {
         let mut progress = Progress::new(FILES);
         let mut files: [Vec<u8>; FILES] = Default::default();
         for (index, begun) in told_apart(given)?.into_iter().enumerate() {
-            progress.step(&format!("reading the {} file", MAIN_NAMES[index]));
-            let most = MOST_RECORDS * KINDS[index].record + 1;
+            progress.step(&format!("reading the {} file", MAIN[index].name));
+            let most = MAIN[index].most * MAIN[index].record + 1;
             let read = begun.rest(most);
             if read.is_err() {
                 progress.clear();
@@ -81,11 +56,10 @@ impl Seven {
     pub fn counts(&self) -> Result<String, Stop> {
         let refused = |why| Stop::Refused(main_words(&why, "files"));
         let views = self.set().views().map_err(refused)?;
-        let named = MAIN_NAMES.iter().zip(&KINDS).zip(&self.files);
-        let line = |((name, kind), file): ((&&str, &Kind), &Vec<u8>)| {
-            format!("{name}: {} records", file.len() / kind.record)
+        let line = |(kind, file): (&Kind, &Vec<u8>)| {
+            format!("{}: {} records", kind.name, file.len() / kind.record)
         };
-        let lines: Vec<String> = named.map(line).collect();
+        let lines: Vec<String> = MAIN.iter().zip(&self.files).map(line).collect();
         Ok(format!("{}, {views} views\n", lines.join("\n")))
     }
 }
@@ -164,8 +138,7 @@ impl Begun {
     /// The place of its kind in a set, by what its header says. Whether the
     /// header is right in all else is the library's to say.
     fn kind(&self) -> Option<usize> {
-        let says = |kind: &Kind| self.front.get(kind.at..kind.at + 8) == Some(kind.says);
-        KINDS.iter().position(says)
+        MAIN.iter().position(|kind| kind.begins(&self.front))
     }
 
     /// All its bytes, or as many as are needed to refuse it.

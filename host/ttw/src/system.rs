@@ -33,8 +33,8 @@ extern "C" {
     fn fcntl(file: c_int, command: c_int, ...) -> c_int;
     fn getrandom(bytes: *mut c_void, length: usize, flags: u32) -> isize;
     fn mallopt(parameter: c_int, value: c_int) -> c_int;
+    fn remove(path: *const c_char) -> c_int;
     fn signal(number: c_int, handler: usize) -> usize;
-    fn unlink(path: *const c_char) -> c_int;
     fn write(file: c_int, bytes: *const c_void, length: usize) -> isize;
 }
 
@@ -130,26 +130,34 @@ pub fn close_told(file: impl Into<OwnedFd>) -> io::Result<()> {
     }
 }
 
-/// The path of the part that stands on the disk now.
-static PART: AtomicPtr<c_char> = AtomicPtr::new(ptr::null_mut());
+/// The most that can stand on the disk without its name at a time: a part, or a
+/// folder with the files of a set.
+const MOST_STANDING: usize = 8;
 
-/// Says which part has to go where the process gives up; none is none. Its path
-/// has to stay until the next one is said.
-pub fn part_stands(path: Option<&CStr>) {
+/// The paths of what stands there now.
+static STANDING: [AtomicPtr<c_char>; MOST_STANDING] =
+    [const { AtomicPtr::new(ptr::null_mut()) }; MOST_STANDING];
+
+/// Says what has to go where the process gives up, and in which place: the lowest
+/// goes first. None is none. A path has to stay until the next one is said.
+pub fn stands(place: usize, path: Option<&CStr>) {
     let path = path.map_or(ptr::null(), CStr::as_ptr);
-    PART.store(path.cast_mut(), Ordering::SeqCst);
+    STANDING[place].store(path.cast_mut(), Ordering::SeqCst);
 }
 
-/// Ends the process where there is no memory, and asks for none: takes the part
-/// away, says why, status 2.
+/// Ends the process where there is no memory, and asks for none: takes away what
+/// stands, says why, status 2.
 pub fn give_up() -> ! {
     const WORDS: &[u8] = b"ttw: no memory is left\n";
-    let part = PART.load(Ordering::SeqCst);
-    // SAFETY: the path stays as long as it is said; the words are a constant.
-    unsafe {
-        if !part.is_null() {
-            unlink(part);
+    for path in &STANDING {
+        let path = path.load(Ordering::SeqCst);
+        if !path.is_null() {
+            // SAFETY: the path stays as long as it is said.
+            unsafe { remove(path) };
         }
+    }
+    // SAFETY: the words are a constant.
+    unsafe {
         write(STANDARD_ERROR, WORDS.as_ptr().cast(), WORDS.len());
         _exit(2)
     }

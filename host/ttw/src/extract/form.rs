@@ -1,0 +1,81 @@
+//! What an extract has to know of a pair and of a set: where a record has its
+//! outward code, whether it is live, and which rows it refers to.
+
+use super::counts::Counts;
+use super::rows::Number;
+use crate::kind::{Kind, POINTS, TABLE};
+use crate::stop::Stop;
+use std::path::Path;
+
+/// An outward code, padded.
+pub type Outward = [u8; 4];
+
+/// A row that a record refers to: its file's place among the files of rows, and
+/// its number, 0 where there is none.
+pub type Reference = (usize, Number);
+
+/// A pair or a set.
+pub struct Form {
+    /// The files of rows, and the number that a row of each has.
+    pub rows: &'static [(&'static Kind, fn(&[u8]) -> Number)],
+    /// The file of the records that have an outward code.
+    pub records: &'static Kind,
+    /// The names of the files of a part, that of the records last.
+    pub names: &'static [&'static str],
+    /// Where a record has its outward code.
+    code: usize,
+    /// Whether a record is a live view.
+    pub is_live: fn(&[u8]) -> bool,
+    /// The rows that a record refers to.
+    pub references: fn(&[u8]) -> [Reference; 8],
+    /// What stands in the folder of a part, which the library has to accept.
+    pub found: fn(&Path) -> Result<Counts, Stop>,
+}
+
+impl Form {
+    /// The outward code of a record.
+    pub fn code(&self, record: &[u8]) -> Outward {
+        let code = &record[self.code..self.code + 4];
+        code.try_into().expect("4 bytes")
+    }
+}
+
+/// Changes1 and Changes2.
+pub static PAIR: Form = Form {
+    rows: &[(&TABLE, |row| number(&row[..9]))],
+    records: &POINTS,
+    names: &["changes1", "changes2"],
+    code: 14,
+    is_live: |record| !POINTS.follows(record) && matches!(record[40], b'I' | b'C'),
+    references: rows_of_view,
+    found: super::pair::found,
+};
+
+/// A table row is found by its type and its key, as they stand one behind the
+/// other.
+fn rows_of_view(record: &[u8]) -> [Reference; 8] {
+    if POINTS.follows(record) {
+        return [(0, 0); 8];
+    }
+    let row = |row_type: Number, at: usize| match number(&record[at..at + 8]) {
+        0 => (0, 0),
+        key => (0, row_type * 100_000_000 + key),
+    };
+    [
+        row(1, 42),
+        row(2, 50),
+        row(3, 58),
+        row(2, 66),
+        row(3, 74),
+        row(4, 86),
+        row(5, 94),
+        (0, 0),
+    ]
+}
+
+/// The value of some digits.
+fn number(digits: &[u8]) -> Number {
+    digits
+        .iter()
+        .fold(0, |value, digit| 10 * value + Number::from(digit - b'0'))
+}

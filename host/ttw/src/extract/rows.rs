@@ -1,0 +1,104 @@
+//! Files of rows that rise by their numbers: which rows some records refer to,
+//! and these rows as a file of their own.
+
+use super::input::Chain;
+use crate::stop::Stop;
+use std::ops::Range;
+
+/// A number by which a row is found; 0 is none.
+pub type Number = u32;
+
+/// A file of rows, of which the numbers are known.
+pub struct Rows {
+    chain: Chain,
+    numbers: Vec<Number>,
+}
+
+impl Rows {
+    /// Reads the numbers of all rows. Equal ones stand side by side.
+    pub fn read(chain: Chain, number: fn(&[u8]) -> Number) -> Result<Rows, Stop> {
+        let mut numbers = Vec::with_capacity(chain.records() as usize);
+        chain.each_block(|block| {
+            numbers.extend(block.chunks_exact(chain.kind.record).map(number));
+            Ok(())
+        })?;
+        Ok(Rows { chain, numbers })
+    }
+
+    /// How many rows there are.
+    pub fn count(&self) -> usize {
+        self.numbers.len()
+    }
+
+    /// The places of the rows of a number.
+    pub fn of(&self, number: Number) -> Range<usize> {
+        let start = self.numbers.partition_point(|other| *other < number);
+        let same = self.numbers[start..]
+            .iter()
+            .take_while(|other| **other == number);
+        start..start + same.count()
+    }
+
+    /// Marks for these rows, none of them set.
+    pub fn marks(&self) -> Marks {
+        Marks {
+            bits: vec![0; self.numbers.len().div_ceil(WORD)],
+            count: 0,
+            last: 0,
+        }
+    }
+
+    /// Marks all rows of a number.
+    pub fn mark(&self, number: Number, marks: &mut Marks) {
+        if number != 0 && number != marks.last {
+            marks.last = number;
+            self.of(number).for_each(|place| marks.set(place));
+        }
+    }
+
+    /// The marked rows as a file of their own.
+    pub fn file_of(&self, marks: &Marks) -> Result<Vec<u8>, Stop> {
+        let record = self.chain.kind.record;
+        let mut file = self.chain.header.clone();
+        file.reserve((marks.count + 1) * record);
+        let mut some = Vec::new();
+        for (word, start) in marks.bits.iter().zip((0..).step_by(WORD)) {
+            if *word == 0 {
+                continue;
+            }
+            let (first, behind) = (word.trailing_zeros(), WORD as u32 - word.leading_zeros());
+            some.clear();
+            let places = start + first as u64..start + u64::from(behind);
+            self.chain.read(places, &mut some)?;
+            let rows = some.chunks_exact(record).zip(first..);
+            rows.filter(|(_, bit)| word >> bit & 1 == 1)
+                .for_each(|(row, _)| file.extend(row));
+        }
+        file.extend(self.chain.trailer(marks.count + 2));
+        Ok(file)
+    }
+}
+
+/// How many marks stand in a word.
+const WORD: usize = 64;
+
+/// Marks on the rows of a file.
+pub struct Marks {
+    bits: Vec<u64>,
+    /// How many are set.
+    pub count: usize,
+    /// The number that was marked last: neighbours mostly share their rows.
+    last: Number,
+}
+
+impl Marks {
+    pub fn set(&mut self, place: usize) {
+        let (word, bit) = (&mut self.bits[place / WORD], 1 << (place % WORD));
+        self.count += usize::from(*word & bit == 0);
+        *word |= bit;
+    }
+
+    pub fn is_set(&self, place: usize) -> bool {
+        self.bits[place / WORD] >> (place % WORD) & 1 == 1
+    }
+}
