@@ -34,9 +34,13 @@ pub(crate) fn check_file(
 
 /// The number of records of an accepted point file, or its first refusal.
 pub fn check_points(points: &[u8]) -> Result<usize, Refusal> {
-    let records = check_frame(points, &POINTS)?;
+    check_points_by(points, &POINTS)
+}
+
+fn check_points_by(points: &[u8], rules: &FileRules) -> Result<usize, Refusal> {
+    let records = check_frame(points, rules)?;
     for number in 2..records {
-        check_record(points, &POINTS, number, point_fault)?;
+        check_record(points, rules, number, point_fault)?;
         check_follower(points, number)?;
     }
     Ok(records)
@@ -186,6 +190,11 @@ impl<'a> TableFile<'a> {
         Ok(TableFile { file, records })
     }
 
+    pub fn accept_of_any_length(file: &'a [u8]) -> Result<TableFile<'a>, Refusal> {
+        let records = check_file(file, &TABLE.of_any_length(), table_fault)?;
+        Ok(TableFile { file, records })
+    }
+
     pub fn records(self) -> usize {
         self.records
     }
@@ -252,6 +261,11 @@ pub(crate) struct PointFile<'a> {
 impl<'a> PointFile<'a> {
     pub fn accept(file: &'a [u8]) -> Result<PointFile<'a>, Refusal> {
         let records = check_points(file)?;
+        Ok(PointFile { file, records })
+    }
+
+    pub fn accept_of_any_length(file: &'a [u8]) -> Result<PointFile<'a>, Refusal> {
+        let records = check_points_by(file, &POINTS.of_any_length())?;
         Ok(PointFile { file, records })
     }
 

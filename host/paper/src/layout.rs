@@ -24,6 +24,7 @@ pub const fn width(field: &Field) -> usize {
 
 /// What is particular to a file: all else about header, trailer and sequence
 /// is the same for all.
+#[derive(Clone)]
 pub struct FileRules {
     /// The file's number in a refusal: 1 table, 2 points; 1 to 7 in a Mainfile
     /// set.
@@ -47,6 +48,16 @@ pub struct FileRules {
     /// The fields by which each record is above the one before, in the order in
     /// which they count.
     pub sequence: &'static [Field],
+}
+
+impl FileRules {
+    /// The same for a file of any length, as it is before it is cut into parts.
+    pub fn of_any_length(&self) -> FileRules {
+        FileRules {
+            most_records: usize::MAX,
+            ..self.clone()
+        }
+    }
 }
 
 /// The table file, Changes1.

@@ -32,6 +32,29 @@ pub fn code_label(
     write_label(changes, changes.live_views(code)?, k, out)
 }
 
+/// What a view of a file of any length says.
+#[derive(Clone, Debug, PartialEq, Eq)]
+pub struct Answer {
+    pub outward: Vec<u8>,
+    pub letter: u8,
+    pub label: Result<Vec<u8>, Refusal>,
+}
+
+/// What each view says of two files that may be too long for the library, in
+/// file order.
+pub fn answers_of_any_length(table: &[u8], points: &[u8]) -> Result<Vec<Answer>, Refusal> {
+    let changes = Changes {
+        table: TableFile::accept_of_any_length(table)?,
+        points: PointFile::accept_of_any_length(points)?,
+    };
+    let answer = |view: View| Answer {
+        outward: view.outward().to_vec(),
+        letter: view.letter().unwrap_or_default(),
+        label: view_label(changes, &view),
+    };
+    Ok(changes.views().map(answer).collect())
+}
+
 /// A table file and a point file that have both been accepted.
 #[derive(Clone, Copy)]
 pub(crate) struct Changes<'a> {

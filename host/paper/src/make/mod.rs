@@ -29,7 +29,7 @@ pub use damage::{
 pub use editions::{Edition, BUILT, EDITIONS, FIRST, SECOND};
 pub use pack_damage::{damaged_packs, DamagedPack};
 pub use packs::{full_draft, pack_draft, worked_pack, PackDraft, PackPoint, PackRow};
-pub use pairs::{exact_pair, pair, worked_pair, Pair};
+pub use pairs::{exact_pair, long_pair, pair, worked_pair, Pair};
 pub use records::{
     main_file_of, padded, point_file, point_file_of, table_file, table_file_of, Follower,
     Organisation, TableRow, View,

@@ -91,21 +91,53 @@ pub fn pair(rng: &mut Rng, most_records: usize) -> Pair {
 /// or forbidden combinations where the table file has ten records or more. Most
 /// of its views are live and of the outward code AB1.
 pub fn exact_pair(rng: &mut Rng, table_records: usize, point_records: usize) -> Pair {
+    let rows = keyed_rows(rng, table_records.saturating_sub(2));
+    let codes = ["AB1", "AB1", "AB1", "AB1", "AB10", "B1A"];
+    let views = exact_views(rng, &rows, point_records, &codes);
+    Pair::new(rows, views)
+}
+
+/// A pair of about so many table records and of exactly so many point records,
+/// too long for the library where there are more than 20,000. Some keys come
+/// twice; where keys may end, some of these are left without a row in force. A
+/// fifth of its views are of the outward code AB1, the others of about so many
+/// codes.
+pub fn long_pair(
+    rng: &mut Rng,
+    table_records: usize,
+    point_records: usize,
+    codes: usize,
+    may_end: bool,
+) -> Pair {
     let room = table_records.saturating_sub(2);
-    let rows: Vec<TableRow> = (0..room)
-        .map(|index| {
-            let key = 1 + (index as u32) * 3;
-            row_of(rng, 1 + (index % 5) as u8, key)
-        })
-        .collect();
+    let mut rows = keyed_rows(rng, room * 3 / 4);
+    add_histories(rng, &mut rows, room, may_end);
+    let mut codes: Vec<String> = (0..codes).map(|_| text(outward(rng))).collect();
+    let often = codes.len() / 4;
+    codes.extend(vec!["AB1".to_string(); often]);
+    let views = exact_views(rng, &rows, point_records, &codes);
+    Pair::new(rows, views)
+}
+
+/// So many rows, of each type in turn, each with a key of its own.
+fn keyed_rows(rng: &mut Rng, count: usize) -> Vec<TableRow> {
+    let row = |index: usize| row_of(rng, 1 + (index % 5) as u8, 1 + (index as u32) * 3);
+    (0..count).map(row).collect()
+}
+
+/// Views of these rows and codes that make exactly so many records.
+fn exact_views(
+    rng: &mut Rng,
+    rows: &[TableRow],
+    point_records: usize,
+    codes: &[impl AsRef<str>],
+) -> Vec<View> {
     let mut views = Vec::new();
     let mut left = point_records.saturating_sub(2);
     while left > 0 {
-        let mut next = view(rng, &rows, 0);
+        let mut next = view(rng, rows, 0);
         next.address_key = 1 + views.len() as u32;
-        next.outward = rng
-            .pick(&["AB1", "AB1", "AB1", "AB1", "AB10", "B1A"])
-            .to_string();
+        next.outward = rng.pick(codes).as_ref().to_string();
         next.letter = *rng.pick(b"IIICCBD");
         if left == 1 {
             without_follower(&mut next);
@@ -113,7 +145,7 @@ pub fn exact_pair(rng: &mut Rng, table_records: usize, point_records: usize) -> 
         left -= next.records().len();
         views.push(next);
     }
-    Pair::new(rows, views)
+    views
 }
 
 /// At least two rows of each type, so that a view need not be refused.

@@ -84,9 +84,13 @@ impl<'a> Parts<'a> {
             let count = records.len() / self.form.records.record + 2;
             let ends = [&self.records.header, &self.records.trailer(count)];
             part.write(last, &[ends[0], records, ends[1]])?;
-            let found = (self.form.found)(part.path())?;
-            compare(&mut self.owed, held, &found)
-                .map_err(|why| Stop::could_not(format!("part {name}: {why}; it is removed")))
+            let removed =
+                |why: String| Stop::could_not(format!("part {name}: {why}; it is removed"));
+            let found = (self.form.found)(part.path()).map_err(|stop| match stop {
+                Stop::Refused(why) => removed(why),
+                stop => stop,
+            })?;
+            compare(&mut self.owed, held, &found).map_err(removed)
         })?;
         self.written += 1;
         Ok(())

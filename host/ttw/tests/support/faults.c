@@ -4,6 +4,7 @@
  *   FAULTS_LOG=FILE                     each such call becomes a line of this file
  *   FAULTS_FAIL=CALL FIRST LAST ERROR   of the calls of that name the FIRST to the LAST fail with this error number;
  *                                       `memory` is what is asked for while a part stands
+ *   FAULTS_SPOIL=TEXT AT BYTE           byte AT of a file with this in its name is written as this one
  *   FAULTS_FILE=TEXT                    with FAULTS_FAIL: counted are calls on files with this in their name alone
  *   FAULTS_PLACE=KIND TIMES             before the first so many creations of a part something stands in its place:
  *                                       link (to the file `victim`) or fifo
@@ -42,6 +43,8 @@ static char failing[32];
 static int first, last, error, seen;
 static char place[8];
 static int places;
+static char spoiled[32], spoilt;
+static off_t spoiled_at;
 /* How much memory the program may have, 0 for any, and how much it has. */
 static size_t memory, taken;
 static int part_stands;
@@ -68,11 +71,14 @@ __attribute__((constructor)) static void read_environment(void)
     const char *fail = getenv("FAULTS_FAIL");
     const char *placed = getenv("FAULTS_PLACE");
     const char *most = getenv("FAULTS_MEMORY");
+    const char *spoil = getenv("FAULTS_SPOIL");
 
     dl_iterate_phdr(find_code, NULL);
     if (fail != NULL && sscanf(fail, "%31s %d %d %d", failing, &first, &last, &error) != 4)
         abort();
     if (placed != NULL && sscanf(placed, "%7s %d", place, &places) != 2)
+        abort();
+    if (spoil != NULL && sscanf(spoil, "%31s %ld %c", spoiled, &spoiled_at, &spoilt) != 3)
         abort();
     memory = most == NULL ? 0 : strtoul(most, NULL, 10);
     alarm(SECONDS);
@@ -160,10 +166,30 @@ int open64(const char *path, int flags, ...)
     return REAL(open64)(path, flags, mode);
 }
 
+/* Writes bytes of which one is another. */
+static ssize_t write_spoiled(int file, const void *bytes, size_t length, size_t at)
+{
+    char *copy = __libc_malloc(length);
+    ssize_t written;
+
+    memcpy(copy, bytes, length);
+    copy[at] = spoilt;
+    written = REAL(write)(file, copy, length);
+    __libc_free(copy);
+    return written;
+}
+
 ssize_t write(int file, const void *bytes, size_t length)
 {
+    off_t start;
+
     if (failing[0] == 'w' && fails("write", name_of(file)))
         return -1;
+    if (spoiled[0] != '\0' && strstr(name_of(file), spoiled) != NULL) {
+        start = lseek(file, 0, SEEK_CUR);
+        if (start <= spoiled_at && spoiled_at < start + (off_t)length)
+            return write_spoiled(file, bytes, length, (size_t)(spoiled_at - start));
+    }
     return REAL(write)(file, bytes, length);
 }
 
