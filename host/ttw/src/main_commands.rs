@@ -2,6 +2,7 @@
 
 use crate::arguments::Arguments;
 use crate::commands::{cut_packs, print_codes, print_labels};
+use crate::extract::main_extract;
 use crate::output::print;
 use crate::seven::Seven;
 use crate::stop::{Outcome, Stop};
@@ -16,7 +17,7 @@ struct Verb {
 }
 
 /// The names of the commands on a set.
-pub const VERBS: [&str; 4] = ["check", "codes", "labels", "pack"];
+pub const VERBS: [&str; 5] = ["check", "codes", "labels", "pack", "extract"];
 
 const COMMANDS: [Verb; VERBS.len()] = [
     Verb {
@@ -38,6 +39,18 @@ const COMMANDS: [Verb; VERBS.len()] = [
         name: VERBS[3],
         options: &["--code", "--all", "--out"],
         run: |given, files| cut_packs(given, files, Seven::read_accepted),
+    },
+    Verb {
+        name: VERBS[4],
+        options: &[
+            "--code",
+            "--area",
+            "--all",
+            "--most",
+            "--line-ends",
+            "--out",
+        ],
+        run: main_extract,
     },
 ];
 

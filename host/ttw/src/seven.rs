@@ -13,8 +13,11 @@ use ttw::main_calls::FILES;
 use ttw::main_set::MainSet;
 use ttw::words::{main_words, MAIN_NAMES};
 
-/// Bytes of a file that tell its kind.
-const FRONT: u64 = 23;
+/// Where the address file stands in a set.
+const ADDRESSES: usize = FILES - 1;
+
+/// Bytes of a file that tell its kind: as many as an address has.
+const FRONT: u64 = 88;
 
 /// Seven files as they were read.
 pub struct Seven {
@@ -35,7 +38,8 @@ impl Seven {
     fn read(given: &[PathBuf]) -> Result<Seven, Stop> {
         let mut progress = Progress::new(FILES);
         let mut files: [Vec<u8>; FILES] = Default::default();
-        for (index, begun) in told_apart(given)?.into_iter().enumerate() {
+        let found = told_apart(given, Addresses::InOneFile)?;
+        for (index, begun) in found.into_iter().flatten().enumerate() {
             progress.step(&format!("reading the {} file", MAIN[index].name));
             let most = MAIN[index].most * MAIN[index].record + 1;
             let read = begun.rest(most);
@@ -114,8 +118,24 @@ impl Source for Seven {
     }
 }
 
+/// In how many files the addresses of a set may stand.
+#[derive(Clone, Copy, PartialEq, Eq)]
+enum Addresses {
+    InOneFile,
+    /// Those behind the first may have no header.
+    InSeveral,
+}
+
+/// The paths of the files of a set in its order, of which the last are those of
+/// the addresses, one or more.
+pub fn paths_of_a_set(given: &[PathBuf]) -> Result<[Vec<PathBuf>; FILES], Stop> {
+    let found = told_apart(given, Addresses::InSeveral)?;
+    Ok(found.map(|files| files.into_iter().map(|begun| begun.path).collect()))
+}
+
 /// A file of which the first bytes were read.
 struct Begun {
+    path: PathBuf,
     name: String,
     file: File,
     front: Vec<u8>,
@@ -130,7 +150,12 @@ impl Begun {
             Ok(file)
         });
         match begun {
-            Ok(file) => Ok(Begun { name, file, front }),
+            Ok(file) => Ok(Begun {
+                path: path.to_path_buf(),
+                name,
+                file,
+                front,
+            }),
             Err(why) => Err(Stop::could_not(format!("cannot read {name}: {why}"))),
         }
     }
@@ -141,14 +166,24 @@ impl Begun {
         MAIN.iter().position(|kind| kind.begins(&self.front))
     }
 
+    /// Whether it begins with an address, as a file does that goes on where
+    /// another one ended.
+    fn goes_on(&self) -> bool {
+        let kind = &MAIN[ADDRESSES];
+        let [header, trailer] = kind.ends();
+        let file = [header, self.front.clone(), kind.counted(&trailer, 3)];
+        kind.check(&file.concat()).is_ok()
+    }
+
     /// All its bytes, or as many as are needed to refuse it.
     fn rest(self, most: usize) -> Result<Vec<u8>, Stop> {
         read_whole(self.front, self.file, most, &self.name)
     }
 }
 
-/// The files in the set's order, each begun.
-fn told_apart(given: &[PathBuf]) -> Result<[Begun; FILES], Stop> {
+/// The files in the set's order, each begun: one of each kind, or more of
+/// addresses.
+fn told_apart(given: &[PathBuf], addresses: Addresses) -> Result<[Vec<Begun>; FILES], Stop> {
     let (paths, is_folder) = match given {
         [one] if one.is_dir() => (files_in(one)?, true),
         files => (files.to_vec(), false),
@@ -159,20 +194,27 @@ fn told_apart(given: &[PathBuf]) -> Result<[Begun; FILES], Stop> {
         let begun = Begun::open(path)?;
         match begun.kind() {
             Some(kind) => found[kind].push(begun),
+            None if addresses == Addresses::InSeveral && begun.goes_on() => {
+                found[ADDRESSES].push(begun);
+            }
             None => strange.push(begun.name),
         }
     }
-    let faults = faults(&found, &strange, is_folder);
-    if !faults.is_empty() {
-        return Err(Stop::could_not(faults.join("; ")));
+    let single = match addresses {
+        Addresses::InOneFile => FILES,
+        Addresses::InSeveral => ADDRESSES,
+    };
+    let faults = faults(&found, single, &strange, is_folder);
+    match faults.is_empty() {
+        true => Ok(found),
+        false => Err(Stop::could_not(faults.join("; "))),
     }
-    Ok(found.map(|mut of_a_kind| of_a_kind.pop().expect("one of each kind")))
 }
 
-/// What is wrong with the files that were given: of some kind none or more than
-/// one, or of none of the kinds. What else stands in a folder is passed over
-/// where it lacks nothing.
-fn faults(found: &[Vec<Begun>], strange: &[String], is_folder: bool) -> Vec<String> {
+/// What is wrong with the files that were given: of some kind none, of one of the
+/// first so many kinds more than one, or of none of the kinds. What else stands in
+/// a folder is passed over where it lacks nothing.
+fn faults(found: &[Vec<Begun>], single: usize, strange: &[String], is_folder: bool) -> Vec<String> {
     let mut faults = Vec::new();
     let named = || MAIN_NAMES.iter().zip(found);
     let missing = named().filter(|(_, files)| files.is_empty());
@@ -182,7 +224,8 @@ fn faults(found: &[Vec<Begun>], strange: &[String], is_folder: bool) -> Vec<Stri
         [one] => faults.push(format!("the {one} file is missing")),
         some => faults.push(format!("these files are missing: {}", some.join(", "))),
     }
-    for (name, files) in named().filter(|(_, files)| files.len() > 1) {
+    let twice = named().take(single).filter(|(_, files)| files.len() > 1);
+    for (name, files) in twice {
         let files: Vec<&str> = files.iter().map(|begun| begun.name.as_str()).collect();
         let twice = format!("the {name} file is given more than once: ");
         faults.push(twice + &files.join(", "));

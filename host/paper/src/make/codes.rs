@@ -1,9 +1,9 @@
 use super::Rng;
 
-const FIRST: &[u8] = b"ABCDEFGHIJKLMNOPRSTUWYZ";
-const SECOND: &[u8] = b"ABCDEFGHJKLMNOPQRSTUVWXY";
+pub(super) const FIRST: &[u8] = b"ABCDEFGHIJKLMNOPRSTUWYZ";
+pub(super) const SECOND: &[u8] = b"ABCDEFGHJKLMNOPQRSTUVWXY";
 const THIRD: &[u8] = b"ABCDEFGHJKMNPRSTUVWXY";
-const INWARD: &[u8] = b"ABDEFGHJLNPQRSTUWXYZ";
+pub(super) const INWARD: &[u8] = b"ABDEFGHJLNPQRSTUWXYZ";
 const DIGITS: &[u8] = b"0123456789";
 
 const PATTERNS: [&[u8]; 6] = [b"AN", b"ANN", b"AAN", b"AANN", b"ANA", b"AANA"];

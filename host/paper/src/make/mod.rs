@@ -8,6 +8,7 @@
 //! reading uses, so that a wrong width on either side is found.
 
 mod codes;
+mod country;
 mod damage;
 mod editions;
 pub mod guide;
@@ -22,6 +23,7 @@ mod texts;
 mod whole;
 
 pub use codes::{bad_outward, inward, nth_suffix, outward, suffix};
+pub use country::Country;
 pub use damage::{
     damaged_main, damaged_points, damaged_table, main_breaks, point_breaks, scratch, table_breaks,
     Break, Damaged, Place,

@@ -3,7 +3,7 @@
 
 use super::counts::Counts;
 use super::rows::Number;
-use crate::kind::{Kind, POINTS, TABLE};
+use crate::kind::{Kind, MAIN, POINTS, TABLE};
 use crate::stop::Stop;
 use std::path::Path;
 
@@ -71,6 +71,63 @@ fn rows_of_view(record: &[u8]) -> [Reference; 8] {
         row(5, 94),
         (0, 0),
     ]
+}
+
+/// A Mainfile set.
+pub static SET: Form = Form {
+    rows: &[
+        (&MAIN[0], |row| number(&row[..6])),
+        (&MAIN[1], |row| number(&row[..8])),
+        (&MAIN[2], |row| number(&row[..4])),
+        (&MAIN[3], |row| number(&row[..8])),
+        (&MAIN[4], |row| number(&row[..8])),
+        (&MAIN[5], |row| organisation(row[8], &row[..8])),
+    ],
+    records: &MAIN[6],
+    names: &[
+        "locality",
+        "thoroughfare",
+        "descriptor",
+        "building",
+        "subbuilding",
+        "organisation",
+        "address",
+    ],
+    code: 0,
+    is_live: |_| true,
+    references: rows_of_address,
+    found: super::set::found,
+};
+
+/// The places of the files of which an address may name two rows.
+pub const TWICE: [usize; 2] = [1, 2];
+
+/// A small user's organisation is found by the organisation key, a large user's
+/// by the address key.
+fn rows_of_address(record: &[u8]) -> [Reference; 8] {
+    let joined = match record[77] {
+        b'L' => &record[7..15],
+        _ => &record[69..77],
+    };
+    [
+        (0, number(&record[15..21])),
+        (1, number(&record[21..29])),
+        (2, number(&record[29..33])),
+        (1, number(&record[33..41])),
+        (2, number(&record[41..45])),
+        (3, number(&record[49..57])),
+        (4, number(&record[57..65])),
+        (5, organisation(record[77], joined)),
+    ]
+}
+
+/// The number of an organisation: those of large users stand before all others.
+fn organisation(postcode_type: u8, key: &[u8]) -> Number {
+    match (postcode_type, number(key)) {
+        (b'L', key) => key,
+        (_, 0) => 0,
+        (_, key) => 100_000_000 + key,
+    }
 }
 
 /// The value of some digits.

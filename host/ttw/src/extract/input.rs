@@ -127,6 +127,15 @@ impl Input {
         self.record(self.records - 1)
     }
 
+    /// The first record that is no header.
+    fn beginning(&self) -> Result<Vec<u8>, Stop> {
+        let first = self.first()?;
+        match self.kind.begins(&first) {
+            true => self.record(1),
+            false => Ok(first),
+        }
+    }
+
     /// A refusal of this file, said with its name.
     fn refused(&self, why: &Refusal) -> Stop {
         Stop::Refused(format!("{}: {}", self.name, self.kind.words(why)))
@@ -202,6 +211,16 @@ impl Chain {
             trailer: inputs[last].last()?,
             inputs,
         })
+    }
+
+    /// The chain of these files, in the order of the first record that each has
+    /// behind its header.
+    pub fn in_order(inputs: Vec<Input>) -> Result<Chain, Stop> {
+        let begun = |input: Input| Ok((input.beginning()?, input));
+        let mut begun: Vec<(Vec<u8>, Input)> =
+            inputs.into_iter().map(begun).collect::<Result<_, Stop>>()?;
+        begun.sort_by(|one, other| one.0.cmp(&other.0));
+        Chain::new(begun.into_iter().map(|(_, input)| input).collect())
     }
 
     /// A trailer for so many records, header and trailer counted.

@@ -8,6 +8,7 @@ mod input;
 mod pair;
 mod parts;
 mod rows;
+mod set;
 mod wanted;
 
 use crate::arguments::Arguments;
@@ -21,6 +22,7 @@ use std::path::Path;
 use wanted::Wanted;
 
 pub use pair::extract;
+pub use set::extract as main_extract;
 
 /// The fewest records of a part's file: header, trailer, a delivery point and its
 /// organisation.
@@ -63,20 +65,19 @@ impl Asked<'_> {
     }
 }
 
-/// Tells how many parts were written, and what is asked for and is not there.
+/// Tells which codes were split, what is asked for and is not there, and how many
+/// parts were written.
 fn ended(parts: &Parts, wanted: &Wanted, codes: &[Outward]) -> Outcome {
+    for (code, pieces) in &parts.split {
+        let name = code_name(*code);
+        tell(&format!(
+            "code {name}: too long for one part, split between views: {name}.1 to {name}.{pieces}"
+        ));
+    }
     let missing = wanted.missing(codes);
     missing.iter().for_each(|words| tell(words));
     tell(&format!("parts written: {}", parts.written));
     Ok(Ended::after(missing.len() as u64))
-}
-
-/// Tells that a code was cut.
-fn tell_split(code: Outward, pieces: u64) {
-    let name = code_name(code);
-    tell(&format!(
-        "code {name}: too long for one part, split between views: {name}.1 to {name}.{pieces}"
-    ));
 }
 
 /// A view for which no part has room.

@@ -6,7 +6,7 @@ use super::counts::{Count, Counts};
 use super::form::{Outward, PAIR};
 use super::parts::{Held, Parts};
 use super::rows::{Marks, Rows};
-use super::{ended, tell_split, view_too_wide, Asked};
+use super::{ended, view_too_wide, Asked};
 use crate::arguments::Arguments;
 use crate::kind::POINTS;
 use crate::pair::Pair;
@@ -225,7 +225,7 @@ impl Filled<'_> {
     fn end(&mut self, parts: &mut Parts) -> Result<(), Stop> {
         self.write(parts, true)?;
         if self.planned.is_split {
-            tell_split(self.planned.codes[0], self.pieces);
+            parts.split.push((self.planned.codes[0], self.pieces));
         }
         Ok(())
     }

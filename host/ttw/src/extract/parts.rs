@@ -17,6 +17,8 @@ pub struct Parts<'a> {
     folder: &'a Path,
     /// What the input has of each code that stands in no part yet.
     pub owed: Counts,
+    /// The codes that were split, each with its pieces.
+    pub split: Vec<(Outward, u64)>,
     pub written: u64,
 }
 
@@ -54,6 +56,7 @@ impl<'a> Parts<'a> {
             records,
             folder,
             owed: Counts::new(),
+            split: Vec::new(),
             written: 0,
         }
     }
