@@ -12,7 +12,8 @@ ttw prints labels from Royal Mail's files and cuts packs for handsets.
   ttw show   PACK [--nth K [--count N]] [--suffix | --sectors] [--out FILE]
   ttw extract CHANGES1 CHANGES2 (--code AB1.. | --area AB.. | --all)
              [--most N] [--line-ends] --out FOLDER
-  ttw main   check|codes|labels|pack FILES.. [OPTIONS]
+                                            parts of longer files
+  ttw main   check|codes|labels|pack|extract FILES.. [OPTIONS]
                                             the same of a Mainfile set
 
   ttw help TOPIC           a command, or: files, refusals, status
@@ -126,8 +127,9 @@ a full disk or a kill leaves whole parts or none. After a kill a folder such as
 ";
 
 pub const MAIN: &str = "\
-ttw main (check | codes | labels | pack) FILES..
-         [--view N | --code AB1 [--nth K]] [--count N] [--all] [--out PLACE]
+ttw main (check | codes | labels | pack | extract) FILES..
+         [--view N | --code AB1 [--nth K]] [--count N] [--area AB] [--all]
+         [--most N] [--line-ends] [--out PLACE]
 
 Does of a Mainfile set what the commands of these names do of two Changes files.
 FILES are the seven files of the set in any order, or the one folder that holds
@@ -138,6 +140,15 @@ missing or is given more than once is named. Each is read once.
   codes    each outward code, and how many addresses it has
   labels   takes --view, --code, --nth, --count and --out: see ttw help labels
   pack     takes --code, --all and --out: see ttw help pack
+  extract  takes --code, --area, --all, --most, --line-ends and --out: see ttw
+           help extract
+
+For extract the addresses may stand in several files: each with a header and a
+trailer, or the header in the first and the trailer in the last alone. They are
+put in order by their first address, since addresses rise by postcode. They are
+read once, and parts are written on the way, of up to 1,000,000 records a file:
+where one is damaged, the parts before it stay, whole. It keeps 4 bytes of each
+row, the addresses of one part and, to check it, the part.
 
 A view is a record of the address file, numbered from 1, and each is live: there
 are no amendment letters. What else stands in a folder is passed over, as long

@@ -186,7 +186,7 @@ fn bash_offers_the_options_that_help_names() {
 fn bash_offers_what_is_done_with_a_set_and_then_files() {
     let folder = Folder::new();
     folder.put("code list", b"");
-    let verbs = ["check", "codes", "labels", "pack"];
+    let verbs = ["check", "codes", "labels", "pack", "extract"];
     assert_eq!(set(offered(&folder, &["ttw", "main", ""])), set(verbs));
     assert_eq!(offered(&folder, &["ttw", "main", "co"]), ["codes"]);
     let files = offered(&folder, &["ttw", "main", "codes", "co"]);
@@ -210,10 +210,10 @@ fn bash_offers_files_where_a_file_is_taken() {
     }
     let all = offered(&folder, &["ttw", "show", "a.pack", "--out", "="]);
     assert_eq!(set(all), set([&both[..], &["completion"]].concat()));
-    for option in ["--view", "--nth", "--count", "--code"] {
-        let words = ["ttw", "labels", option, "ch"];
+    for option in ["--view", "--nth", "--count", "--most", "--code", "--area"] {
+        let words = ["ttw", "main", "labels", option, "ch"];
         assert!(offered(&folder, &words).is_empty(), "{option}");
-        let words = ["ttw", "labels", option, "=", "ch"];
+        let words = ["ttw", "main", "labels", option, "=", "ch"];
         assert!(offered(&folder, &words).is_empty(), "{option}=");
     }
 }
