@@ -1,9 +1,12 @@
-//! Many questions asked on all cores, their answers taken in order. Whatever asks
-//! the library does so on a stack that is long enough.
+//! Many questions asked on all cores, their answers taken in order; and things
+//! made one behind the other, each taken while the next is made. Whatever asks the
+//! library does so on a stack that is long enough.
 
+use crate::stop::Stop;
 use std::hint::black_box;
 use std::io;
 use std::num::NonZero;
+use std::sync::{mpsc, Mutex};
 use std::thread::{self, Builder};
 
 /// How many questions a core takes at a time.
@@ -66,5 +69,28 @@ fn answers<Q: Sync, A: Send>(batch: &[Q], ask: &(impl Fn(&Q) -> A + Sync)) -> Ve
                 Err(answers) => answers,
             })
             .collect()
+    })
+}
+
+/// Has `make` hand on one thing after another, and `take` take each on a thread
+/// beside it while the next is made; where the system gives no thread, at once. A
+/// failure ends both, and that of `take` is the one that is told.
+pub fn side_by_side<T: Send>(
+    make: impl FnOnce(&mut dyn FnMut(T) -> Result<(), Stop>) -> Result<(), Stop>,
+    take: impl FnMut(T) -> Result<(), Stop> + Send,
+) -> Result<(), Stop> {
+    let take = Mutex::new(take);
+    let take = &|thing: T| (take.lock().expect("nothing panics"))(thing);
+    thread::scope(|scope| {
+        let (sender, things) = mpsc::sync_channel(0);
+        let work = move || things.into_iter().try_for_each(take);
+        let beside = on_a_stack().spawn_scoped(scope, work);
+        let made = match &beside {
+            Ok(_) => make(&mut |thing| sender.send(thing).map_err(|_| Stop::Unread)),
+            Err(_) => make(&mut |thing| take(thing)),
+        };
+        drop(sender);
+        let taken = beside.map_or(Ok(()), |thread| thread.join().expect("nothing panics"));
+        taken.and(made)
     })
 }

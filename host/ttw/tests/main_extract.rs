@@ -351,6 +351,40 @@ fn a_part_that_is_not_what_was_written_is_removed() {
     run("address 707 1").only_tells(2, told);
 }
 
+#[test]
+fn a_part_that_cannot_be_written_leaves_those_before_it() {
+    let folder = desk(&exact_set(&mut Rng::new(5), 200).files);
+    let faults = Faults::new(&folder);
+    let command = ["main", "extract", "set", "--out", "parts", "--all"];
+    let command = [&command[..], &["--most", "60"]].concat();
+    let settings = [
+        ("FAULTS_FAIL", "fsync 3 1000 28"),
+        ("FAULTS_FILE", "building"),
+    ];
+    let run = faults.ttw(&settings, &command).run;
+    assert_eq!(run.status, Some(2));
+    let why = "No space left on device (os error 28)\n";
+    assert!(run.told.starts_with("ttw: cannot write parts/") && run.told.ends_with(why));
+    // Of a part two files have such a name.
+    assert_eq!(folder.names("parts"), ["AB1.1"]);
+    assert_eq!(
+        main_set::MainSet(parts(&folder)[0].files.each_ref().map(Vec::as_slice)).views(),
+        Ok(29)
+    );
+}
+
+#[test]
+fn one_thread_is_enough() {
+    let whole = exact_set(&mut Rng::new(5), 200);
+    let folder = desk(&whole.files);
+    let command = ["main", "extract", "set", "--all", "--out", "parts"];
+    // Error 11: the system gives no more threads for now.
+    let settings = [("FAULTS_FAIL", "thread 2 1000000 11")];
+    let run = Faults::new(&folder).ttw(&settings, &command).run;
+    run.only_tells(0, "parts written: 1");
+    parts_are_of_the_whole(&whole, &parts(&folder), 1_000_000);
+}
+
 /// A set of more addresses than the library accepts, in two files, made record by
 /// record.
 #[test]

@@ -17,7 +17,7 @@ use crate::stop::{tell, Ended, Outcome, Stop};
 use counts::code_name;
 use form::{Form, Outward};
 use input::{Chain, Input};
-use parts::{check_folder, Parts};
+use parts::check_folder;
 use std::path::Path;
 use wanted::Wanted;
 
@@ -65,18 +65,26 @@ impl Asked<'_> {
     }
 }
 
+/// What a run found: the codes that are asked for, and of those that were split
+/// the number of pieces.
+#[derive(Default)]
+struct Found {
+    codes: Vec<Outward>,
+    split: Vec<(Outward, u64)>,
+}
+
 /// Tells which codes were split, what is asked for and is not there, and how many
 /// parts were written.
-fn ended(parts: &Parts, wanted: &Wanted, codes: &[Outward]) -> Outcome {
-    for (code, pieces) in &parts.split {
+fn ended(found: &Found, wanted: &Wanted, written: u64) -> Outcome {
+    for (code, pieces) in &found.split {
         let name = code_name(*code);
         tell(&format!(
             "code {name}: too long for one part, split between views: {name}.1 to {name}.{pieces}"
         ));
     }
-    let missing = wanted.missing(codes);
+    let missing = wanted.missing(&found.codes);
     missing.iter().for_each(|words| tell(words));
-    tell(&format!("parts written: {}", parts.written));
+    tell(&format!("parts written: {written}"));
     Ok(Ended::after(missing.len() as u64))
 }
 

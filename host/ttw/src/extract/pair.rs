@@ -6,7 +6,7 @@ use super::counts::{Count, Counts};
 use super::form::{Outward, PAIR};
 use super::parts::{Held, Parts};
 use super::rows::{Marks, Rows};
-use super::{ended, view_too_wide, Asked};
+use super::{ended, view_too_wide, Asked, Found};
 use crate::arguments::Arguments;
 use crate::kind::POINTS;
 use crate::pair::Pair;
@@ -30,11 +30,14 @@ pub fn extract(given: &Arguments) -> Outcome {
     let needs = needs(&parts, &asked)?;
     let counts = needs.iter().map(|(code, needs)| (*code, needs.count));
     parts.owed = counts.collect();
-    let codes: Vec<Outward> = needs.keys().copied().collect();
+    let mut found = Found {
+        codes: needs.keys().copied().collect(),
+        split: Vec::new(),
+    };
     for some in plan(&rows[0], needs, asked.room).chunks(AT_A_TIME) {
-        fill(&mut parts, some, asked.room)?;
+        found.split.extend(fill(&mut parts, some, asked.room)?);
     }
-    ended(&parts, &asked.wanted, &codes)
+    ended(&found, &asked.wanted, parts.written)
 }
 
 /// What a code or a view takes of a part.
@@ -147,8 +150,9 @@ impl Open {
     }
 }
 
-/// Fills these parts by one pass over the points, and writes them.
-fn fill(parts: &mut Parts, planned: &[Planned], room: usize) -> Result<(), Stop> {
+/// Fills these parts by one pass over the points, and writes them. The codes that
+/// were split, each with its pieces.
+fn fill(parts: &mut Parts, planned: &[Planned], room: usize) -> Result<Vec<(Outward, u64)>, Stop> {
     let rows = &parts.rows[0];
     let new = |planned| Filled::new(planned, rows);
     let mut filled: Vec<Filled> = planned.iter().map(new).collect();
@@ -165,7 +169,13 @@ fn fill(parts: &mut Parts, planned: &[Planned], room: usize) -> Result<(), Stop>
         }
         Ok(())
     })?;
-    filled.iter_mut().try_for_each(|part| part.end(parts))
+    filled
+        .iter_mut()
+        .try_for_each(|part| part.write(parts, true))?;
+    let split = filled.iter().filter(|part| part.planned.is_split);
+    Ok(split
+        .map(|part| (part.planned.codes[0], part.pieces))
+        .collect())
 }
 
 /// The views of a block, each with its organisation.
@@ -222,18 +232,10 @@ impl Filled<'_> {
         Ok(())
     }
 
-    fn end(&mut self, parts: &mut Parts) -> Result<(), Stop> {
-        self.write(parts, true)?;
-        if self.planned.is_split {
-            parts.split.push((self.planned.codes[0], self.pieces));
-        }
-        Ok(())
-    }
-
     fn write(&mut self, parts: &mut Parts, ends: bool) -> Result<(), Stop> {
         self.pieces += 1;
         let held = Held {
-            codes: &self.planned.codes,
+            codes: self.planned.codes.clone(),
             piece: self.planned.is_split.then_some(self.pieces),
             ends,
         };

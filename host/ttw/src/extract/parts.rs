@@ -17,21 +17,19 @@ pub struct Parts<'a> {
     folder: &'a Path,
     /// What the input has of each code that stands in no part yet.
     pub owed: Counts,
-    /// The codes that were split, each with its pieces.
-    pub split: Vec<(Outward, u64)>,
     pub written: u64,
 }
 
 /// Codes that go into a part together, or a piece of one that is split.
-pub struct Held<'a> {
-    pub codes: &'a [Outward],
+pub struct Held {
+    pub codes: Vec<Outward>,
     /// Of a code that is split, the number of the piece, from 1.
     pub piece: Option<u64>,
     /// Whether no record of these codes is left for another part.
     pub ends: bool,
 }
 
-impl Held<'_> {
+impl Held {
     /// The first code, the last where there are more, and the piece.
     fn name(&self) -> String {
         let [first, last] = [self.codes[0], self.codes[self.codes.len() - 1]].map(code_name);
@@ -56,7 +54,6 @@ impl<'a> Parts<'a> {
             records,
             folder,
             owed: Counts::new(),
-            split: Vec::new(),
             written: 0,
         }
     }

@@ -12,7 +12,15 @@ pub type Number = u32;
 pub struct Rows {
     chain: Chain,
     numbers: Vec<Number>,
+    /// For each stretch of numbers the place of its first row, so that a search
+    /// begins in the right one.
+    starts: Vec<u32>,
+    /// How many bits of a number tell its place in its stretch.
+    shift: u32,
 }
+
+/// About how many rows a stretch has where the numbers have no gaps.
+const STRETCH: usize = 16;
 
 impl Rows {
     /// Reads the numbers of all rows. Equal ones stand side by side.
@@ -22,7 +30,17 @@ impl Rows {
             numbers.extend(block.chunks_exact(chain.kind.record).map(number));
             Ok(())
         })?;
-        Ok(Rows { chain, numbers })
+        let highest = numbers.last().map_or(0, |last| *last as usize);
+        let stretches = numbers.len() / STRETCH + 1;
+        let shift = (0..).find(|shift| highest >> shift < stretches);
+        let shift = shift.expect("a number ends");
+        let starts = starts(&numbers, shift);
+        Ok(Rows {
+            chain,
+            numbers,
+            starts,
+            shift,
+        })
     }
 
     /// How many rows there are.
@@ -32,10 +50,14 @@ impl Rows {
 
     /// The places of the rows of a number.
     pub fn of(&self, number: Number) -> Range<usize> {
-        let start = self.numbers.partition_point(|other| *other < number);
-        let same = self.numbers[start..]
-            .iter()
-            .take_while(|other| **other == number);
+        let stretch = (number >> self.shift) as usize;
+        let Some([first, behind]) = self.starts.get(stretch..stretch + 2) else {
+            return 0..0;
+        };
+        let some = &self.numbers[*first as usize..*behind as usize];
+        let start = some.partition_point(|other| *other < number);
+        let same = some[start..].iter().take_while(|other| **other == number);
+        let start = *first as usize + start;
         start..start + same.count()
     }
 
@@ -77,6 +99,18 @@ impl Rows {
         file.extend(self.chain.trailer(marks.count + 2));
         Ok(file)
     }
+}
+
+/// The place of the first row of each stretch of numbers, and behind them how many
+/// rows there are.
+fn starts(numbers: &[Number], shift: u32) -> Vec<u32> {
+    let mut starts = Vec::new();
+    for (place, number) in numbers.iter().enumerate() {
+        let stretch = (number >> shift) as usize;
+        starts.resize(starts.len().max(stretch + 1), place as u32);
+    }
+    starts.push(numbers.len() as u32);
+    starts
 }
 
 /// How many marks stand in a word.

@@ -1,5 +1,6 @@
 //! An extract of a Mainfile set, by one pass over its addresses. They rise by
-//! postcode, so that a code stands together.
+//! postcode, so that a code stands together; while a part is written and checked,
+//! the addresses of the next are read.
 
 use super::counts::{Count, Counts};
 use super::form::{Outward, SET, TWICE};
@@ -7,11 +8,13 @@ use super::input::{Chain, Input};
 use super::parts::{Held, Parts};
 use super::rows::Rows;
 use super::wanted::Wanted;
-use super::{ended, Asked};
+use super::{ended, Asked, Found};
 use crate::arguments::Arguments;
+use crate::order::side_by_side;
 use crate::seven::{paths_of_a_set, Seven};
 use crate::source::Source;
 use crate::stop::{Outcome, Stop};
+use std::mem::{replace, take};
 use std::path::{Path, PathBuf};
 use ttw::words::main_words;
 
@@ -28,13 +31,25 @@ pub fn extract(given: &Arguments, files: &[PathBuf]) -> Outcome {
         Rows::read(chain, *number)
     });
     let rows: Vec<Rows> = rows.collect::<Result<_, Stop>>()?;
-    let parts = Parts::new(&SET, &rows, &addresses, asked.folder);
-    let mut gathered = Gathered::new(parts, &asked.wanted, room(&rows, asked.room));
-    addresses.each_block(|block| {
-        let mut records = block.chunks_exact(SET.records.record);
-        records.try_for_each(|record| gathered.take(record))
-    })?;
-    gathered.end()
+    let mut parts = Parts::new(&SET, &rows, &addresses, asked.folder);
+    let mut found = Found::default();
+    let room = room(&rows, asked.room);
+    side_by_side(
+        |hand_on| {
+            let mut gathered = Gathered::new(&asked.wanted, room, hand_on);
+            addresses.each_block(|block| {
+                let mut records = block.chunks_exact(SET.records.record);
+                records.try_for_each(|record| gathered.take(record))
+            })?;
+            found = gathered.end()?;
+            Ok(())
+        },
+        |part: Part| {
+            parts.owed.extend(part.counts);
+            parts.write(&part.held, &part.records)
+        },
+    )?;
+    ended(&found, &asked.wanted, parts.written)
 }
 
 /// How many addresses a part has room for. Of most files each names one row; of
@@ -47,43 +62,54 @@ fn room(rows: &[Rows], room: usize) -> usize {
     }
 }
 
+/// A part that is ready to be written, with what was counted of its codes.
+struct Part {
+    held: Held,
+    counts: Counts,
+    records: Vec<u8>,
+}
+
 /// Addresses on their way into parts.
 struct Gathered<'a> {
-    parts: Parts<'a>,
     wanted: &'a Wanted,
+    hand_on: &'a mut dyn FnMut(Part) -> Result<(), Stop>,
     /// The bytes that a part has room for.
     room: usize,
     /// Those of whole codes, and from `start` on those of the code that is being
     /// read.
     records: Vec<u8>,
     start: usize,
-    /// The whole codes, and those of all parts.
-    codes: Vec<Outward>,
-    found: Vec<Outward>,
+    /// The whole codes.
+    counts: Counts,
     /// The code that is being read, where it is asked for.
     code: Option<Outward>,
     /// The code of the last record, asked for or not.
     last: Outward,
-    /// How many addresses of it were read since the last piece of it was written.
+    /// How many addresses of the code were read since a piece of it was handed on.
     count: u64,
-    /// How many pieces of it were written.
+    /// How many pieces of it were handed on.
     pieces: u64,
+    found: Found,
 }
 
 impl<'a> Gathered<'a> {
-    fn new(parts: Parts<'a>, wanted: &'a Wanted, room: usize) -> Gathered<'a> {
+    fn new(
+        wanted: &'a Wanted,
+        room: usize,
+        hand_on: &'a mut dyn FnMut(Part) -> Result<(), Stop>,
+    ) -> Gathered<'a> {
         Gathered {
-            parts,
             wanted,
+            hand_on,
             room: room * SET.records.record,
             records: Vec::new(),
             start: 0,
-            codes: Vec::new(),
-            found: Vec::new(),
+            counts: Counts::new(),
             code: None,
             last: Outward::default(),
             count: 0,
             pieces: 0,
+            found: Found::default(),
         }
     }
 
@@ -94,9 +120,9 @@ impl<'a> Gathered<'a> {
             self.last = code;
             self.code = self.wanted.has(code).then_some(code);
         }
-        if self.code.is_some() {
+        if let Some(code) = self.code {
             if self.records.len() == self.room {
-                self.make_room()?;
+                self.make_room(code)?;
             }
             self.records.extend_from_slice(record);
             self.count += 1;
@@ -109,66 +135,62 @@ impl<'a> Gathered<'a> {
         let Some(code) = self.code.take() else {
             return Ok(());
         };
-        self.found.push(code);
+        self.found.codes.push(code);
         if self.pieces > 0 {
-            self.write_piece(code)?;
-            let pieces = std::mem::take(&mut self.pieces);
-            self.parts.split.push((code, pieces));
+            self.hand_on_piece(code)?;
+            let pieces = take(&mut self.pieces);
+            self.found.split.push((code, pieces));
             return Ok(());
         }
-        self.owe(code);
-        self.codes.push(code);
+        self.counts.insert(code, all_live(take(&mut self.count)));
         self.start = self.records.len();
         Ok(())
     }
 
-    /// Writes the whole codes, or a piece of the code that is being read where
+    /// Hands on the whole codes, or a piece of the code that is being read where
     /// there is none.
-    fn make_room(&mut self) -> Result<(), Stop> {
-        match self.code.filter(|_| self.codes.is_empty()) {
-            Some(code) => self.write_piece(code),
-            None => self.write_codes(),
+    fn make_room(&mut self, code: Outward) -> Result<(), Stop> {
+        match self.counts.is_empty() {
+            true => self.hand_on_piece(code),
+            false => self.hand_on_codes(),
         }
     }
 
-    fn write_codes(&mut self) -> Result<(), Stop> {
+    fn hand_on_codes(&mut self) -> Result<(), Stop> {
+        let behind = self.records.split_off(take(&mut self.start));
+        let counts = take(&mut self.counts);
         let held = Held {
-            codes: &self.codes,
+            codes: counts.keys().copied().collect(),
             piece: None,
             ends: true,
         };
-        self.parts.write(&held, &self.records[..self.start])?;
-        self.records.drain(..self.start);
-        self.start = 0;
-        self.codes.clear();
-        Ok(())
+        (self.hand_on)(Part {
+            held,
+            counts,
+            records: replace(&mut self.records, behind),
+        })
     }
 
-    fn write_piece(&mut self, code: Outward) -> Result<(), Stop> {
+    fn hand_on_piece(&mut self, code: Outward) -> Result<(), Stop> {
         self.pieces += 1;
-        self.owe(code);
         let held = Held {
-            codes: &[code],
+            codes: vec![code],
             piece: Some(self.pieces),
             ends: true,
         };
-        self.parts.write(&held, &self.records)?;
-        self.records.clear();
-        Ok(())
+        (self.hand_on)(Part {
+            held,
+            counts: Counts::from([(code, all_live(take(&mut self.count)))]),
+            records: take(&mut self.records),
+        })
     }
 
-    /// Has the addresses of a code that were read stand in a part.
-    fn owe(&mut self, code: Outward) {
-        let count = all_live(std::mem::take(&mut self.count));
-        self.parts.owed.insert(code, count);
-    }
-
-    fn end(mut self) -> Outcome {
+    fn end(mut self) -> Result<Found, Stop> {
         self.close()?;
-        if !self.codes.is_empty() {
-            self.write_codes()?;
+        if !self.counts.is_empty() {
+            self.hand_on_codes()?;
         }
-        ended(&self.parts, self.wanted, &self.found)
+        Ok(self.found)
     }
 }
 
