@@ -2,6 +2,7 @@
 //! the header's struct is compiled as C and as C++ without a warning, linked with
 //! the library and run on the samples.
 
+use paper::make::samples::MAIN_NAMES;
 use std::path::Path;
 use trials::c::{printed, Folder};
 
@@ -49,22 +50,11 @@ pack of AB2: refused 9, file 0, second 39, detail 1
 without sub buildings: refused 1, file 5, second 0, detail 0
 ";
 
-/// The samples' files, in the set's order.
-const NAMES: [&str; 7] = [
-    "locality",
-    "thoroughfare",
-    "descriptor",
-    "building",
-    "subbuilding",
-    "organisation",
-    "address",
-];
-
 #[test]
 fn a_c_program_and_a_c_plus_plus_program_ask_every_call_about_the_samples() {
     let folder = Folder::new("main_header");
     let samples = Path::new(env!("CARGO_MANIFEST_DIR")).join("../../samples/main");
-    let files = NAMES.map(|name| samples.join(name));
+    let files = MAIN_NAMES.map(|name| samples.join(name));
     assert_eq!(printed(folder.program("main_header").args(&files)), PRINTED);
     if let Some(mut program) = folder.cpp_program("main_header") {
         assert_eq!(printed(program.args(&files)), PRINTED);

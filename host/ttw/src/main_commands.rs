@@ -2,7 +2,7 @@
 
 use crate::arguments::Arguments;
 use crate::commands::{cut_packs, print_codes, print_labels};
-use crate::extract::main_extract;
+use crate::extract::{main_extract, OPTIONS};
 use crate::output::print;
 use crate::seven::Seven;
 use crate::stop::{Outcome, Stop};
@@ -42,14 +42,7 @@ const COMMANDS: [Verb; VERBS.len()] = [
     },
     Verb {
         name: VERBS[4],
-        options: &[
-            "--code",
-            "--area",
-            "--all",
-            "--most",
-            "--line-ends",
-            "--out",
-        ],
+        options: &OPTIONS,
         run: main_extract,
     },
 ];

@@ -458,9 +458,9 @@ fn a_part_that_is_not_what_was_written_is_removed() {
     let faults = Faults::new(&folder);
     let run = |spoil: &str| {
         let command = ["extract", "changes1", "changes2", "--out", "parts", "--all"];
-        let seen = faults.ttw(&[("FAULTS_SPOIL", spoil)], &command);
+        let run = faults.spoiled(spoil, &command);
         assert!(folder.names("parts").is_empty());
-        seen.run
+        run
     };
     let told = "ttw: part AB1: points: record 2 is malformed at byte 19 (refusal 4); it is removed";
     run("changes2 186 ?").only_tells(2, told);

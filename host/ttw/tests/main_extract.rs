@@ -4,6 +4,7 @@
 mod support;
 
 use paper::mainfile;
+use paper::make::samples::MAIN_NAMES;
 use paper::make::{damaged_main, exact_set, joined_key, main_file_of, main_set, samples};
 use paper::make::{Country, MainSet, Organisation, Place, Rng, TableRow, View};
 use std::collections::BTreeSet;
@@ -14,17 +15,6 @@ use support::{Folder, Run, SET};
 use ttw::ask::Refusal;
 use ttw::main_set;
 use ttw::words::main_words;
-
-/// The names of the files of a part, in the set's order.
-const NAMES: [&str; 7] = [
-    "locality",
-    "thoroughfare",
-    "descriptor",
-    "building",
-    "subbuilding",
-    "organisation",
-    "address",
-];
 
 fn desk(files: &[Vec<u8>; 7]) -> Folder {
     let folder = Folder::new();
@@ -46,7 +36,7 @@ struct Part {
 
 fn parts(folder: &Folder) -> Vec<Part> {
     let read = |name: String| Part {
-        files: NAMES.map(|file| folder.read(&format!("parts/{name}/{file}"))),
+        files: MAIN_NAMES.map(|file| folder.read(&format!("parts/{name}/{file}"))),
         name,
     };
     folder.names("parts").into_iter().map(read).collect()
@@ -92,7 +82,7 @@ fn parts_are_of_the_whole(whole: &MainSet, parts: &[Part], most: usize) {
         let count = part.addresses().len() / 88;
         assert!(part.files[6].len() / 88 <= most);
         let expected = set_of(whole, left.drain(..count).collect());
-        for (file, name) in NAMES.iter().enumerate() {
+        for (file, name) in MAIN_NAMES.iter().enumerate() {
             assert!(
                 part.files[file] == expected.files[file],
                 "{}: {name}",
@@ -339,9 +329,9 @@ fn a_part_that_is_not_what_was_written_is_removed() {
     let faults = Faults::new(&folder);
     let run = |spoil: &str| {
         let command = ["main", "extract", "set", "--out", "parts", "--code", "AB10"];
-        let seen = faults.ttw(&[("FAULTS_SPOIL", spoil)], &command);
+        let run = faults.spoiled(spoil, &command);
         assert!(folder.names("parts").is_empty());
-        seen.run
+        run
     };
     let told = "ttw: part AB10: descriptor: record 2 is malformed at byte 4 (refusal 4); \
                 it is removed";

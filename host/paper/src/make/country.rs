@@ -1,5 +1,6 @@
 use super::codes::{FIRST, INWARD, SECOND};
-use super::{main_file_of, Organisation, TableRow, View};
+use super::sets::long_row;
+use super::{main_file_of, nth_suffix, Organisation, View};
 use std::io::{self, Write};
 use std::ops::Range;
 
@@ -64,17 +65,11 @@ impl Country {
 
     /// A record of a file, 0 being the first behind the header.
     fn record(&self, file: u8, n: u32) -> Vec<u8> {
-        let key = n + 1;
-        let row = match file {
-            1 => TableRow::locality(key, "HARTWELL BAY", &format!("NORTH END {key}"), ""),
-            2 => TableRow::thoroughfare(key, &format!("QUARRY {key}")),
-            3 => TableRow::descriptor(key, &format!("LANE {key}")),
-            4 => TableRow::building(key, &format!("{key}-{key}A")),
-            5 => TableRow::sub_building(key, &format!("FLAT {key}")),
-            6 => return self.organisation(n).record(),
-            _ => return self.address(n).address_record(),
-        };
-        row.main_record()
+        match file {
+            6 => self.organisation(n).record(),
+            7 => self.address(n).address_record(),
+            _ => long_row(file, n + 1).main_record(),
+        }
     }
 
     fn large_users(&self) -> u32 {
@@ -105,10 +100,11 @@ impl Country {
         let digit = postcode / TO_A_SECTOR;
         let street = mixed(code as u32 * 4_000 + postcode);
         let any = |file: u8, of: u32| 1 + of % self.records[usize::from(file) - 1];
-        let sometimes = |times: u32, key: u32| if n % times == 0 { key } else { 0 };
+        let sometimes = |times: u32, key: u32| if n.is_multiple_of(times) { key } else { 0 };
         let mut address = View {
             outward: self.codes[code].clone(),
             inward: format!("{digit}{}{}", letter(unit / 20), letter(unit % 20)),
+            suffix: nth_suffix(1 + place % TO_A_POSTCODE),
             address_key: n + 1,
             locality: any(1, code as u32 * 13),
             thoroughfare: any(2, street),
@@ -129,6 +125,6 @@ impl Country {
 
 /// A number that looks like chance.
 fn mixed(number: u32) -> u32 {
-    let mixed = (number ^ number >> 16).wrapping_mul(0x45D9_F3B);
-    (mixed ^ mixed >> 16).wrapping_mul(0x45D9_F3B)
+    let mixed = (number ^ number >> 16).wrapping_mul(0x045D_9F3B);
+    (mixed ^ mixed >> 16).wrapping_mul(0x045D_9F3B)
 }

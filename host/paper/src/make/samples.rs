@@ -175,6 +175,17 @@ pub fn labelled() -> Pair {
     Pair::new(rows(), views)
 }
 
+/// The names of the files of `samples/main`, in the set's order.
+pub const MAIN_NAMES: [&str; 7] = [
+    "locality",
+    "thoroughfare",
+    "descriptor",
+    "building",
+    "subbuilding",
+    "organisation",
+    "address",
+];
+
 /// The Mainfile set in `samples/main`. Its codes in file order: AB1 with every
 /// row of the table of premises, AB10 with every organisation, AB2 with what is
 /// refused.

@@ -281,19 +281,25 @@ pub fn long_file(file: u8, records: usize) -> Vec<u8> {
 /// The n-th record of a file of a long set. The first half of the organisations
 /// are of large users.
 fn long_record(file: u8, n: u32, room: u32) -> Vec<u8> {
-    let row = match file {
-        1 => TableRow::locality(n, "HARTWELL BAY", &format!("NORTH END {n}"), ""),
-        2 => TableRow::thoroughfare(n, &format!("QUARRY {n}")),
-        3 => TableRow::descriptor(n, &format!("LANE {n}")),
-        4 => TableRow::building(n, &format!("{n}-{n}A")),
-        5 => TableRow::sub_building(n, &format!("FLAT {n}")),
+    match file {
         6 => {
             let postcode_type = if n <= room / 2 { b'L' } else { b'S' };
-            return Organisation::new(postcode_type, n, &format!("BAY {n} LTD"), "").record();
+            Organisation::new(postcode_type, n, &format!("BAY {n} LTD"), "").record()
         }
-        _ => return long_address(n, room).address_record(),
-    };
-    row.main_record()
+        7 => long_address(n, room).address_record(),
+        _ => long_row(file, n).main_record(),
+    }
+}
+
+/// A row of a long file, 1 to 5, that has this key.
+pub(super) fn long_row(file: u8, key: u32) -> TableRow {
+    match file {
+        1 => TableRow::locality(key, "HARTWELL BAY", &format!("NORTH END {key}"), ""),
+        2 => TableRow::thoroughfare(key, &format!("QUARRY {key}")),
+        3 => TableRow::descriptor(key, &format!("LANE {key}")),
+        4 => TableRow::building(key, &format!("{key}-{key}A")),
+        _ => TableRow::sub_building(key, &format!("FLAT {key}")),
+    }
 }
 
 /// The n-th address of a long set; every fourth has an organisation.

@@ -1,21 +1,10 @@
 //! The set in `samples/main`, and what a listing of it has.
 
 use paper::mainfile::{build, codes, list, views};
-use paper::make::samples::main_set;
+use paper::make::samples::{main_set, MAIN_NAMES};
 use paper::Refusal;
 use std::fs;
 use std::path::{Path, PathBuf};
-
-/// The files' names in the folder, in the set's order.
-const NAMES: [&str; 7] = [
-    "locality",
-    "thoroughfare",
-    "descriptor",
-    "building",
-    "subbuilding",
-    "organisation",
-    "address",
-];
 
 fn samples() -> PathBuf {
     Path::new(env!("CARGO_MANIFEST_DIR")).join("../../samples")
@@ -23,12 +12,12 @@ fn samples() -> PathBuf {
 
 #[test]
 fn the_samples_are_what_they_are_made_from() {
-    for (name, made) in NAMES.iter().zip(main_set().files) {
+    for (name, made) in MAIN_NAMES.iter().zip(main_set().files) {
         let kept = fs::read(samples().join("main").join(name)).expect("a sample file");
         assert!(kept == made, "samples/main/{name}");
     }
     let folder = fs::read_dir(samples().join("main")).expect("samples/main");
-    assert_eq!(folder.count(), NAMES.len());
+    assert_eq!(folder.count(), MAIN_NAMES.len());
 }
 
 #[test]

@@ -14,10 +14,13 @@ pub type Outward = [u8; 4];
 /// its number, 0 where there is none.
 pub type Reference = (usize, Number);
 
+/// A file of rows, and the number that a row of it has.
+pub type RowFile = (&'static Kind, fn(&[u8]) -> Number);
+
 /// A pair or a set.
 pub struct Form {
-    /// The files of rows, and the number that a row of each has.
-    pub rows: &'static [(&'static Kind, fn(&[u8]) -> Number)],
+    /// The files of rows.
+    pub rows: &'static [RowFile],
     /// The file of the records that have an outward code.
     pub records: &'static Kind,
     /// The names of the files of a part, that of the records last.

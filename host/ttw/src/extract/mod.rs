@@ -24,6 +24,16 @@ use wanted::Wanted;
 pub use pair::extract;
 pub use set::extract as main_extract;
 
+/// The options of both commands.
+pub const OPTIONS: [&str; 6] = [
+    "--code",
+    "--area",
+    "--all",
+    "--most",
+    "--line-ends",
+    "--out",
+];
+
 /// The fewest records of a part's file: header, trailer, a delivery point and its
 /// organisation.
 const FEWEST: u64 = 4;

@@ -49,6 +49,13 @@ impl<'a> Faults<'a> {
     }
 }
 
+impl Faults<'_> {
+    /// A run in which a byte of a file is written as another.
+    pub fn spoiled(&self, spoil: &str, arguments: &[&str]) -> Run {
+        self.ttw(&[("FAULTS_SPOIL", spoil)], arguments).run
+    }
+}
+
 /// A run, and the calls that it made.
 pub struct Seen {
     pub run: Run,
