@@ -103,11 +103,11 @@ pub const EXTRACT: &str = "\
 ttw extract CHANGES1 CHANGES2 (--code AB1.. | --area AB.. | --all)
             [--most N] [--line-ends] --out FOLDER
 
-Cuts two files of any length into parts that the other commands accept. A part is
-a folder, FOLDER/AB1 or FOLDER/AB1-AB25, with the files changes1 and changes2: all
-point records of some outward codes, and all table rows for the keys that these
-refer to, as they stand in the files; counts are made right. So a label or a pack
-of a code is the same from its part as from the whole.
+Cuts two files of any length into parts that the other commands accept. A part
+is a folder, FOLDER/AB1 or FOLDER/AB1-AB25, with the files changes1 and
+changes2: all point records of some outward codes, and all table rows for the
+keys that these refer to, as they stand in the files; counts are made right. So
+a label or a pack of a code is the same from its part as from the whole.
 
   --code AB1..   these outward codes, commas between them
   --area AB..    all codes that begin with these letters and then a digit
@@ -116,14 +116,16 @@ of a code is the same from its part as from the whole.
   --line-ends    takes out the line ends that some programs add to each record
                  when they transfer a file
 
-Codes are put together as they rise, as many as there is room for. A code that is
-too long for a part alone is told, and split between views into AB1.1, AB1.2 and
-so on. The folder has to be new or empty, so that parts of two issues never stand
-side by side. Both files are checked record by record before anything is written.
-A part is written under another name, read back and checked, its records and live
-views in each code are compared with those of the files, and then it is renamed:
-a full disk or a kill leaves whole parts or none. After a kill a folder such as
-.AB1.3f09c1d2a47be586.part may stay behind; it can be deleted.
+Codes are put together as they rise, as many as there is room for. A code that
+is too long for a part alone is told, and split between views into AB1.1, AB1.2
+and so on: the labels of a piece are right, but a pack from it would lack the
+points of the others. The folder has to be new or empty, so that parts of two
+issues never stand side by side. Both files are checked record by record before
+anything is written. A part is written under another name, read back and
+checked, its records and live views in each code are compared with those of the
+files, and then it is renamed: a full disk or a kill leaves whole parts or none.
+After a kill a folder such as .AB1.3f09c1d2a47be586.part may stay behind; it can
+be deleted.
 ";
 
 pub const MAIN: &str = "\

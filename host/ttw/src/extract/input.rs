@@ -55,19 +55,8 @@ impl Input {
         }
         let line_end = found.map_or(&[][..], |found| found.0);
         let stride = (kind.record + line_end.len()) as u64;
-        let records = there.len() / stride;
-        let rest = there.len() % stride;
-        if rest > 0 {
-            let number = records + 1;
-            return Err(Stop::Refused(format!(
-                "{name}: record {number}, the last, has {rest} bytes of {stride} (refusal 1)"
-            )));
-        }
-        if records < 2 {
-            return Err(Stop::Refused(format!(
-                "{name}: there are no two records, a header and a trailer (refusal 1)"
-            )));
-        }
+        let records = whole_records(there.len(), stride);
+        let records = records.map_err(|why| Stop::Refused(format!("{name}: {why} (refusal 1)")))?;
         Ok(Input {
             kind,
             name,
@@ -163,6 +152,22 @@ impl Input {
             second: 0,
             detail: self.records,
         }))
+    }
+}
+
+/// How many records of so many bytes there are, a header and a trailer at least;
+/// what is wrong about the length, in words.
+fn whole_records(length: u64, record: u64) -> Result<u64, String> {
+    let (records, rest) = (length / record, length % record);
+    match rest {
+        0 if records < 2 => Err("there are no two records, a header and a trailer".to_string()),
+        0 => Ok(records),
+        _ => {
+            let last = records + 1;
+            Err(format!(
+                "record {last}, the last, has {rest} bytes of {record}"
+            ))
+        }
     }
 }
 
