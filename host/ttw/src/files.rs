@@ -1,7 +1,7 @@
 //! Reading and writing whole files.
 
 use crate::kind::Kind;
-use crate::part::{self, NewFolder};
+use crate::part;
 use crate::stop::Stop;
 use crate::system::standard_input;
 use std::fs::{self, File};
@@ -96,21 +96,8 @@ pub fn write_plain<T>(
     told_of(path, part::write_whole(path, fill))
 }
 
-/// Has a new folder written by `fill`, with all its files or not at all.
-pub fn write_folder(
-    path: &Path,
-    fill: impl FnOnce(&mut NewFolder) -> Result<(), Stop>,
-) -> Result<(), Stop> {
-    let write = || {
-        let mut folder = NewFolder::create(path)?;
-        fill(&mut folder)?;
-        Ok(folder.rename(path)?)
-    };
-    told_of(path, write())
-}
-
 /// An outcome of writing, in which an error of the system names the file.
-fn told_of<T>(path: &Path, written: Result<T, Stop>) -> Result<T, Stop> {
+pub fn told_of<T>(path: &Path, written: Result<T, Stop>) -> Result<T, Stop> {
     written.map_err(|stop| match stop {
         Stop::Lost(why) => Stop::could_not(format!("cannot write {}: {why}", name_of(path))),
         stop => stop,

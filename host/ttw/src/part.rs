@@ -8,7 +8,7 @@
 use crate::system::{random, stands};
 use std::ffi::{CStr, CString, OsStr, OsString};
 use std::fs::{self, File, Metadata, OpenOptions, Permissions};
-use std::io::{self, Write};
+use std::io;
 use std::os::unix::ffi::{OsStrExt, OsStringExt};
 use std::os::unix::fs::{fchown, MetadataExt, OpenOptionsExt, PermissionsExt};
 use std::path::{Path, PathBuf};
@@ -181,16 +181,13 @@ impl NewFolder {
         path_of(&self.path)
     }
 
-    /// Writes a file into it, up to seven of them.
-    pub fn write(&mut self, name: &str, parts: &[&[u8]]) -> io::Result<()> {
+    /// A new file in it, up to seven of them.
+    pub fn file(&mut self, name: &str) -> io::Result<File> {
         let path = c_path(self.path().join(name))?;
-        let mut file = File::create_new(path_of(&path))?;
+        let file = File::create_new(path_of(&path))?;
         stands(self.files.len(), Some(&path));
         self.files.push(path);
-        for bytes in parts {
-            file.write_all(bytes)?;
-        }
-        file.sync_all()
+        Ok(file)
     }
 
     /// Gives it its name, under which nothing stands yet.

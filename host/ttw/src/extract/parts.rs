@@ -5,9 +5,12 @@ use super::counts::{code_name, Count, Counts};
 use super::form::{Form, Outward};
 use super::input::Chain;
 use super::rows::{Marks, Rows};
-use crate::files::{make_folder, name_of, write_folder};
+use crate::files::{make_folder, name_of, told_of};
+use crate::part::NewFolder;
 use crate::stop::Stop;
-use std::path::Path;
+use std::fs::File;
+use std::io::Write;
+use std::path::{Path, PathBuf};
 
 /// What parts are made of, and what is to stand in them.
 pub struct Parts<'a> {
@@ -58,43 +61,86 @@ impl<'a> Parts<'a> {
         }
     }
 
-    /// Marks on the rows that these records refer to.
-    fn marks_of(&self, records: &[u8]) -> Vec<Marks> {
-        let mut marks: Vec<Marks> = self.rows.iter().map(Rows::marks).collect();
-        for record in records.chunks_exact(self.form.records.record) {
-            for (file, number) in (self.form.references)(record) {
-                self.rows[file].mark(number, &mut marks[file]);
-            }
-        }
-        marks
-    }
-
-    /// Writes a part of these records and the rows that they refer to.
-    pub fn write(&mut self, held: &Held, records: &[u8]) -> Result<(), Stop> {
+    /// Begins a part with records of this code.
+    pub fn begin(&self, code: Outward) -> Result<Open, Stop> {
         if self.written == 0 {
             make_folder(self.folder)?;
         }
-        let name = held.name();
-        let marks = self.marks_of(records);
-        write_folder(&self.folder.join(&name), |part| {
-            let (last, others) = self.form.names.split_last().expect("names");
-            for ((name, rows), marks) in others.iter().zip(self.rows).zip(&marks) {
-                part.write(name, &[&rows.file_of(marks)?])?;
+        let place = self.folder.join(code_name(code));
+        let begin = || {
+            let mut folder = NewFolder::create(&place)?;
+            let mut records = folder.file(self.form.names[self.rows.len()])?;
+            records.write_all(&self.records.header)?;
+            Ok((folder, records))
+        };
+        let (folder, records) = told_of(&place, begin())?;
+        Ok(Open {
+            folder,
+            records,
+            bytes: 0,
+            marks: self.rows.iter().map(Rows::marks).collect(),
+            place,
+        })
+    }
+
+    /// Puts records into a part, and marks the rows that they refer to.
+    pub fn put(&self, open: &mut Open, records: &[u8]) -> Result<(), Stop> {
+        for record in records.chunks_exact(self.form.records.record) {
+            for (file, number) in (self.form.references)(record) {
+                self.rows[file].mark(number, &mut open.marks[file]);
             }
-            let count = records.len() / self.form.records.record + 2;
-            let ends = [&self.records.header, &self.records.trailer(count)];
-            part.write(last, &[ends[0], records, ends[1]])?;
-            let removed =
-                |why: String| Stop::could_not(format!("part {name}: {why}; it is removed"));
-            let found = (self.form.found)(part.path()).map_err(|stop| match stop {
-                Stop::Refused(why) => removed(why),
-                stop => stop,
-            })?;
-            compare(&mut self.owed, held, &found).map_err(removed)
+        }
+        open.bytes += records.len();
+        let written = open.records.write_all(records);
+        told_of(&open.place, written.map_err(Stop::from))
+    }
+
+    /// Ends a part: its rows, its trailer, what it then holds, its name.
+    pub fn end(&mut self, mut open: Open, held: &Held) -> Result<(), Stop> {
+        let name = held.name();
+        let path = self.folder.join(&name);
+        told_of(&path, self.fill(&mut open))?;
+        let removed = |why: String| Stop::could_not(format!("part {name}: {why}; it is removed"));
+        let found = (self.form.found)(open.folder.path()).map_err(|stop| match stop {
+            Stop::Refused(why) => removed(why),
+            stop => stop,
         })?;
+        compare(&mut self.owed, held, &found).map_err(removed)?;
+        told_of(&path, open.folder.rename(&path).map_err(Stop::from))?;
         self.written += 1;
         Ok(())
     }
+
+    /// Writes the rows of a part and the trailer of its records.
+    fn fill(&self, open: &mut Open) -> Result<(), Stop> {
+        let files = self.form.names.iter().zip(self.rows).zip(&open.marks);
+        for ((name, rows), marks) in files {
+            let mut file = open.folder.file(name)?;
+            file.write_all(&rows.file_of(marks)?)?;
+            file.sync_all()?;
+        }
+        let count = open.bytes / self.form.records.record + 2;
+        open.records.write_all(&self.records.trailer(count))?;
+        Ok(open.records.sync_all()?)
+    }
+
+    /// Writes a part of these records.
+    pub fn write(&mut self, held: &Held, records: &[u8]) -> Result<(), Stop> {
+        let mut open = self.begin(held.codes[0])?;
+        self.put(&mut open, records)?;
+        self.end(open, held)
+    }
+}
+
+/// A part that is being written.
+pub struct Open {
+    folder: NewFolder,
+    /// The file of its records, and how many bytes of them it has.
+    records: File,
+    pub bytes: usize,
+    marks: Vec<Marks>,
+    /// Its place in a message, as long as its last code is not known.
+    place: PathBuf,
 }
 
 /// Takes what a part has from what is owed; what is wrong about it, in words.

@@ -1,11 +1,11 @@
 //! An extract of a Mainfile set, by one pass over its addresses. They rise by
-//! postcode, so that a code stands together; while a part is written and checked,
-//! the addresses of the next are read.
+//! postcode, so that a code stands together. Each code is written to its part while
+//! the next is read.
 
 use super::counts::{Count, Counts};
 use super::form::{Outward, SET, TWICE};
 use super::input::{Chain, Input};
-use super::parts::{Held, Parts};
+use super::parts::{Held, Open, Parts};
 use super::rows::Rows;
 use super::wanted::Wanted;
 use super::{ended, Asked, Found};
@@ -14,7 +14,7 @@ use crate::order::side_by_side;
 use crate::seven::{paths_of_a_set, Seven};
 use crate::source::Source;
 use crate::stop::{Outcome, Stop};
-use std::mem::{replace, take};
+use std::mem::take;
 use std::path::{Path, PathBuf};
 use ttw::words::main_words;
 
@@ -31,9 +31,13 @@ pub fn extract(given: &Arguments, files: &[PathBuf]) -> Outcome {
         Rows::read(chain, *number)
     });
     let rows: Vec<Rows> = rows.collect::<Result<_, Stop>>()?;
-    let mut parts = Parts::new(&SET, &rows, &addresses, asked.folder);
+    let room = room(&rows, asked.room) * SET.records.record;
+    let mut cut = Cut {
+        parts: Parts::new(&SET, &rows, &addresses, asked.folder),
+        room,
+        open: None,
+    };
     let mut found = Found::default();
-    let room = room(&rows, asked.room);
     side_by_side(
         |hand_on| {
             let mut gathered = Gathered::new(&asked.wanted, room, hand_on);
@@ -41,15 +45,14 @@ pub fn extract(given: &Arguments, files: &[PathBuf]) -> Outcome {
                 let mut records = block.chunks_exact(SET.records.record);
                 records.try_for_each(|record| gathered.take(record))
             })?;
-            found = gathered.end()?;
+            gathered.close()?;
+            found = gathered.found;
             Ok(())
         },
-        |part: Part| {
-            parts.owed.extend(part.counts);
-            parts.write(&part.held, &part.records)
-        },
+        |gathered| cut.take(gathered),
     )?;
-    ended(&found, &asked.wanted, parts.written)
+    cut.end()?;
+    ended(&found, &asked.wanted, cut.parts.written)
 }
 
 /// How many addresses a part has room for. Of most files each names one row; of
@@ -62,33 +65,29 @@ fn room(rows: &[Rows], room: usize) -> usize {
     }
 }
 
-/// A part that is ready to be written, with what was counted of its codes.
-struct Part {
-    held: Held,
-    counts: Counts,
+/// The addresses of a code, or a piece of them where they are too many.
+struct Stretch {
+    code: Outward,
+    piece: Option<u64>,
     records: Vec<u8>,
+    /// How many were read.
+    count: u64,
 }
 
-/// Addresses on their way into parts.
+/// Addresses on their way to the parts, code by code.
 struct Gathered<'a> {
     wanted: &'a Wanted,
-    hand_on: &'a mut dyn FnMut(Part) -> Result<(), Stop>,
+    hand_on: &'a mut dyn FnMut(Stretch) -> Result<(), Stop>,
     /// The bytes that a part has room for.
     room: usize,
-    /// Those of whole codes, and from `start` on those of the code that is being
-    /// read.
-    records: Vec<u8>,
-    start: usize,
-    /// The whole codes.
-    counts: Counts,
-    /// The code that is being read, where it is asked for.
+    /// The code that is being read, where it is asked for, and its addresses.
     code: Option<Outward>,
-    /// The code of the last record, asked for or not.
-    last: Outward,
-    /// How many addresses of the code were read since a piece of it was handed on.
+    records: Vec<u8>,
     count: u64,
     /// How many pieces of it were handed on.
     pieces: u64,
+    /// The code of the last record, asked for or not.
+    last: Outward,
     found: Found,
 }
 
@@ -96,19 +95,17 @@ impl<'a> Gathered<'a> {
     fn new(
         wanted: &'a Wanted,
         room: usize,
-        hand_on: &'a mut dyn FnMut(Part) -> Result<(), Stop>,
+        hand_on: &'a mut dyn FnMut(Stretch) -> Result<(), Stop>,
     ) -> Gathered<'a> {
         Gathered {
             wanted,
             hand_on,
-            room: room * SET.records.record,
-            records: Vec::new(),
-            start: 0,
-            counts: Counts::new(),
+            room,
             code: None,
-            last: Outward::default(),
+            records: Vec::new(),
             count: 0,
             pieces: 0,
+            last: Outward::default(),
             found: Found::default(),
         }
     }
@@ -120,9 +117,10 @@ impl<'a> Gathered<'a> {
             self.last = code;
             self.code = self.wanted.has(code).then_some(code);
         }
-        if let Some(code) = self.code {
+        if self.code.is_some() {
             if self.records.len() == self.room {
-                self.make_room(code)?;
+                self.pieces += 1;
+                self.hand_on(code)?;
             }
             self.records.extend_from_slice(record);
             self.count += 1;
@@ -137,60 +135,69 @@ impl<'a> Gathered<'a> {
         };
         self.found.codes.push(code);
         if self.pieces > 0 {
-            self.hand_on_piece(code)?;
-            let pieces = take(&mut self.pieces);
-            self.found.split.push((code, pieces));
-            return Ok(());
+            self.pieces += 1;
+            self.found.split.push((code, self.pieces));
         }
-        self.counts.insert(code, all_live(take(&mut self.count)));
-        self.start = self.records.len();
+        self.hand_on(code)?;
+        self.pieces = 0;
         Ok(())
     }
 
-    /// Hands on the whole codes, or a piece of the code that is being read where
-    /// there is none.
-    fn make_room(&mut self, code: Outward) -> Result<(), Stop> {
-        match self.counts.is_empty() {
-            true => self.hand_on_piece(code),
-            false => self.hand_on_codes(),
-        }
-    }
-
-    fn hand_on_codes(&mut self) -> Result<(), Stop> {
-        let behind = self.records.split_off(take(&mut self.start));
-        let counts = take(&mut self.counts);
-        let held = Held {
-            codes: counts.keys().copied().collect(),
-            piece: None,
-            ends: true,
-        };
-        (self.hand_on)(Part {
-            held,
-            counts,
-            records: replace(&mut self.records, behind),
-        })
-    }
-
-    fn hand_on_piece(&mut self, code: Outward) -> Result<(), Stop> {
-        self.pieces += 1;
-        let held = Held {
-            codes: vec![code],
-            piece: Some(self.pieces),
-            ends: true,
-        };
-        (self.hand_on)(Part {
-            held,
-            counts: Counts::from([(code, all_live(take(&mut self.count)))]),
+    fn hand_on(&mut self, code: Outward) -> Result<(), Stop> {
+        (self.hand_on)(Stretch {
+            code,
+            piece: Some(self.pieces).filter(|piece| *piece > 0),
             records: take(&mut self.records),
+            count: take(&mut self.count),
         })
     }
+}
 
-    fn end(mut self) -> Result<Found, Stop> {
-        self.close()?;
-        if !self.counts.is_empty() {
-            self.hand_on_codes()?;
+/// Parts that are written as the codes come.
+struct Cut<'a> {
+    parts: Parts<'a>,
+    /// The bytes that a part has room for.
+    room: usize,
+    /// The part to which more codes may come, with those that it has.
+    open: Option<(Open, Vec<Outward>)>,
+}
+
+impl Cut<'_> {
+    fn take(&mut self, stretch: Stretch) -> Result<(), Stop> {
+        let Stretch { code, records, .. } = stretch;
+        self.parts.owed.insert(code, all_live(stretch.count));
+        let is_full = |(open, _): &(Open, _)| open.bytes + records.len() > self.room;
+        if stretch.piece.is_some() || self.open.as_ref().is_some_and(is_full) {
+            self.end()?;
         }
-        Ok(self.found)
+        if stretch.piece.is_some() {
+            return self.parts.write(&held(vec![code], stretch.piece), &records);
+        }
+        let (mut open, mut codes) = match self.open.take() {
+            Some(open) => open,
+            None => (self.parts.begin(code)?, Vec::new()),
+        };
+        self.parts.put(&mut open, &records)?;
+        codes.push(code);
+        self.open = Some((open, codes));
+        Ok(())
+    }
+
+    /// Ends the open part, if there is one.
+    fn end(&mut self) -> Result<(), Stop> {
+        match self.open.take() {
+            Some((open, codes)) => self.parts.end(open, &held(codes, None)),
+            None => Ok(()),
+        }
+    }
+}
+
+/// Codes of which no address that was read is left for another part.
+fn held(codes: Vec<Outward>, piece: Option<u64>) -> Held {
+    Held {
+        codes,
+        piece,
+        ends: true,
     }
 }
 
