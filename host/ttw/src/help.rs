@@ -149,8 +149,8 @@ For extract the addresses may stand in several files: each with a header and a
 trailer, or the header in the first and the trailer in the last alone. They are
 put in order by their first address, since addresses rise by postcode. They are
 read once, and parts are written on the way, of up to 1,000,000 records a file:
-where one is damaged, the parts before it stay, whole. It keeps 4 bytes of each
-row, the addresses of one part and, to check it, the part.
+where one is damaged, the parts before it stay, whole. It keeps some 4 bytes of
+each row, the addresses of two codes and, to check it, the part.
 
 A view is a record of the address file, numbered from 1, and each is live: there
 are no amendment letters. What else stands in a folder is passed over, as long

@@ -4,7 +4,7 @@
 
 use super::counts::{Count, Counts};
 use super::form::{Outward, PAIR};
-use super::parts::{Held, Parts};
+use super::parts::{Given, Held, Parts};
 use super::rows::{Marks, Rows};
 use super::{ended, view_too_wide, Asked, Found};
 use crate::arguments::Arguments;
@@ -12,6 +12,7 @@ use crate::kind::POINTS;
 use crate::pair::Pair;
 use crate::stop::{Outcome, Stop};
 use std::collections::{BTreeMap, HashMap};
+use std::mem::take;
 use std::path::Path;
 use ttw::ask;
 use ttw::words::words;
@@ -223,7 +224,6 @@ impl Filled<'_> {
             }
             if !self.open.has_room(&needs, room) {
                 self.write(parts, false)?;
-                self.records.clear();
                 self.open = Open::new(self.rows);
             }
             self.open.add(&needs);
@@ -239,7 +239,8 @@ impl Filled<'_> {
             piece: self.planned.is_split.then_some(self.pieces),
             ends,
         };
-        parts.write(&held, &self.records)
+        let given = Given::new(&PAIR, parts.rows, take(&mut self.records));
+        parts.write(&held, &given)
     }
 }
 

@@ -11,6 +11,7 @@ use crate::stop::Stop;
 use std::fs::File;
 use std::io::Write;
 use std::path::{Path, PathBuf};
+use ttw::main_calls::FILES;
 
 /// What parts are made of, and what is to stand in them.
 pub struct Parts<'a> {
@@ -84,14 +85,12 @@ impl<'a> Parts<'a> {
     }
 
     /// Puts records into a part, and marks the rows that they refer to.
-    pub fn put(&self, open: &mut Open, records: &[u8]) -> Result<(), Stop> {
-        for record in records.chunks_exact(self.form.records.record) {
-            for (file, number) in (self.form.references)(record) {
-                self.rows[file].mark(number, &mut open.marks[file]);
-            }
+    pub fn put(&self, open: &mut Open, given: &Given) -> Result<(), Stop> {
+        for (file, place) in &given.rows {
+            open.marks[*file].set(*place);
         }
-        open.bytes += records.len();
-        let written = open.records.write_all(records);
+        open.bytes += given.records.len();
+        let written = open.records.write_all(&given.records);
         told_of(&open.place, written.map_err(Stop::from))
     }
 
@@ -125,10 +124,37 @@ impl<'a> Parts<'a> {
     }
 
     /// Writes a part of these records.
-    pub fn write(&mut self, held: &Held, records: &[u8]) -> Result<(), Stop> {
+    pub fn write(&mut self, held: &Held, given: &Given) -> Result<(), Stop> {
         let mut open = self.begin(held.codes[0])?;
-        self.put(&mut open, records)?;
+        self.put(&mut open, given)?;
         self.end(open, held)
+    }
+}
+
+/// Records for a part.
+pub struct Given {
+    pub records: Vec<u8>,
+    /// The rows that they refer to, each by its file's place and its own.
+    rows: Vec<(usize, usize)>,
+}
+
+impl Given {
+    /// Looks up the rows of these records. Neighbours mostly share theirs.
+    pub fn new(form: &Form, rows: &[Rows], records: Vec<u8>) -> Given {
+        let mut places = Vec::new();
+        let mut last = [0; FILES];
+        for record in records.chunks_exact(form.records.record) {
+            for (file, number) in (form.references)(record) {
+                if number != 0 && number != last[file] {
+                    last[file] = number;
+                    places.extend(rows[file].of(number).map(|place| (file, place)));
+                }
+            }
+        }
+        Given {
+            records,
+            rows: places,
+        }
     }
 }
 

@@ -66,15 +66,6 @@ impl Rows {
         Marks {
             bits: vec![0; self.numbers.len().div_ceil(WORD)],
             count: 0,
-            last: 0,
-        }
-    }
-
-    /// Marks all rows of a number.
-    pub fn mark(&self, number: Number, marks: &mut Marks) {
-        if number != 0 && number != marks.last {
-            marks.last = number;
-            self.of(number).for_each(|place| marks.set(place));
         }
     }
 
@@ -121,8 +112,6 @@ pub struct Marks {
     bits: Vec<u64>,
     /// How many are set.
     pub count: usize,
-    /// The number that was marked last: neighbours mostly share their rows.
-    last: Number,
 }
 
 impl Marks {

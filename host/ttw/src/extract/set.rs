@@ -5,7 +5,7 @@
 use super::counts::{Count, Counts};
 use super::form::{Outward, SET, TWICE};
 use super::input::{Chain, Input};
-use super::parts::{Held, Open, Parts};
+use super::parts::{Given, Held, Open, Parts};
 use super::rows::Rows;
 use super::wanted::Wanted;
 use super::{ended, Asked, Found};
@@ -40,7 +40,7 @@ pub fn extract(given: &Arguments, files: &[PathBuf]) -> Outcome {
     let mut found = Found::default();
     side_by_side(
         |hand_on| {
-            let mut gathered = Gathered::new(&asked.wanted, room, hand_on);
+            let mut gathered = Gathered::new(&asked.wanted, &rows, room, hand_on);
             addresses.each_block(|block| {
                 let mut records = block.chunks_exact(SET.records.record);
                 records.try_for_each(|record| gathered.take(record))
@@ -69,7 +69,7 @@ fn room(rows: &[Rows], room: usize) -> usize {
 struct Stretch {
     code: Outward,
     piece: Option<u64>,
-    records: Vec<u8>,
+    given: Given,
     /// How many were read.
     count: u64,
 }
@@ -77,6 +77,7 @@ struct Stretch {
 /// Addresses on their way to the parts, code by code.
 struct Gathered<'a> {
     wanted: &'a Wanted,
+    rows: &'a [Rows],
     hand_on: &'a mut dyn FnMut(Stretch) -> Result<(), Stop>,
     /// The bytes that a part has room for.
     room: usize,
@@ -94,11 +95,13 @@ struct Gathered<'a> {
 impl<'a> Gathered<'a> {
     fn new(
         wanted: &'a Wanted,
+        rows: &'a [Rows],
         room: usize,
         hand_on: &'a mut dyn FnMut(Stretch) -> Result<(), Stop>,
     ) -> Gathered<'a> {
         Gathered {
             wanted,
+            rows,
             hand_on,
             room,
             code: None,
@@ -147,7 +150,7 @@ impl<'a> Gathered<'a> {
         (self.hand_on)(Stretch {
             code,
             piece: Some(self.pieces).filter(|piece| *piece > 0),
-            records: take(&mut self.records),
+            given: Given::new(&SET, self.rows, take(&mut self.records)),
             count: take(&mut self.count),
         })
     }
@@ -164,20 +167,20 @@ struct Cut<'a> {
 
 impl Cut<'_> {
     fn take(&mut self, stretch: Stretch) -> Result<(), Stop> {
-        let Stretch { code, records, .. } = stretch;
+        let Stretch { code, given, .. } = stretch;
         self.parts.owed.insert(code, all_live(stretch.count));
-        let is_full = |(open, _): &(Open, _)| open.bytes + records.len() > self.room;
+        let is_full = |(open, _): &(Open, _)| open.bytes + given.records.len() > self.room;
         if stretch.piece.is_some() || self.open.as_ref().is_some_and(is_full) {
             self.end()?;
         }
         if stretch.piece.is_some() {
-            return self.parts.write(&held(vec![code], stretch.piece), &records);
+            return self.parts.write(&held(vec![code], stretch.piece), &given);
         }
         let (mut open, mut codes) = match self.open.take() {
             Some(open) => open,
             None => (self.parts.begin(code)?, Vec::new()),
         };
-        self.parts.put(&mut open, &records)?;
+        self.parts.put(&mut open, &given)?;
         codes.push(code);
         self.open = Some((open, codes));
         Ok(())
