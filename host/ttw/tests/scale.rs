@@ -1,7 +1,7 @@
 //! One month and one whole Mainfile, made as long as the guide says and taken
 //! step by step: what each step costs. docs/SCALE.md has what it gave.
 //!
-//! It takes some minutes, 2 cores and 12 GB of disk below `TMPDIR`:
+//! It takes some minutes, 2 cores and 14 GB of disk below `TMPDIR`:
 //! `cargo test --release --test scale -- --ignored --nocapture`
 
 mod support;
