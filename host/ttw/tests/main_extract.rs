@@ -364,6 +364,31 @@ fn a_part_that_cannot_be_written_leaves_those_before_it() {
 }
 
 #[test]
+fn damage_behind_some_parts_leaves_them_whole() {
+    let country = Country::new([50, 400, 20, 300, 40], 500, 40_000, 1);
+    let folder = Folder::new();
+    let write = |name: &str, file: u8| {
+        let mut bytes = Vec::new();
+        let records = 0..country.records[usize::from(file) - 1];
+        let written = country.write(file, records, &mut bytes);
+        written.expect("written");
+        if file == 7 {
+            bytes[39_000 * 88 + 5] = b'?';
+        }
+        folder.put(name, &bytes);
+    };
+    (1..=7).for_each(|file| write(&format!("file{file}"), file));
+    let told = "./file7: address: record 39001 is malformed at byte 6 (refusal 4)";
+    extract(&folder, &["."], &["--all", "--most", "5000"]).only_tells(1, told);
+    let parts = parts(&folder);
+    assert!(parts.len() > 5, "{:?}", folder.names("parts"));
+    for part in &parts {
+        let set = part.files.each_ref().map(Vec::as_slice);
+        assert!(main_set::MainSet(set).views().is_ok(), "{}", part.name);
+    }
+}
+
+#[test]
 fn one_thread_is_enough() {
     let whole = exact_set(&mut Rng::new(5), 200);
     let folder = desk(&whole.files);
