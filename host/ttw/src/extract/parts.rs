@@ -87,7 +87,7 @@ impl<'a> Parts<'a> {
     /// Puts records into a part, and marks the rows that they refer to.
     pub fn put(&self, open: &mut Open, given: &Given) -> Result<(), Stop> {
         for (file, place) in &given.rows {
-            open.marks[*file].set(*place);
+            open.marks[usize::from(*file)].set(*place as usize);
         }
         open.bytes += given.records.len();
         let written = open.records.write_all(&given.records);
@@ -135,7 +135,7 @@ impl<'a> Parts<'a> {
 pub struct Given {
     pub records: Vec<u8>,
     /// The rows that they refer to, each by its file's place and its own.
-    rows: Vec<(usize, usize)>,
+    rows: Vec<(u8, u32)>,
 }
 
 impl Given {
@@ -147,7 +147,8 @@ impl Given {
             for (file, number) in (form.references)(record) {
                 if number != 0 && number != last[file] {
                     last[file] = number;
-                    places.extend(rows[file].of(number).map(|place| (file, place)));
+                    let found = rows[file].of(number);
+                    places.extend(found.map(|place| (file as u8, place as u32)));
                 }
             }
         }
