@@ -1,5 +1,6 @@
 -- Demand 2 for labels: what printing one comes to, case by case, over any source and of a pack; what a suffix and a sector
--- of a pack are;-- what an item of a listing holds; what the list of codes says; how long a label is, and how no line of it begins.
+-- of a pack are; what an item of a listing holds; what the list of codes says; how long a label is, and how no line of it
+-- begins.
 -- Assumes nothing.
 use Prim.Native.Nat.{ℕ, _*_, _≤_, _<_}
 use mathlib.Core.Path.{_≡_}
