@@ -1,4 +1,5 @@
-/* Ttwibonal: reads Royal Mail's Changes files and Mainfile sets, prints labels and cuts packs for handsets.
+/* Ttwibonal: reads Royal Mail's Changes files and Mainfile sets, prints labels and cuts packs for handsets; writes and
+ * reads CSV PAF.
  *
  * A slice is a pointer and a length; a length of 0 takes any pointer, null too. `bytes`, where a call takes it, is the
  * place of a number and may not be null. Every call may be made with any bytes and any numbers, and has nothing to check
@@ -9,8 +10,8 @@
  * Stack: a call on files takes less than 2,048 bytes, labels and listings from files less than 4,096, opening a pack,
  * labels, listings, a suffix or a sector from a pack less than 80 KiB, building a pack or listing codes less than 192 KiB.
  * A call on a Mainfile set takes what that call on a pair of files does, but labels and listings from a set take less than
- * 6,144 bytes, and building a pack from a set takes less than 1 MiB. A thread that makes such a call needs its stack sized
- * for that.
+ * 6,144 bytes, and building a pack from a set takes less than 1 MiB. Rows of CSV PAF take what labels from the same files
+ * do, and a call on a CSV file less than 4,096 bytes. A thread that makes such a call needs its stack sized for that.
  *
  * Each call answers one number. Take it apart with the macros below and never compare whole words: later calls fill bits
  * that are 0 today.
@@ -35,14 +36,16 @@ extern "C" {
 #define TTW_VERSION "0.2.0"
 /* The longest label in bytes: its lines, each ended by byte 10. */
 #define TTW_LABEL_MAX 499
+/* The longest row of CSV PAF in bytes that is written, its end counted. */
+#define TTW_CSV_ROW_MAX 499
 
 /* The refusal's number, 0 where there is a value. It has a name, one of enum ttw_refused. */
 #define TTW_REFUSAL(answer) ((answer) >> 56)
 /* The file to blame: 1 the table file, 2 the point file, 0 no file. Of a Mainfile set 1 to 7, in the order of struct
  * ttw_main. */
 #define TTW_FILE(answer) (((answer) >> 52) & 15u)
-/* The refusal's second detail: the byte for 4, the view where building gives 8 or 9, the labels or items written where a
- * run or a listing stops, otherwise 0. */
+/* The refusal's second detail: the byte for 4, the field for 14, the view where building gives 8 or 9, the labels, rows or
+ * items written where a run or a listing stops, otherwise 0. */
 #define TTW_SECOND(answer) (((answer) >> 32) & 0xFFFFFu)
 /* The refusal's detail. */
 #define TTW_DETAIL(answer) ((answer) & 0xFFFFFFFFu)
@@ -65,6 +68,8 @@ enum ttw_refused {
     TTW_REFUSED_PACK = 11,
     TTW_REFUSED_CODE = 12,
     TTW_REFUSED_SUFFIX = 13,
+    TTW_REFUSED_ROW = 14,
+    TTW_REFUSED_FIELD = 15,
     TTW_REFUSED_DIGIT = 27
 };
 
@@ -385,6 +390,114 @@ uint64_t ttw_main_build(const uint8_t *localities, size_t localities_len, const 
                         const uint8_t *addresses, size_t addresses_len, const uint8_t *code, size_t code_len,
                         uint8_t *out, size_t out_len);
 
+/* CSV PAF, as the Programmers' Guide's chapter 20 has it. A row is sixteen fields with commas between them, ended by CR LF;
+ * nothing is quoted, and there is no header:
+ *
+ *   no.  field                        most bytes     no.  field               most bytes
+ *   1    postcode                     8              9    sub building name   30
+ *   2    post town                    30             10   PO box              6
+ *   3    dependent locality           35             11   department          60
+ *   4    double dependent locality    35             12   organisation        60
+ *   5    thoroughfare and descriptor  80             13   UDPRN               8
+ *   6    the same, dependent          80             14   postcode type       1
+ *   7    building number              4              15   indicator           1
+ *   8    building name                50             16   suffix              2
+ *
+ * Rows are written from a pair of files or a set, and a file of rows is read; docs/CSV.md has examples. A row that was
+ * written and is read back prints the label of its view, but where the concatenation mark counts, for which a row has no
+ * field: where it is Y, sub building and number are present and a building name is not.
+ */
+
+/* The rows of views, live or not. The postcode is outward code, space, inward code; a name and its descriptor have one space
+ * between them; the number has no leading zeros, and is empty where it is zero; the UDPRN is empty.
+ *
+ * Refusals, in this order: the files' and 7, 8, 9 as for labels, then
+ *  15 a row cannot carry the view (detail 0): a text has a comma or a double quote, or a thoroughfare has more than 80 bytes
+ *     with its descriptor
+ *  10 `out` is shorter than the row (the bytes needed, at most TTW_CSV_ROW_MAX)
+ */
+
+/* The row of a view, counted from 1: how many bytes were written. */
+uint64_t ttw_csv_row(const uint8_t *table, size_t table_len, const uint8_t *points, size_t points_len, uint64_t view,
+                     uint8_t *out, size_t out_len);
+
+/* The rows of `count` views from view `first` on, counted from 1: how many rows were written. It is a run as above, of rows
+ * and not of labels; 15 stops it too. All that have one:
+ *
+ *     static uint8_t out[1 << 16];
+ *     uint64_t bytes = 0, first = 1, answer;
+ *     for (;;) {
+ *         answer = ttw_csv_rows(table, table_len, points, points_len, first, 1000, out, sizeof out, &bytes);
+ *         if (TTW_FILE(answer) != 0)
+ *             break;
+ *         fwrite(out, 1, bytes, stdout);
+ *         first += TTW_REFUSAL(answer) == 0 ? TTW_VALUE(answer) : TTW_SECOND(answer);
+ *         if (TTW_REFUSAL(answer) == TTW_REFUSED_NUMBER)
+ *             break;
+ *         if (TTW_REFUSAL(answer) != 0 && TTW_REFUSAL(answer) != TTW_REFUSED_ROOM)
+ *             fprintf(stderr, "view %lu has no row\n", (unsigned long)first++);
+ *     }
+ */
+uint64_t ttw_csv_rows(const uint8_t *table, size_t table_len, const uint8_t *points, size_t points_len, uint64_t first,
+                      uint64_t count, uint8_t *out, size_t out_len, uint64_t *bytes);
+
+/* The same of a Mainfile set. */
+uint64_t ttw_main_csv_row(const uint8_t *localities, size_t localities_len, const uint8_t *thoroughfares,
+                          size_t thoroughfares_len, const uint8_t *descriptors, size_t descriptors_len,
+                          const uint8_t *buildings, size_t buildings_len, const uint8_t *sub_buildings,
+                          size_t sub_buildings_len, const uint8_t *organisations, size_t organisations_len,
+                          const uint8_t *addresses, size_t addresses_len, uint64_t view, uint8_t *out,
+                          size_t out_len);
+
+uint64_t ttw_main_csv_rows(const uint8_t *localities, size_t localities_len, const uint8_t *thoroughfares,
+                           size_t thoroughfares_len, const uint8_t *descriptors, size_t descriptors_len,
+                           const uint8_t *buildings, size_t buildings_len, const uint8_t *sub_buildings,
+                           size_t sub_buildings_len, const uint8_t *organisations, size_t organisations_len,
+                           const uint8_t *addresses, size_t addresses_len, uint64_t first, uint64_t count,
+                           uint8_t *out, size_t out_len, uint64_t *bytes);
+
+/* A CSV file is rows and nothing else; one of no bytes has none, and is accepted. Only a comma, CR LF or the end of the file
+ * ends a field. Its refusals, each over the whole file, no file to blame:
+ *  14 a row is malformed: of the first such row its number, counted from 1, and as second detail its first malformed field.
+ *     A row that ends before field i is malformed at field i; at field 17 where anything but CR LF stands behind field 16, be
+ *     it one field more or the end of the file
+ *  15 a field of any row is longer than the table above says, its trailing spaces counted, or has a double quote (detail 0).
+ *     A field that is malformed too counts for 14
+ * Well formed is: postcode, postcode type, indicator (or nothing) and suffix as they are written; number and UDPRN digits or
+ * nothing; the others texts as in the files, whose trailing spaces are padding. The post town is not blank; a double
+ * dependent locality needs a dependent one; a small user with a department needs an organisation, else field 12 is
+ * malformed.
+ *
+ * A row prints the label of its fields, without concatenation mark. Its refusals, behind those of the file: 7 no such row, 8
+ * a forbidden combination, 1 or 2 as above, 10 as above.
+ *
+ * Numbers that are larger than their bits: of a file of 4 GiB or more the row in 14 is told modulo 4,294,967,296, and as in
+ * any run or listing what was written before a stop modulo 1,048,576. Who asks for at most 1,048,575 rows a call always
+ * learns how many they were.
+ *
+ *     uint64_t answer = ttw_csv(csv, csv_len);
+ *     if (TTW_REFUSAL(answer) == TTW_REFUSED_ROW)
+ *         printf("row %lu, field %u\n", (unsigned long)TTW_DETAIL(answer), (unsigned)TTW_SECOND(answer));
+ */
+
+/* How many rows a CSV file has. Refusals: 14, 15. */
+uint64_t ttw_csv(const uint8_t *csv, size_t csv_len);
+
+/* The label of a row, counted from 1: how many bytes were written. */
+uint64_t ttw_csv_label(const uint8_t *csv, size_t csv_len, uint64_t row, uint8_t *out, size_t out_len);
+
+/* The labels of `count` rows from row `first` on, counted from 1: how many labels were written. It is a run of labels as
+ * above, refused as a whole with 14 or 15, and stops with 7, 8 or 10. */
+uint64_t ttw_csv_labels(const uint8_t *csv, size_t csv_len, uint64_t first, uint64_t count, uint8_t *out, size_t out_len,
+                        uint64_t *bytes);
+
+/* `count` rows from row `first` on, counted from 1: how many items were written. It is a listing as above, whose items are
+ * the line `row N`, N being the row's number, then the label or the line `refused 8 d`; refused as a whole with 14 or 15,
+ * and stops with 7 or 10. A line that begins with `ro` begins an item, one with `re` is the line of a refusal. 512 bytes
+ * hold any item of a file below 4 GiB. */
+uint64_t ttw_csv_list(const uint8_t *csv, size_t csv_len, uint64_t first, uint64_t count, uint8_t *out, size_t out_len,
+                      uint64_t *bytes);
+
 /* The fourteen arguments of a set, for the calls above. */
 #define TTW_MAIN_FILES(set)                                                                                  \
     (set)->localities, (set)->localities_len, (set)->thoroughfares, (set)->thoroughfares_len,                \
@@ -449,6 +562,17 @@ static inline uint64_t ttw_main_build_of(const struct ttw_main *set, const uint8
                                          size_t out_len)
 {
     return ttw_main_build(TTW_MAIN_FILES(set), code, code_len, out, out_len);
+}
+
+static inline uint64_t ttw_main_csv_row_of(const struct ttw_main *set, uint64_t view, uint8_t *out, size_t out_len)
+{
+    return ttw_main_csv_row(TTW_MAIN_FILES(set), view, out, out_len);
+}
+
+static inline uint64_t ttw_main_csv_rows_of(const struct ttw_main *set, uint64_t first, uint64_t count, uint8_t *out,
+                                            size_t out_len, uint64_t *bytes)
+{
+    return ttw_main_csv_rows(TTW_MAIN_FILES(set), first, count, out, out_len, bytes);
 }
 
 #ifdef __cplusplus

@@ -45,7 +45,15 @@
     CALL(ttw_main_code_labels, SET, READ(7), NUMBER(0), NUMBER(1), WRITE(0), TELL(1))         \
     CALL(ttw_main_list, SET, NUMBER(0), NUMBER(1), WRITE(0), TELL(1))                         \
     CALL(ttw_main_code_list, SET, READ(7), NUMBER(0), NUMBER(1), WRITE(0), TELL(1))           \
-    CALL(ttw_main_build, SET, READ(7), WRITE(0))
+    CALL(ttw_main_build, SET, READ(7), WRITE(0))                                              \
+    CALL(ttw_csv_row, READ(0), READ(1), NUMBER(0), WRITE(0))                                  \
+    CALL(ttw_csv_rows, READ(0), READ(1), NUMBER(0), NUMBER(1), WRITE(0), TELL(1))             \
+    CALL(ttw_main_csv_row, SET, NUMBER(0), WRITE(0))                                          \
+    CALL(ttw_main_csv_rows, SET, NUMBER(0), NUMBER(1), WRITE(0), TELL(1))                     \
+    CALL(ttw_csv, READ(0))                                                                    \
+    CALL(ttw_csv_label, READ(0), NUMBER(0), WRITE(0))                                         \
+    CALL(ttw_csv_labels, READ(0), NUMBER(0), NUMBER(1), WRITE(0), TELL(1))                    \
+    CALL(ttw_csv_list, READ(0), NUMBER(0), NUMBER(1), WRITE(0), TELL(1))
 
 /* What these lines are made of: a slice to read or to write, the seven files of a Mainfile set, a number, a place for a
  * number. */

@@ -14,6 +14,9 @@ use Rattle.ask.specs.Source.{Source}
 use Rattle.ask.specs.Labels.{viewLabel, codeLabel}
 use Rattle.ask.specs.Runs.{viewsRun, codeRun}
 use Rattle.ask.specs.Lists.{viewsList, codeList}
+use Rattle.csv.specs.Row.{viewRow, viewRows}
+use Rattle.csv.specs.File.{csvJudged}
+use Rattle.csv.specs.Ask.{csvLabel, csvLabels, csvList}
 use Rattle.pack.specs.Opening.{opened}
 use Rattle.pack.specs.Points.{packLabel, packSuffix, packSector}
 use Rattle.pack.specs.Cutting.{packBuilt}
@@ -62,6 +65,12 @@ pub data Call : Type 0 where
   of-pack-list : (pack : List ℕ) (first count : ℕ) → Call
   of-pack-suffix : (pack : List ℕ) (k : ℕ) → Call
   of-sector : (pack : List ℕ) (digit : ℕ) → Call
+  of-csv-row : (lent : Lent) (view : ℕ) → Call
+  of-csv-rows : (lent : Lent) (first count : ℕ) → Call
+  of-csv : (csv : List ℕ) → Call
+  of-csv-label : (csv : List ℕ) (row : ℕ) → Call
+  of-csv-labels : (csv : List ℕ) (first count : ℕ) → Call
+  of-csv-list : (csv : List ℕ) (first count : ℕ) → Call
 
 -- what a call says: one answer, or that of a run or a listing
 pub data Saying : Type 0 where
@@ -102,6 +111,12 @@ outcomeOf (of-pack-labels pack first count) out = running (packRun pack first co
 outcomeOf (of-pack-list pack first count) out = running (packList pack first count out)
 outcomeOf (of-pack-suffix pack k) out = reading (packSuffix pack k) out
 outcomeOf (of-sector pack digit) out = reading (packSector pack digit) out
+outcomeOf (of-csv-row lent view) out = writing (viewRow (sourceOf lent) view out)
+outcomeOf (of-csv-rows lent first count) out = running (viewRows (sourceOf lent) first count out)
+outcomeOf (of-csv csv) out = reading (csvJudged csv) out
+outcomeOf (of-csv-label csv row) out = writing (csvLabel csv row out)
+outcomeOf (of-csv-labels csv first count) out = running (csvLabels csv first count out)
+outcomeOf (of-csv-list csv first count) out = running (csvList csv first count out)
 
 -- as C gets it: one number; and the bytes of a run or a listing, where they are asked for
 abbrev pub numberOf : Saying → ℕ

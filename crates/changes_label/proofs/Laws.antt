@@ -1,7 +1,7 @@
 -- Laws of labels asked of a pair of files: the views by their places.
 -- Assumes nothing.
 use Prim.Native.Nat.{ℕ, zero, suc, _≤_, _<_}
-use mathlib.Core.Path.{_≡_, refl, sym, ap, _∙_}
+use mathlib.Core.Path.{_≡_, refl, sym, ap, ap₂, _∙_}
 use mathlib.Core.Bool.{Bool, true, false}
 use mathlib.Core.List.{List, []}
 use native.Mathlib.Omega.{arith}
@@ -21,19 +21,25 @@ use Rattle.file.specs.Accepted.{Accepted}
 use Rattle.file.proofs.Accepted.{accepted}
 use Rattle.changes_views.specs.Views.{wantedIn, wantedCount, wantedAt}
 use Rattle.changes_views.proofs.Laws.{wanted-at-wanted, wanted-at-zero, wanted-at-none}
+use Rattle.source.specs.declared.DeliveryPoint.{DeliveryPoint}
 use Rattle.source.specs.Address.{Elements}
+use Rattle.source.specs.Delivery.{askedOf, rowsFor}
 use Rattle.source.specs.Resolve.{Resolved, elements, refused, elementsOf}
 use Rattle.label.specs.Label.{labelOf, roomOutcome, resolvedOutcome}
 use Rattle.label.proofs.Room.{room-within}
 use Rattle.label.proofs.Bounds.{at-most-499}
 use Rattle.ask.specs.Labels.{kth, kthLabel, labelOutcome, viewLabel, codeLabel}
 use Rattle.ask.proofs.Laws.{by-good-code}
-use Rattle.changes_source.specs.Rows.{tableLookup}
+use Rattle.shelf.specs.declared.Shelf.{Shelf}
+use Rattle.shelf.specs.Search.{found}
+use Rattle.source_spans.specs.Spans.{elementsBy}
+use Rattle.changes_source.specs.Rows.{tableShelf, tableLookup}
 use Rattle.changes_source.specs.Addresses.{addressAt}
+use Rattle.changes_source.specs.Delivery.{deliveryAt}
 use Rattle.changes_pair.specs.Live.{viewAt, viewsAt}
 use Rattle.changes_pair.specs.Pair.{pairOf}
 use Rattle.changes_pair.proofs.Live.{all-views, live-views, kth-there, kth-missing, resolve-number}
-use Rattle.changes_meaning.proofs.Meant.{address-fits}
+use Rattle.changes_meaning.proofs.Meant.{rowsAt, address-fits}
 use Rattle.changes_label.specs.Places.{resolvedAt, placeLabel, ViewPlace}
 
 -- ---- one place
@@ -70,6 +76,16 @@ pub label-fits : (table points : List ℕ) (place : ℕ) → ViewPlace table poi
 label-fits table points place v some =
     at-most-499 (elementsOf (tableLookup table) (addressAt points 0 place))
     (address-fits table points (v .of-table) place (v .high some) 0)
+
+-- what is read and looked up with equals
+pub rows-as : (s : Shelf) (p : DeliveryPoint) (table points : List ℕ) (i : ℕ) → s ≡ tableShelf → p ≡ deliveryAt points i
+    → rowsFor (found s table) (askedOf p) ≡ rowsAt table points i
+rows-as s p table points i e f = ap₂ (λ (z : Shelf) (q : DeliveryPoint). rowsFor (found z table) (askedOf q)) e f
+
+pub elements-as : {s z : Shelf} {p q : DeliveryPoint} {rows others : List ℕ} (table points : List ℕ) → s ≡ z → p ≡ q
+    → rows ≡ others
+    → elementsBy s table points p rows ≡ elementsBy z table points q others
+elements-as table points e f g = cc
 
 -- ---- the place of the k-th that is wanted
 

@@ -91,6 +91,7 @@ module _ (points : List ℕ) (i : ℕ) (high : suc i < length points / 168) wher
         organisation-key = refl;
         postcode-type = refl;
         concatenation = refl;
+        indicator = refl;
         outward = own-part 14 18 (at + 14) (at + 14 + 4) (omega arith) refl (omega arith);
         inward = own-part 18 21 (at + 14 + 4) (at + 14 + 7) (omega arith) (omega arith) (omega arith);
         suffix = own-part 21 23 (at + 21) (at + 21 + 2) (omega arith) refl (omega arith);

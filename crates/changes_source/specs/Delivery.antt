@@ -50,6 +50,7 @@ deliveryOf rec at =
       «organisation_key» = value (part rec Point.organisationKey Point.letter);
       «postcode_type» = getD rec Point.postcodeType 0;
       concatenation = eqb (getD rec View.concatenation 0) 89;
+      indicator = eqb (getD rec View.indicator 0) 89;
       postcode = at + Point.outward;
       suffix = at + Point.suffix;
       «po_box» = at + View.box;

@@ -95,6 +95,7 @@ pub fn delivery_at(points: &[u8], i: usize) -> DeliveryPoint
         organisation_key: field_read::value_of(organisation) as u32,
         postcode_type: file_record::byte_of(rec, Point::POSTCODE_TYPE),
         concatenation: file_record::byte_of(rec, View::CONCATENATION) == b'Y',
+        indicator: file_record::byte_of(rec, View::INDICATOR) == b'Y',
         postcode: at + Point::OUTWARD,
         suffix: at + Point::SUFFIX,
         po_box: at + View::PO_BOX,

@@ -22,7 +22,7 @@ use Rattle.refusal.specs.Outcome.{said, after, afterwards}
 use Rattle.refusal.proofs.Answers.{same-value}
 use Rattle.refusal.proofs.Outcomes.{afterwards-refused}
 use Rattle.source.specs.Address.{Lookup, Address}
-use Rattle.source.specs.Resolve.{forbidden, missing, elementsOf, resolve}
+use Rattle.source.specs.Resolve.{elements, refused, forbidden, missing, elementsOf, resolve}
 use Rattle.source.specs.Same.{AllOf}
 use Rattle.source.proofs.Cases.{Resolving, mixed, lacking, fine, resolving, three-rules, eight-fields}
 use Rattle.file_record.specs.Parts.{recordAt}
@@ -35,9 +35,10 @@ use Rattle.file.proofs.Accepted.{accepted, accepts}
 use Rattle.file.proofs.Laws.{within-limit}
 use Rattle.changes_views.specs.Views.{wantedIn, wantedCount, wantedAt}
 use Rattle.changes_views.proofs.Laws.{count-bound}
+use Rattle.label.specs.Label.{labelOf}
 use Rattle.item.specs.Lines.{pointLine}
 use Rattle.item.specs.Item.{resolvedText}
-use Rattle.item.proofs.Lines.{point-short, refused-short}
+use Rattle.item.proofs.Lines.{worded-short, point-short, refused-short}
 use Rattle.run.specs.declared.Series.{Series}
 use Rattle.run.specs.declared.Series.the-variants.{Unasked, Stopped, Done}
 use Rattle.ask.specs.Source.{Source}
@@ -67,16 +68,22 @@ use Rattle.mainfile_views.specs.Range.{viewsIn, manyIn}
 use Rattle.mainfile_views.specs.Range as Main
 use Rattle.mainfile_list.specs.Listing as MainList
 use Rattle.mainfile_views.proofs.Together.{range-high}
-use Rattle.call.specs.Call.{sourceOf, Call, of-table, of-points, of-views, of-letter, of-live, of-codes, of-main, of-main-live, of-main-codes, of-label, of-code-label, of-labels, of-code-labels, of-list, of-code-list, of-build, of-pack, of-pack-label, of-pack-labels, of-pack-list, of-pack-suffix, of-sector, one, run}
+use Rattle.call.specs.Call.{Lent, sourceOf, Call, of-table, of-points, of-views, of-letter, of-live, of-codes, of-main, of-main-live, of-main-codes, of-label, of-code-label, of-labels, of-code-labels, of-list, of-code-list, of-build, of-pack, of-pack-label, of-pack-labels, of-pack-list, of-pack-suffix, of-sector, of-csv-row, of-csv-rows, of-csv, of-csv-label, of-csv-labels, of-csv-list, one, run}
 use Rattle.demands.specs.Two.{ViewAsked, CodeAsked, files-refused, code-refused, taken, labelAt, suffixAt, SuffixAsked, pack-refused, no-number, no-suffix, told, SectorAsked, no-digit, counted, Bounded}
 use Rattle.demands.specs.Three.{AllPrinted, FirstRefused, here, later, packed, whole, Building, files-refused, code-refused, view-refused, too-short, built}
-use Rattle.demands.specs.Apt.{Judging, Numbered, AptViews, Apt}
-use Rattle.demands.specs.Fits.{Exception, large-pack, large-list, to-open, to-run, to-list, to-sector, Typed, Tells, TellsAll}
+use Rattle.demands.specs.Apt.{WholeSays, Judging, Numbered, AptViews, Apt}
+use Rattle.demands.specs.Fits.{Exception, large-pack, large-list, large-file, large-rows, to-check, to-label, to-labels, to-items, to-open, to-run, to-list, to-sector, Typed, Tells, TellsAll}
 use Rattle.demands.proofs.Two.{view-asked, code-asked, points-bounded}
 use Rattle.demands.proofs.Suffixes.{suffix-small, suffix-asked}
 use Rattle.demands.proofs.Sectors.{sector-few, sector-asked}
 use Rattle.demands.proofs.Three.{building, all-fine}
-use Rattle.demands.proofs.Says.{StopSays, OneLabel, SeriesSays, code-apt, table-says, points-says, code-says, opened-says, point-says, source-refused, view-says, code-label-says, views-say, codes-say, packs-say, list-says, code-list-says, pack-list-says}
+use Rattle.demands.proofs.Says.{StopSays, OneLabel, SeriesOf, SeriesSays, code-apt, table-says, points-says, code-says, opened-says, point-says, source-refused, view-says, code-label-says, views-say, codes-say, packs-say, list-says, code-list-says, pack-list-says}
+use Rattle.csv.specs.Row.{viewRow, viewRows}
+use Rattle.csv.specs.File.{rowsOf, csvJudged}
+use Rattle.csv.specs.Ask.{rowWord, forbiddenIn, rowResolved, kthOf, csvLabel, csvLabels, rowLine, csvList}
+use Rattle.csv_label.proofs.RowLaws.{number-few, rows-within}
+use Rattle.demands.specs.Csv.{elementsFor, CsvSays}
+use Rattle.demands.proofs.Csv.{RowSays, OneRow, row-says, rows-say, lent-rows, csv-fits, csv-says, csv-bounded, csv-label-says, csv-labels-say, csv-list-says, rule-few}
 use Rattle.demands.proofs.Lent.{set-says, addresses-says, lent-apt}
 
 -- ---- files and what a point file lists
@@ -321,19 +328,30 @@ small-room n h = record { no-view = refl; small = h }
 none-small : SmallStop NoSuchNumber
 none-small = record { no-view = refl; small = lit< tt }
 
-run-small : (limit : ℕ) (s : Series) → SeriesSays StopSays limit s → SeriesSays SmallStop limit s
-run-small limit (Unasked file why) h = h
-run-small limit (Stopped labels bytes why) h =
-    (h .0, record { no-view = h .1 .no-view; small = omega (arith, h .1 .small) })
-run-small limit (Done labels bytes) h = h
+small-by : (Whole : ℕ → Reason → Type 0) (Kind : Reason → Type 0) → ((why : Reason) → Kind why → SmallStop why)
+    → (limit : ℕ) (s : Series)
+    → SeriesOf Whole Kind limit s
+    → SeriesOf Whole SmallStop limit s
+small-by Whole Kind smaller limit (Unasked file why) h = h
+small-by Whole Kind smaller limit (Stopped labels bytes why) h = (h .0, smaller why (h .1))
+small-by Whole Kind smaller limit (Done labels bytes) h = h
 
-series-tells : (call : Call) (limit : ℕ) (s : Series) → SeriesSays SmallStop limit s → limit < 72_057_594_037_927_936
+stop-small : (why : Reason) → StopSays why → SmallStop why
+stop-small why h = record { no-view = h .no-view; small = omega (arith, h .small) }
+
+run-small : (limit : ℕ) (s : Series) → SeriesSays StopSays limit s → SeriesSays SmallStop limit s
+run-small = small-by WholeSays StopSays stop-small
+
+series-tells : (Whole : ℕ → Reason → Type 0) → ((file : ℕ) (why : Reason) → Whole file why → FitsRefusal file why)
+    → (call : Call) (limit : ℕ) (s : Series)
+    → SeriesOf Whole SmallStop limit s
+    → limit < 72_057_594_037_927_936
     → ((Exception call → ⊥) → limit < 1_048_576)
     → Tells call (run s)
 unfolding word
-series-tells call limit (Unasked file why) h below few =
-    record { fits = h .fits; number = refl; all = λ none. refl }
-series-tells call limit (Stopped labels bytes why) h below few =
+series-tells Whole whole call limit (Unasked file why) h below few =
+    record { fits = whole file why h; number = refl; all = λ none. refl }
+series-tells Whole whole call limit (Stopped labels bytes why) h below few =
     record {
       fits = (omega arith, (h .1 .no-view, h .1 .small));
       number = rw (mod-mod labels 1_048_576);
@@ -341,12 +359,12 @@ series-tells call limit (Stopped labels bytes why) h below few =
           ap (λ (n : ℕ). run (Stopped n bytes why))
           (mod-eq-of-lt (omega (arith, h .0, few none)));
     }
-series-tells call limit (Done labels bytes) h below few =
+series-tells Whole whole call limit (Done labels bytes) h below few =
     record { fits = omega (arith, h); number = refl; all = λ none. refl }
 
 -- over a source that has no more than fit
 few-tells : (call : Call) (s : Series) → SeriesSays SmallStop 1_048_575 s → Tells call (run s)
-few-tells call s says = series-tells call 1_048_575 s says (lit< tt) (λ none. lit< tt)
+few-tells call s says = series-tells WholeSays (λ file why h. h .fits) call 1_048_575 s says (lit< tt) (λ none. lit< tt)
 
 -- over a pack: where that is no exception, no more either
 pack-tells : (call : Call) (pack : List ℕ) → (1_048_575 < pointCount pack → Exception call) → (s : Series)
@@ -354,7 +372,7 @@ pack-tells : (call : Call) (pack : List ℕ) → (1_048_575 < pointCount pack �
     → SeriesSays SmallStop (pointCount pack) s
     → Tells call (run s)
 pack-tells call pack large s bytes says =
-    series-tells call (pointCount pack) s says (omega (arith, points-few pack bytes))
+    series-tells WholeSays (λ file why h. h .fits) call (pointCount pack) s says (omega (arith, points-few pack bytes))
     (λ none. by-test (ltb 1_048_575 (pointCount pack)) refl none)
   where
     by-test : (t : Bool) → ltb 1_048_575 (pointCount pack) ≡ t → (Exception call → ⊥) → pointCount pack < 1_048_576
@@ -392,6 +410,73 @@ point-small pack bytes n e k low high =
     let line = point-short k (omega (arith, points-few pack bytes)) in
     let text = points-bounded pack n k e low (omega (arith, opened-all pack n e .counted)) .bytes in
     small-room _ (simp length-append (omega (arith, line, text)))
+
+-- ---- CSV PAF
+
+row-fits : (lent : Lent) (view : ℕ) (out : List ℕ) → Fits (viewRow (sourceOf lent) view out .answer)
+unfolding viewRow
+row-fits lent view out = by-judged (sourceOf lent .judged) refl
+  where
+    one-fits : (limit k : ℕ) (r : Answer) → OneRow limit k r → Fits r
+    one-fits limit k (Value b) h = omega (arith, h .0)
+    one-fits limit k (Refused file why) h =
+        record {
+          file-fits = rw (h .0) (lit< tt);
+          second-fits = rw (h .1 .no-view) (lit< tt);
+          detail-fits = omega (arith, h .1 .small);
+        }
+
+    by-judged : (j : Answer) → sourceOf lent .judged ≡ j → Fits (viewRow (sourceOf lent) view out .answer)
+    by-judged (Value n) e =
+        one-fits (length (sourceOf lent .views)) view (viewRow (sourceOf lent) view out .answer)
+        (row-says (sourceOf lent) (lent-rows lent) e view out)
+    by-judged (Refused file why) e =
+        rw (afterwards-refused Refused out _ e) (source-refused (sourceOf lent) (lent-apt lent) e .fits)
+
+csv-label-fits : (csv : List ℕ) → length csv < 4_294_967_296 → (row : ℕ) (out : List ℕ) → Fits (csvLabel csv row out .answer)
+unfolding csvLabel
+csv-label-fits csv h row out = by-judged (csvJudged csv) refl
+  where
+    by-judged : (j : Answer) → csvJudged csv ≡ j → Fits (csvLabel csv row out .answer)
+    by-judged (Value n) e =
+        label-fits (length (rowsOf csv)) row (csvLabel csv row out .answer) (csv-label-says csv n e row out)
+    by-judged (Refused file why) e = rw (afterwards-refused Refused out _ e) (rw e at (csv-fits csv h))
+
+csv-tells : (call : Call) (csv : List ℕ) → (1_048_575 < length (rowsOf csv) → Exception call) → length csv < 4_294_967_296
+    → (s : Series)
+    → SeriesOf CsvSays SmallStop (length (rowsOf csv)) s
+    → Tells call (run s)
+csv-tells call csv large h s says =
+    series-tells CsvSays (λ file why h. h .fits) call (length (rowsOf csv)) s says (omega (arith, rows-within csv, h))
+    (λ none. by-test (ltb 1_048_575 (length (rowsOf csv))) refl none)
+  where
+    by-test : (t : Bool) → ltb 1_048_575 (length (rowsOf csv)) ≡ t → (Exception call → ⊥) → length (rowsOf csv) < 1_048_576
+    by-test true e none = absurd (none (large (ltb-true 1_048_575 (length (rowsOf csv)) e)))
+    by-test false e none = omega (arith, ltb-false 1_048_575 (length (rowsOf csv)) e)
+
+row-text-short : (row : List ℕ) → length (labelOf (elementsFor row)) ≤ 499 → length (resolvedText (rowResolved row)) ≤ 499
+unfolding rowResolved
+row-text-short row h = by-test (eqb (forbiddenIn (elementsFor row)) 0)
+  where
+    by-test : (t : Bool)
+        → length
+        (resolvedText (cond t (elements (elementsFor row)) (refused (Combination (forbiddenIn (elementsFor row)) 0))))
+        ≤ 499
+    by-test true = h
+    by-test false =
+        omega (
+          arith,
+          refused-short 8 (forbiddenIn (elementsFor row)) 0 (lit< tt) (omega (arith, rule-few (elementsFor row))) (lit< tt),
+        )
+
+row-item-small : (csv : List ℕ) → length csv < 4_294_967_296 → (n : ℕ) → csvJudged csv ≡ Value n → (k : ℕ) (row : List ℕ)
+    → kthOf (rowsOf csv) k ≡ some row
+    → SmallStop (Room (length (rowLine k ++ resolvedText (rowResolved row))))
+unfolding rowLine
+row-item-small csv h n e k row q =
+    let line = worded-short rowWord k (lit≤ tt) (omega (arith, h, rows-within csv, number-few (rowsOf csv) k row q)) in
+    let text = row-text-short row (csv-bounded csv n k row e q) in
+    small-room _ (simp length-append (omega (arith, simp length-append at line, text)))
 
 -- of every call, whatever is lent
 pub tells : (call : Call) → Typed call → TellsAll call
@@ -443,13 +528,30 @@ tells (of-code-list lent code first count) typed out =
     (code-list-says SmallStop none-small s apt code
     (λ n e. item-small s apt (packed s code) (code-apt (s .look) code (s .live) (apt .live e))) first count out)
 tells (of-build lent code) typed out = answer-tells _ _ (build-fits (sourceOf lent) (lent-apt lent) code out)
-tells (of-pack pack) typed out = answer-tells _ _ (opened-fits pack (typed pack to-open))
+tells (of-pack pack) typed out = answer-tells _ _ (opened-fits pack (typed .pack-bytes pack to-open))
 tells (of-pack-label pack k) typed out = answer-tells _ _ (point-fits pack k out)
 tells (of-pack-labels pack first count) typed out =
-    pack-tells _ pack large-pack _ (typed pack to-run)
+    pack-tells _ pack large-pack _ (typed .pack-bytes pack to-run)
     (run-small (pointCount pack) (packRun pack first count out .answer) (packs-say pack first count out))
 tells (of-pack-list pack first count) typed out =
-    pack-tells _ pack large-list _ (typed pack to-list)
-    (pack-list-says SmallStop none-small pack (point-small pack (typed pack to-list)) first count out)
+    pack-tells _ pack large-list _ (typed .pack-bytes pack to-list)
+    (pack-list-says SmallStop none-small pack (point-small pack (typed .pack-bytes pack to-list)) first count out)
 tells (of-pack-suffix pack k) typed out = answer-tells _ _ (suffix-fits pack k)
-tells (of-sector pack digit) typed out = answer-tells _ _ (sector-fits pack digit (typed pack to-sector))
+tells (of-sector pack digit) typed out = answer-tells _ _ (sector-fits pack digit (typed .pack-bytes pack to-sector))
+tells (of-csv-row lent view) typed out = answer-tells _ _ (row-fits lent view out)
+tells (of-csv-rows lent first count) typed out =
+    few-tells _ _
+    (small-by WholeSays RowSays (λ why h. record { no-view = h .no-view; small = omega (arith, h .small) }) 1_048_575
+    (viewRows (sourceOf lent) first count out .answer)
+    (rows-say (sourceOf lent) (lent-apt lent) (lent-rows lent) first count out))
+tells (of-csv csv) typed out = answer-tells _ _ (csv-fits csv (typed .csv-short csv to-check))
+tells (of-csv-label csv row) typed out = answer-tells _ _ (csv-label-fits csv (typed .csv-short csv to-label) row out)
+tells (of-csv-labels csv first count) typed out =
+    let h = typed .csv-short csv to-labels in
+    csv-tells _ csv large-file h _
+    (small-by CsvSays StopSays stop-small (length (rowsOf csv)) (csvLabels csv first count out .answer)
+    (csv-labels-say CsvSays csv (csv-says csv h) first count out))
+tells (of-csv-list csv first count) typed out =
+    let h = typed .csv-short csv to-items in
+    csv-tells _ csv large-rows h _
+    (csv-list-says CsvSays SmallStop none-small csv (csv-says csv h) (row-item-small csv h) first count out)

@@ -10,6 +10,7 @@ pub mod Faults
 pub mod Pair
 pub mod Set
 pub mod Lent
+pub mod Csv
 pub mod Apart
 pub mod Fits
 pub mod Told

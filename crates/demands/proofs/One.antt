@@ -9,7 +9,7 @@ use lib.Dec.{eqb, leb}
 use lib.ListN.{length, drop}
 use Rattle.field_outward.specs.Outward.{outwardFault}
 use Rattle.refusal.specs.declared.Reason.{Reason}
-use Rattle.refusal.specs.declared.Reason.the-variants.{NoSuchNumber, Room, BadCode}
+use Rattle.refusal.specs.declared.Reason.the-variants.{NoSuchNumber, Room, BadCode, Uncarried}
 use Rattle.refusal.specs.declared.Answer.{Answer}
 use Rattle.refusal.specs.declared.Answer.the-variants.{Value, Refused}
 use Rattle.refusal.specs.declared.Verdict.{Verdict}
@@ -29,6 +29,9 @@ use Rattle.ask.specs.Runs.{viewsRun, codeRun}
 use Rattle.ask.specs.Lists.{viewsListed, codeListed, viewsList, codeList}
 use Rattle.pack.specs.Layout.{packOf}
 use Rattle.pack.specs.Cutting.{firstBad, cutWith, cutOutcome, packBuilt}
+use Rattle.csv.specs.Row.{rowOf, carried, writtenOutcome, rowOutcome, rowOr, kthRow, viewRow, viewRows}
+use Rattle.csv.specs.File.{rowsOf, csvJudged}
+use Rattle.csv.specs.Ask.{kthOf, resolvedOf, labelOr, rowLabel, csvLabel, csvLabels, csvList}
 use Rattle.pack.specs.Opening.{opened}
 use Rattle.pack.specs.Points.{elementsAt, pointPlace, isPoint, pointLabel, packLabel}
 use Rattle.pack_runs.specs.Runs.{packRun}
@@ -39,7 +42,7 @@ use Rattle.file.specs.Mainfile.{addresses}
 use Rattle.tally_bytes.specs.Entries.{roomed}
 use Rattle.changes_codes.specs.Codes.{codesOutcome}
 use Rattle.mainfile_codes.specs.Codes as MainCodes
-use Rattle.call.specs.Call.{sourceOf, Call, of-table, of-points, of-views, of-letter, of-live, of-codes, of-main, of-main-live, of-main-codes, of-label, of-code-label, of-labels, of-code-labels, of-list, of-code-list, of-build, of-pack, of-pack-label, of-pack-labels, of-pack-list, of-pack-suffix, of-sector, Saying, one, run, Called, outcomeOf, bytesOf, comesTo}
+use Rattle.call.specs.Call.{sourceOf, Call, of-table, of-points, of-views, of-letter, of-live, of-codes, of-main, of-main-live, of-main-codes, of-label, of-code-label, of-labels, of-code-labels, of-list, of-code-list, of-build, of-pack, of-pack-label, of-pack-labels, of-pack-list, of-pack-suffix, of-sector, of-csv-row, of-csv-rows, of-csv, of-csv-label, of-csv-labels, of-csv-list, Saying, one, run, Called, outcomeOf, bytesOf, comesTo}
 use Rattle.demands.specs.One.{Allows, IsRefused, IsUnasked, RefusedWhole}
 
 -- "for every input, refusals too, it allows one answer and one content of lent memory"
@@ -171,6 +174,47 @@ module _ (s : Source) (out : List ℕ) where
         (cut-kept (firstBad (s .look) (inCode code (s .live))) (packOf (s .look) (inCode code (s .live)) code) out) code)
         (s .judged)
 
+  -- rows
+  row-kept : (view : ℕ) → Kept IsRefused (viewRow s view out) out
+  unfolding viewRow kthRow writtenOutcome
+  row-kept view = after-kept IsRefused Refused out _ (by-found (kth (s .views) view)) (s .judged)
+    where
+      by-test : (row : List ℕ) (t : Bool) → Kept IsRefused (cond t (roomOutcome row out) (said (Refused 0 Uncarried) out)) out
+      by-test row true = room-kept row out
+      by-test row false = λ r. refl
+
+      by-resolved : (a : Address) (r : Resolved) → Kept IsRefused (rowOutcome a r out) out
+      by-resolved a (elements e) = by-test (rowOf a e) (carried e)
+      by-resolved a (refused why) = λ r. refl
+
+      by-found : (found : Option Address) → Kept IsRefused (rowOr (s .look) found out) out
+      by-found none = λ r. refl
+      by-found (some a) = by-resolved a (resolve (s .look) a)
+
+  rows-kept : (first count : ℕ) → Kept IsUnasked (viewRows s first count out) out
+  unfolding viewRows
+  rows-kept first count = after-kept IsUnasked Unasked out _ (run-kept (viewRow s) first count out) (s .judged)
+
+-- of a file of rows
+csv-label-kept : (csv : List ℕ) (row : ℕ) (out : List ℕ) → Kept IsRefused (csvLabel csv row out) out
+unfolding csvLabel rowLabel
+csv-label-kept csv row out =
+    after-kept IsRefused Refused out _ (by-found (resolvedOf (kthOf (rowsOf csv) row))) (csvJudged csv)
+  where
+    by-found : (found : Option Resolved) → Kept IsRefused (labelOr found out) out
+    by-found none = λ r. refl
+    by-found (some r) = resolved-kept r out
+
+csv-labels-kept : (csv : List ℕ) (first count : ℕ) (out : List ℕ) → Kept IsUnasked (csvLabels csv first count out) out
+unfolding csvLabels
+csv-labels-kept csv first count out =
+    after-kept IsUnasked Unasked out _ (run-kept (csvLabel csv) first count out) (csvJudged csv)
+
+csv-list-kept : (csv : List ℕ) (first count : ℕ) (out : List ℕ) → Kept IsUnasked (csvList csv first count out) out
+unfolding csvList
+csv-list-kept csv first count out =
+    after-kept IsUnasked Unasked out _ (run-kept _ first count out) (csvJudged csv)
+
 -- of a pack
 pack-label-kept : (pack : List ℕ) (k : ℕ) (out : List ℕ) → Kept IsRefused (packLabel pack k out) out
 unfolding packLabel
@@ -208,6 +252,12 @@ kept (of-pack-labels pack first count) out = pack-run-kept pack first count out
 kept (of-pack-list pack first count) out = pack-list-kept pack first count out
 kept (of-pack-suffix pack k) out = λ r. refl
 kept (of-sector pack digit) out = λ r. refl
+kept (of-csv-row lent view) out = row-kept (sourceOf lent) out view
+kept (of-csv-rows lent first count) out = rows-kept (sourceOf lent) out first count
+kept (of-csv csv) out = λ r. refl
+kept (of-csv-label csv row) out = csv-label-kept csv row out
+kept (of-csv-labels csv first count) out = csv-labels-kept csv first count out
+kept (of-csv-list csv first count) out = csv-list-kept csv first count out
 
 -- "a refused call writes nothing into lent memory": neither the buffer nor the bytes of a run or a listing
 pub refused-writes-nothing : (call : Call) (out : List ℕ) (before : ℕ) → RefusedWhole (outcomeOf call out .answer)

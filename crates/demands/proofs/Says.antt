@@ -69,11 +69,14 @@ abbrev pub OneLabel : (limit k : ℕ) → Answer → Type 0
 OneLabel limit k (Value b) = (b ≤ 499) × ((1 ≤ k) × (k ≤ limit))
 OneLabel limit k (Refused file why) = (file ≡ 0) × StopSays why
 
--- a run or a listing, whose stops are of a kind
+-- a run or a listing, whose stops are of a kind; what refuses the whole is of another
+abbrev pub SeriesOf : (Whole : ℕ → Reason → Type 0) → (Kind : Reason → Type 0) → (limit : ℕ) → Series → Type 0
+SeriesOf Whole Kind limit (Unasked file why) = Whole file why
+SeriesOf Whole Kind limit (Stopped labels bytes why) = (labels ≤ limit) × Kind why
+SeriesOf Whole Kind limit (Done labels bytes) = labels ≤ limit
+
 abbrev pub SeriesSays : (Kind : Reason → Type 0) → (limit : ℕ) → Series → Type 0
-SeriesSays Kind limit (Unasked file why) = WholeSays file why
-SeriesSays Kind limit (Stopped labels bytes why) = (labels ≤ limit) × Kind why
-SeriesSays Kind limit (Done labels bytes) = labels ≤ limit
+SeriesSays = SeriesOf WholeSays
 
 -- ---- files
 
@@ -236,7 +239,7 @@ module _ (pack : List ℕ) (n : ℕ) (taken : opened pack ≡ Value n) (k : ℕ)
           rw is (small e low high, (low, omega (arith, same-value m n (sym e ∙ taken))))
 
 -- what is said of one label, without its bytes
-label-says : (limit k : ℕ) (r : Answer) → OneLabel limit k r → LabelSays StopSays limit k r
+pub label-says : (limit k : ℕ) (r : Answer) → OneLabel limit k r → LabelSays StopSays limit k r
 label-says limit k (Value b) h = h .1
 label-says limit k (Refused file why) h = h .1
 
@@ -244,7 +247,7 @@ label-says limit k (Refused file why) h = h .1
 
 -- an item that is there: where a kind has 10 with its bytes, its refusal is of that kind
 module _ (Kind : Reason → Type 0) (limit k : ℕ) (heading out : List ℕ) where
-  an-item-says : (r : Resolved) → (1 ≤ k) × (k ≤ limit) → Kind (Room (length (heading ++ resolvedText r)))
+  pub an-item-says : (r : Resolved) → (1 ≤ k) × (k ≤ limit) → Kind (Room (length (heading ++ resolvedText r)))
       → LabelSays Kind limit k (itemOutcome heading (some r) out .answer)
   an-item-says r within room = by-case (fitting (heading ++ resolvedText r) out)
     where
@@ -271,14 +274,14 @@ module _ (Kind : Reason → Type 0) (none-left : Kind NoSuchNumber) (heading : H
 -- ---- runs and listings
 
 -- asked in turn, each of them one of so many
-series-says : (Kind : Reason → Type 0) (a : Asking) (limit : ℕ)
+pub series-of : (Whole : ℕ → Reason → Type 0) (Kind : Reason → Type 0) (a : Asking) (limit : ℕ)
     → ((k : ℕ) (out : List ℕ) → LabelSays Kind limit k (a k out .answer))
     → (first count : ℕ) (out : List ℕ)
-    → SeriesSays Kind limit (runFrom a first count out .answer)
-series-says Kind a limit says first count out =
+    → SeriesOf Whole Kind limit (runFrom a first count out .answer)
+series-of Whole Kind a limit says first count out =
     by-series (runFrom a first count out .answer) (run-says Kind a limit says count first out)
   where
-    by-series : (s : Series) → RunSays Kind (limit - (first - 1)) s → SeriesSays Kind limit s
+    by-series : (s : Series) → RunSays Kind (limit - (first - 1)) s → SeriesOf Whole Kind limit s
     by-series (Unasked file why) h = absurd h
     by-series (Stopped labels bytes why) h = (omega (arith, h .0), h .1)
     by-series (Done labels bytes) h = omega arith
@@ -335,7 +338,7 @@ module _ (s : Source) (says : Apt s) where
     abbrev next : Outcome Series
     next = runFrom ask first count out
 
-    files-first : ((n : ℕ) → s .judged ≡ Value n → (k : ℕ) (o : List ℕ) → LabelSays Kind (length (s .views)) k (ask k o .answer))
+    pub files-first : ((n : ℕ) → s .judged ≡ Value n → (k : ℕ) (o : List ℕ) → LabelSays Kind (length (s .views)) k (ask k o .answer))
         → SeriesSays Kind 1_048_575 (afterwards Unasked (s .judged) out next .answer)
     files-first each = by-judged (s .judged) refl
       where
@@ -343,7 +346,7 @@ module _ (s : Source) (says : Apt s) where
         by-judged (Value n) e =
             rw (afterwards-value Unasked out next e)
             (more-say Kind (length (s .views)) 1_048_575 (next .answer) (says .views e .few)
-            (series-says Kind ask (length (s .views)) (each n e) first count out))
+            (series-of WholeSays Kind ask (length (s .views)) (each n e) first count out))
         by-judged (Refused file why) e = rw (afterwards-refused Unasked out next e) (source-refused e)
 
     module _ (code : List ℕ) where
@@ -362,7 +365,7 @@ module _ (s : Source) (says : Apt s) where
               rw (by-good-code Unasked code out next s e clean)
               (more-say Kind (length coded) 1_048_575 (next .answer)
               (code-apt (s .look) code (s .live) (says .live e) .few)
-              (series-says Kind ask (length coded) (each n e clean) first count out))
+              (series-of WholeSays Kind ask (length coded) (each n e clean) first count out))
           by-code n e false c =
               rw (by-bad-code Unasked code out next s e (eqb-false (outwardFault code) 0 c)) code-says
 
@@ -427,7 +430,7 @@ module _ (Kind : Reason → Type 0) (ask : Asking) (pack : List ℕ)
           → SeriesSays Kind (pointCount pack) (afterwards Unasked (opened pack) out (runFrom ask first count out) .answer)
       by-opened (Value n) e =
           rw (afterwards-value Unasked out (runFrom ask first count out) e)
-          (series-says Kind ask (pointCount pack) (each n e) first count out)
+          (series-of WholeSays Kind ask (pointCount pack) (each n e) first count out)
       by-opened (Refused file why) e =
           rw (afterwards-refused Unasked out (runFrom ask first count out) e) (rw e at (opened-says pack))
 

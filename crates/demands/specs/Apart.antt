@@ -33,11 +33,14 @@ AnswerIs Kind (Refused file why) = Kind file why
 abbrev pub OfItem : Reason → Type 0
 OfItem why = (number why ≡ 7) ⊎ (number why ≡ 10)
 
--- what stops it is of a kind, and what refuses the whole is of the whole
+-- what stops it is of a kind, and what refuses the whole of another
+abbrev pub SeriesApart : (Whole Stop : Reason → Type 0) → Series → Type 0
+SeriesApart Whole Stop (Unasked file why) = Whole why
+SeriesApart Whole Stop (Stopped labels bytes why) = Stop why
+SeriesApart Whole Stop (Done labels bytes) = Unit {0}
+
 abbrev pub StopsBy : (Stop : Reason → Type 0) → Series → Type 0
-StopsBy Stop (Unasked file why) = OfWhole why
-StopsBy Stop (Stopped labels bytes why) = Stop why
-StopsBy Stop (Done labels bytes) = Unit {0}
+StopsBy = SeriesApart OfWhole
 
 abbrev pub ToldApart : Series → Type 0
 ToldApart = StopsBy OfLabel

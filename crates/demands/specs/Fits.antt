@@ -3,14 +3,15 @@
 use Prim.Native.Nat.{ℕ, _%_, _<_}
 use mathlib.Core.Path.{_≡_}
 use mathlib.Core.List.{List}
-use lib.ListN.{getD}
+use lib.ListN.{length, getD}
 use Rattle.refusal.specs.Refusal.{detail, second}
 use Rattle.refusal.specs.Packed.{packed, FitsRefusal, Fits}
 use Rattle.run.specs.declared.Series.{Series}
 use Rattle.run.specs.declared.Series.the-variants.{Unasked, Stopped, Done}
 use Rattle.run.specs.Packed.{packedSeries, seriesBytes}
+use Rattle.csv.specs.File.{rowsOf}
 use Rattle.pack.specs.Opening.{pointCount}
-use Rattle.call.specs.Call.{Call, of-pack, of-pack-labels, of-pack-list, of-sector, Saying, one, run, outcomeOf, numberOf}
+use Rattle.call.specs.Call.{Call, of-pack, of-pack-labels, of-pack-list, of-sector, of-csv, of-csv-label, of-csv-labels, of-csv-list, Saying, one, run, outcomeOf, numberOf}
 
 -- ---- what fits
 
@@ -35,10 +36,13 @@ abbrev pub asTold : Saying → Saying
 asTold (one answer) = one answer
 asTold (run series) = run (toldSeries series)
 
--- the one exception, of which less is told than it says: a run or a listing over a pack of more than 1,048,575 points
+-- the exceptions, of which less is told than they say: a run or a listing over a pack of more than 1,048,575 points, or over
+-- a CSV file of more than 1,048,575 rows
 pub data Exception : Call → Type 0 where
   large-pack : {pack : List ℕ} {first count : ℕ} → 1_048_575 < pointCount pack → Exception (of-pack-labels pack first count)
   large-list : {pack : List ℕ} {first count : ℕ} → 1_048_575 < pointCount pack → Exception (of-pack-list pack first count)
+  large-file : {csv : List ℕ} {first count : ℕ} → 1_048_575 < length (rowsOf csv) → Exception (of-csv-labels csv first count)
+  large-rows : {csv : List ℕ} {first count : ℕ} → 1_048_575 < length (rowsOf csv) → Exception (of-csv-list csv first count)
 
 -- ---- every call
 
@@ -49,9 +53,18 @@ pub data CountedIn : Call → List ℕ → Type 0 where
   to-list : {pack : List ℕ} {first count : ℕ} → CountedIn (of-pack-list pack first count) pack
   to-sector : {pack : List ℕ} {digit : ℕ} → CountedIn (of-sector pack digit) pack
 
--- what is asked of a call: that such a pack holds bytes, as the type of its slice says
-abbrev pub Typed : Call → Type 0
-Typed call = (pack : List ℕ) → CountedIn call pack → (i : ℕ) → getD pack i 0 < 256
+-- the file of a call that numbers its rows
+pub data NumberedIn : Call → List ℕ → Type 0 where
+  to-check : {csv : List ℕ} → NumberedIn (of-csv csv) csv
+  to-label : {csv : List ℕ} {row : ℕ} → NumberedIn (of-csv-label csv row) csv
+  to-labels : {csv : List ℕ} {first count : ℕ} → NumberedIn (of-csv-labels csv first count) csv
+  to-items : {csv : List ℕ} {first count : ℕ} → NumberedIn (of-csv-list csv first count) csv
+
+-- what is asked of a call: that such a pack holds bytes, as the type of its slice says, and that such a file is shorter than
+-- 4 GiB, so that 14 can name each row
+pub record Typed (call : Call) : Type 0 where
+  pub pack-bytes : (pack : List ℕ) → CountedIn call pack → (i : ℕ) → getD pack i 0 < 256
+  pub csv-short : (csv : List ℕ) → NumberedIn call csv → length csv < 4_294_967_296
 
 -- what is told fits and has the number of what was said; and but for the exception it is what was said
 pub record Tells (call : Call) (said : Saying) : Type 0 where

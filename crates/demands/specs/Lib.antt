@@ -5,5 +5,6 @@ pub mod Three
 pub mod Apart
 pub mod Apt
 pub mod Fits
+pub mod Csv
 pub mod Unused
 pub mod Printer

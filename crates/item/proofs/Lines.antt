@@ -3,12 +3,12 @@
 use Prim.Native.Nat.{ℕ, _≤_, _<_}
 use mathlib.Core.Path.{_≡_}
 use mathlib.Core.Bool.{Bool, true, false, cond}
-use mathlib.Core.List.{[]}
+use mathlib.Core.List.{List, []}
 use native.Mathlib.Omega.{arith}
 use borrow.Author.Tests.{eq-eqb, ne-eqb}
 use lib.Dec.{eqb}
 use lib.ListN.{length, length-append}
-use Rattle.item.specs.Lines.{spacedNumber, viewLine, pointLine, byteText, refusedText}
+use Rattle.item.specs.Lines.{worded, spacedNumber, viewLine, pointLine, byteText, refusedText}
 use Rattle.item.proofs.Decimals.{decimal-short}
 
 -- the byte of a refusal, which 4 alone has
@@ -31,6 +31,9 @@ number-short n h = omega (arith, decimal-short n h)
 pub view-short : (view letter : ℕ) → Word view → length (viewLine view letter) ≤ 80
 unfolding viewLine
 view-short view letter h = simp length-append (omega (arith, decimal-short view h))
+
+pub worded-short : (word : List ℕ) (n : ℕ) → length word ≤ 20 → Word n → length (worded word n) ≤ 80
+worded-short word n short h = simp length-append (omega (arith, decimal-short n h))
 
 pub point-short : (k : ℕ) → Word k → length (pointLine k) ≤ 80
 unfolding pointLine

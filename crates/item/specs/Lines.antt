@@ -30,6 +30,10 @@ decimal n = decimalIn n n
 abbrev pub spacedNumber : ℕ → List ℕ
 spacedNumber n = 32 ∷ decimal n
 
+-- a word and a number
+abbrev pub worded : (word : List ℕ) → ℕ → List ℕ
+worded word n = word ++ (spacedNumber n ++ (10 ∷ []))
+
 -- "For each view: `view`, number, letter"
 unfoldable pub viewLine : (view letter : ℕ) → List ℕ
 viewLine view letter = viewWord ++ (spacedNumber view ++ (32 ∷ letter ∷ 10 ∷ []))

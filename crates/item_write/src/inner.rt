@@ -1,5 +1,8 @@
 // An item put together: its label is asked first, in what the heading leaves of the buffer, and the heading written then.
+use crate::Line;
+use crate::pieces::spaced_at;
 use crate::refused_line;
+use label_pieces::inner::byte_at;
 use label_pieces::inner::bytes_at;
 use refusal::Answer;
 use refusal::Reason;
@@ -10,7 +13,21 @@ ghost use lib.ListN.{length};
 ghost use Rattle.refusal.specs.Outcome.{said};
 ghost use Rattle.refusal.specs.Refusal.{number, detail};
 ghost use Rattle.label.specs.Label.{roomOutcome};
+ghost use Rattle.item.specs.Lines.{worded};
+ghost use Rattle.item_write.specs.Line.{Holds};
 ghost use Rattle.item_write.specs.Headed.{before, overLabel, overRefusal, headed, Small};
+
+// A word and a number.
+pub fn worded_line(word: &[u8], n: usize) -> Line
+    requires { ⌜ length (now word) ≤ 20 ⌝ }
+    ensures { λ r. ⌜ Holds r (worded (now (word .entry)) n) ⌝ }
+{
+    let mut bytes = [0u8; 80];
+    let i = bytes_at(word, 0, &mut bytes);
+    let j = spaced_at(n, i, &mut bytes);
+    let len = byte_at(b'\n', j, &mut bytes);
+    Line { bytes, len }
+}
 
 // How much of a buffer its heading takes.
 pub fn room_before(heading: &[u8], room: usize) -> usize

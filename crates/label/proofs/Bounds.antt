@@ -67,7 +67,7 @@ box-above n [] h = tt
 box-above n (x ∷ xs) h = (omega arith, tt)
 
 -- a name and its descriptor
-street-length : (name d : List ℕ) → length (street name d) ≤ length name + length d + 1
+pub street-length : (name d : List ℕ) → length (street name d) ≤ length name + length d + 1
 street-length name [] = omega arith
 street-length name (x ∷ xs) = simp length-append (omega arith)
 
@@ -83,7 +83,7 @@ street-above : (n : ℕ) (name d : List ℕ) → length name + length d + 1 ≤ 
 street-above n [] d h = tt
 street-above n (x ∷ xs) d h = (omega (arith, street-length (x ∷ xs) d), tt)
 
-number-length : (n : ℕ) → length (numberText n) ≤ 4
+pub number-length : (n : ℕ) → length (numberText n) ≤ 4
 unfolding numberText
 number-length n = by-tests (eqb n 0) (ltb n 10) (ltb n 100) (ltb n 1000)
   where
@@ -217,7 +217,7 @@ front-above m n (f ∷ fs) (l ∷ ls) g h =
     (simp length-append (omega (arith, h .0)), above-more m n ls (omega arith) (h .1))
 
 -- how many bytes all the texts of a label have
-abbrev allTexts : Elements → ℕ
+abbrev pub allTexts : Elements → ℕ
 allTexts e =
     length (e .organisation) + length (e .department) + length (e .box) + length (e .sub-building) + length (e .building)
     + length (e .dependent) + length (e .dependent-descriptor) + length (e .thoroughfare) + length (e .descriptor)
@@ -272,7 +272,7 @@ module _ (e : Elements) where
       ))
 
   -- of any elements: all their texts, the number, `PO BOX `, spaces and ends
-  at-most-texts : length (labelOf e) ≤ allTexts e + 26
+  pub at-most-texts : length (labelOf e) ≤ allTexts e + 26
   unfolding labelOf linesOf
   at-most-texts =
       simp (size-append, length-append)

@@ -17,7 +17,7 @@ ended-append (l ∷ ls) b =
     ap (λ (z : List ℕ). l ++ (10 ∷ z)) (ended-append ls b) ∙ sym (append-assoc l (10 ∷ ended ls) (ended b))
 
 -- a thoroughfare is its name and what stands beside it
-street-tail : (n d : List ℕ) → n ++ tailText d ≡ street n d
+pub street-tail : (n d : List ℕ) → n ++ tailText d ≡ street n d
 street-tail n [] = append-nil n
 street-tail n (x ∷ xs) = refl
 

@@ -22,14 +22,14 @@ pub fn text_len<'a>(a: &'a [u8], b: &'a [u8], s: Span) -> usize
 }
 
 // A space and the text, where there is one.
-fn tail_len<'a>(a: &'a [u8], b: &'a [u8], s: Span) -> usize
+pub fn tail_len<'a>(a: &'a [u8], b: &'a [u8], s: Span) -> usize
     ensures { λ r. ⌜ (r ≡ length (tailIn (now (a .entry)) (now (b .entry)) s)) × (r ≤ 256) ⌝ }
 {
     let n = text_len(a, b, s);
     if n == 0 { 0 } else { n + 1 }
 }
 
-fn number_len(n: u16) -> usize
+pub fn number_len(n: u16) -> usize
     ensures { λ r. ⌜ (r ≡ length (numberText n)) × (r ≤ 4) ⌝ }
 {
     if n == 0 {

@@ -86,7 +86,7 @@ fn tens_at(n: u16, at: usize, out: &mut [u8]) -> usize
 }
 
 // The number without leading zeros; nothing for 0.
-fn number_at(n: u16, at: usize, out: &mut [u8]) -> usize
+pub fn number_at(n: u16, at: usize, out: &mut [u8]) -> usize
     requires { ⌜ at + length (numberText n) ≤ length (now out) ⌝ }
     ensures { λ r. ⌜ Put (numberText n) (now (out .entry)) at r (now (out .exit)) ⌝ }
 {

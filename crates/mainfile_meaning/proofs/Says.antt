@@ -133,6 +133,7 @@ module _ (addresses organisations : List ℕ) (i : ℕ) (high : i < length addre
         organisation-key = refl;
         postcode-type = refl;
         concatenation = refl;
+        indicator = refl;
         outward = own-part 0 4 (at + 0) (at + 0 + 4) (omega arith) refl (omega arith);
         inward = own-part 4 7 (at + 0 + 4) (at + 0 + 7) (omega arith) (omega arith) (omega arith);
         suffix = own-part 79 81 (at + 79) (at + 79 + 2) (omega arith) refl (omega arith);

@@ -8,7 +8,7 @@ use native.Mathlib.Omega.{arith}
 use native.Mathlib.Numerals.{add-one}
 use borrow.Author.Tests.{eq-eqb, ne-eqb, eqb-true, eqb-false, ltb-true, ltb-false, lt-ltb, le-ltb}
 use lib.Dec.{eqb, ltb}
-use lib.ListN.{length, take, drop, length-append}
+use lib.ListN.{length, take, drop}
 use Rattle.file_record.specs.Parts.{recordAt}
 use Rattle.refusal.specs.declared.Reason.the-variants.{NoSuchNumber}
 use Rattle.refusal.specs.declared.Answer.{Answer}
@@ -20,8 +20,6 @@ use Rattle.source.specs.Resolve.{Resolved, elements, refused}
 use Rattle.label.specs.Label.{labelOf}
 use Rattle.label.proofs.Room.{room-within}
 use Rattle.item.specs.Item.{resolvedText}
-use Rattle.item.proofs.Decimals.{decimal-short}
-use Rattle.item.proofs.Lines.{Word}
 use Rattle.item_write.specs.Headed.{before, headed, Small}
 use Rattle.item_write.proofs.Headed.{Telling, Bounded, item-over, none-over, item-small, none-small, telling}
 use Rattle.mainfile.specs.Set.{Set}
@@ -32,11 +30,6 @@ use Rattle.mainfile_label.specs.Places.{placeAmong, resolvedAt, placeLabel, Add
 use Rattle.mainfile_label.proofs.Laws.{no-place, some-place}
 use Rattle.mainfile_label.proofs.Fits.{Short, resolved-short}
 use Rattle.mainfile_runs.specs.Shown.{shownOf, shownAt, placeBehind}
-
--- ---- the line of a view
-
-pub line-short : (view : ℕ) → Word view → length (numberLine view) ≤ 80
-line-short view h = simp length-append (omega (arith, decimal-short view h))
 
 -- ---- one record
 

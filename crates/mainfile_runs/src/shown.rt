@@ -1,9 +1,7 @@
 // What is shown of an address of accepted files: its label, or in a listing its item.
-use item_write::Line;
 use item_write::inner::headed_item;
 use item_write::inner::room_before;
-use label_pieces::inner::byte_at;
-use label_pieces::inner::bytes_at;
+use item_write::inner::worded_line;
 use mainfile_label::inner::label_at;
 use refusal::Answer;
 ghost use mathlib.Core.Path.{_≡_};
@@ -12,25 +10,9 @@ ghost use Prim.Native.Nat.{_≤_};
 ghost use lib.ListN.{length};
 ghost use Rattle.refusal.specs.Outcome.{said};
 ghost use Rattle.run.specs.Series.{askedBehind};
-ghost use Rattle.item_write.specs.Line.{Holds};
 ghost use Rattle.mainfile.specs.Set.{setOf};
-ghost use Rattle.mainfile.specs.Main.{numberLine};
 ghost use Rattle.mainfile_label.specs.Places.{AddressPlace};
 ghost use Rattle.mainfile_runs.specs.Shown.{shownAt};
-
-// `view`, number.
-fn view_number(view: usize) -> Line
-    ensures { λ r. ⌜ Holds r (numberLine view) ⌝ }
-{
-    let number = item_write::number_line(view);
-    let digits = number.bytes;
-    let n = number.len;
-    let mut bytes = [0u8; 80];
-    let i = bytes_at(b"view", 0, &mut bytes);
-    let j = bytes_at(&digits[..n], i, &mut bytes);
-    let len = byte_at(b'\n', j, &mut bytes);
-    Line { bytes, len }
-}
 
 // The item of an address record: its line, then its label or the line of its refusal.
 fn item_at(
@@ -50,7 +32,7 @@ fn item_at(
         (now (thoroughfares .entry)) (now (descriptors .entry)) (now (buildings .entry)) (now (subs .entry))
         (now (organisations .entry)) (now (addresses .entry))) place (now (out .entry)) ⌝ }
 {
-    let line = view_number(place);
+    let line = worded_line(b"view", place);
     let bytes = line.bytes;
     let n = line.len;
     let heading = &bytes[..n];

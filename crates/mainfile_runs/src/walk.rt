@@ -13,7 +13,7 @@ ghost use Rattle.mainfile_label.specs.Places.{Between};
 ghost use Rattle.mainfile_runs.specs.Shown.{shownAmong, placeBehind};
 
 // The record behind one of them, 0 where there is none.
-fn place_behind(s: Stretch, place: usize) -> usize
+pub fn place_behind(s: Stretch, place: usize) -> usize
     requires { ⌜ (s .first + s .many ≤ 1_000_000) × (place ≤ 1_000_000) ⌝ }
     ensures { λ r. ⌜ r ≡ placeBehind (s .first) (s .many) place ⌝ }
 {

@@ -52,6 +52,7 @@ deliveryOf rec at row =
       «organisation_key» = value (part rec At.organisationKey At.postcodeType);
       «postcode_type» = getD rec At.postcodeType 0;
       concatenation = eqb (getD rec At.concatenation 0) 89;
+      indicator = eqb (getD rec At.indicator 0) 89;
       postcode = at + At.outward;
       suffix = at + At.suffix;
       «po_box» = at + At.box;

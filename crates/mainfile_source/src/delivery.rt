@@ -103,6 +103,7 @@ pub fn delivery_at(addresses: &[u8], organisations: &[u8], i: usize) -> Delivery
         organisation_key: key_in(rec, Address::ORGANISATION_KEY, Address::POSTCODE_TYPE),
         postcode_type: file_record::byte_of(rec, Address::POSTCODE_TYPE),
         concatenation: file_record::byte_of(rec, Address::CONCATENATION) == b'Y',
+        indicator: file_record::byte_of(rec, Address::INDICATOR) == b'Y',
         postcode: at + Address::OUTWARD,
         suffix: at + Address::SUFFIX,
         po_box: at + Address::PO_BOX,

@@ -2,9 +2,10 @@
 -- Assumes nothing.
 use Prim.Native.Nat.{ℕ}
 use Rattle.refusal.specs.declared.Reason.{Reason}
-use Rattle.refusal.specs.declared.Reason.the-variants.{Length, Header, Trailer, Malformed, NotAbove, Follower, NoSuchNumber, Combination, MissingKey, Room, BadPack, BadCode, NoSuffix, BadDigit}
+use Rattle.refusal.specs.declared.Reason.the-variants.{Length, Header, Trailer, Malformed, NotAbove, Follower, NoSuchNumber, Combination, MissingKey, Room, BadPack, BadCode, NoSuffix, BadRow, Uncarried, BadDigit}
 
--- column "no."; "13, no suffix in this edition" (document 02, No. 6); "27, inward digit above 9" (No. 7)
+-- column "no."; "13, no suffix in this edition" (document 02, No. 6); "14 row malformed, with row and field; 15 field longer
+-- than the guide allows, or with a comma or quote its quoting can't carry" (No. 8); "27, inward digit above 9" (No. 7)
 abbrev pub number : Reason → ℕ
 number Length = 1
 number Header = 2
@@ -19,6 +20,8 @@ number (Room needed) = 10
 number (BadPack step) = 11
 number BadCode = 12
 number NoSuffix = 13
+number (BadRow row field) = 14
+number Uncarried = 15
 number BadDigit = 27
 
 -- column "detail"; "No detail named means 0"
@@ -36,6 +39,8 @@ detail (Room needed) = needed
 detail (BadPack step) = step
 detail BadCode = 0
 detail NoSuffix = 0
+detail (BadRow row field) = row
+detail Uncarried = 0
 detail BadDigit = 0
 
 -- "refusal 4 then carries record and byte of the record" (document 02, No. 1); "Building: .. the label's 8 or 9 of the first
@@ -54,6 +59,8 @@ second (Room needed) = 0
 second (BadPack step) = 0
 second BadCode = 0
 second NoSuffix = 0
+second (BadRow row field) = field
+second Uncarried = 0
 second BadDigit = 0
 
 -- refusal 4 of a record, with the byte of its first fault
@@ -75,4 +82,6 @@ withView view (Room needed) = Room needed
 withView view (BadPack step) = BadPack step
 withView view BadCode = BadCode
 withView view NoSuffix = NoSuffix
+withView view (BadRow row field) = BadRow row field
+withView view Uncarried = Uncarried
 withView view BadDigit = BadDigit

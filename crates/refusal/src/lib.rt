@@ -4,7 +4,7 @@ ghost use mathlib.Core.Path.{_≡_};
 ghost use Rattle.refusal.specs.Refusal.{number, detail, second, malformedAt, withView};
 ghost use Rattle.refusal.specs.Packed.{word, packed};
 
-// Why a call refuses, a case for each number of the documents, with its details. Records, views, rules, fields
+// Why a call refuses, a case for each number of the documents, with its details. Records, rows, views, rules, fields
 // and steps are counted from 1, and so are the bytes of a record. `view` is the view at which building stopped, and 0 where a single label was asked.
 pub enum Reason {
     Length,
@@ -20,6 +20,8 @@ pub enum Reason {
     BadPack { step: usize },
     BadCode,
     NoSuffix,
+    BadRow { row: usize, field: usize },
+    Uncarried,
     BadDigit,
 }
 
@@ -54,6 +56,8 @@ pub fn number_of(reason: Reason) -> usize
         Reason::BadPack { step: _ } => 11,
         Reason::BadCode => 12,
         Reason::NoSuffix => 13,
+        Reason::BadRow { row: _, field: _ } => 14,
+        Reason::Uncarried => 15,
         Reason::BadDigit => 27,
     }
 }
@@ -76,11 +80,14 @@ pub fn detail_of(reason: Reason) -> usize
         Reason::BadPack { step } => step,
         Reason::BadCode => 0,
         Reason::NoSuffix => 0,
+        Reason::BadRow { row, field: _ } => row,
+        Reason::Uncarried => 0,
         Reason::BadDigit => 0,
     }
 }
 
-// The second detail: the byte where 4 names a record, the view number where building gives 8 or 9.
+// The second detail: the byte where 4 names a record, the view number where building gives 8 or 9, the field where 14
+// names a row.
 pub fn second_of(reason: Reason) -> usize
     ensures { λ r. ⌜ r ≡ second reason ⌝ }
 {
@@ -98,6 +105,8 @@ pub fn second_of(reason: Reason) -> usize
         Reason::BadPack { step: _ } => 0,
         Reason::BadCode => 0,
         Reason::NoSuffix => 0,
+        Reason::BadRow { row: _, field } => field,
+        Reason::Uncarried => 0,
         Reason::BadDigit => 0,
     }
 }
@@ -153,6 +162,8 @@ pub fn with_view(reason: Reason, view: usize) -> Reason
         Reason::BadPack { step } => Reason::BadPack { step },
         Reason::BadCode => Reason::BadCode,
         Reason::NoSuffix => Reason::NoSuffix,
+        Reason::BadRow { row, field } => Reason::BadRow { row, field },
+        Reason::Uncarried => Reason::Uncarried,
         Reason::BadDigit => Reason::BadDigit,
     }
 }

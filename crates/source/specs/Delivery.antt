@@ -39,6 +39,7 @@ pub record Says (own others : List ℕ) (p : DeliveryPoint) (a : Address) : Type
   pub organisation-key : p .«organisation_key» ≡ a .organisation-key
   pub postcode-type : p .«postcode_type» ≡ a .postcode-type
   pub concatenation : p .concatenation ≡ a .concatenation
+  pub indicator : p .indicator ≡ a .indicator
   pub outward : part own (p .postcode) (p .postcode + 4) ≡ a .outward
   pub inward : part own (p .postcode + 4) (p .postcode + 7) ≡ a .inward
   pub suffix : part own (p .suffix) (p .suffix + 2) ≡ a .suffix

@@ -11,6 +11,8 @@ pub struct DeliveryPoint {
     pub organisation_key: u32,
     pub postcode_type: u8,
     pub concatenation: bool,
+    // the small user organisation indicator
+    pub indicator: bool,
     // outward 4, then inward 3
     pub postcode: usize,
     pub suffix: usize,

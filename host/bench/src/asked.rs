@@ -1,7 +1,7 @@
 //! Every exported call, of the library and of the plain version.
 
 use crate::input::{Input, CODE, LABEL, ROUND};
-use crate::plain;
+use crate::{bare_pass, bare_walk, plain, MOST_RATIO, MOST_ROWS};
 use ttw::calls;
 
 /// A call on an input; `room` is a buffer that holds the input's pack, and so
@@ -14,15 +14,18 @@ pub struct Call {
     pub name: &'static str,
     pub library: Question,
     pub plain: Question,
+    /// How many times the plain version it may take.
+    pub most: f64,
     /// What the call looks at, where it is one pass over a file.
     pub pass: Option<Pass>,
 }
 
-/// One pass over a file: its bytes, and how many bare passes over them it may
-/// take.
+/// One pass over a file: its bytes, a bare pass over them, and how many of these it
+/// may take.
 #[derive(Clone, Copy)]
 pub struct Pass {
     pub file: fn(&Input) -> &[u8],
+    pub bare: fn(&[u8]) -> u64,
     pub most: f64,
 }
 
@@ -31,6 +34,7 @@ const fn call(name: &'static str, library: Question, plain: Question) -> Call {
         name,
         library,
         plain,
+        most: MOST_RATIO,
         pass: None,
     }
 }
@@ -49,11 +53,14 @@ macro_rules! both {
 /// Every call that the header declares, in its order: letter and label of the last
 /// view, the label of the code's first live view, the pack of the code, label and
 /// suffix of its last point, its last sector; runs and listings of the last views,
-/// of the code's first, and of the last points.
-pub const CALLS: [Call; 19] = [
+/// of the code's first, and of the last points; row and rows of the last views, and
+/// of the file of all rows how many there are, the label of the last, labels and
+/// listing of the last ones.
+pub const CALLS: [Call; 25] = [
     Call {
         pass: Some(Pass {
             file: Input::table,
+            bare: bare_pass,
             most: 3.0,
         }),
         ..both!(|i, _, _| table(i.table()))
@@ -61,6 +68,7 @@ pub const CALLS: [Call; 19] = [
     Call {
         pass: Some(Pass {
             file: Input::points,
+            bare: bare_pass,
             most: 4.0,
         }),
         ..both!(|i, _, _| points(i.points()))
@@ -82,4 +90,35 @@ pub const CALLS: [Call; 19] = [
     both!(|i, _, _| sector(&i.pack, 9)),
     both!(|i, room, bytes| pack_labels(&i.pack, i.first_point(), ROUND, room, bytes)),
     both!(|i, room, bytes| pack_list(&i.pack, i.first_point(), ROUND, room, bytes)),
+    Call {
+        most: MOST_ROWS,
+        ..both!(|i, room, _| csv_row(
+            &i.carried.table,
+            &i.carried.points,
+            i.last_view,
+            &mut room[..LABEL]
+        ))
+    },
+    Call {
+        most: MOST_ROWS,
+        ..both!(|i, room, bytes| csv_rows(
+            &i.carried.table,
+            &i.carried.points,
+            i.first_view(),
+            ROUND,
+            room,
+            bytes
+        ))
+    },
+    Call {
+        pass: Some(Pass {
+            file: Input::csv,
+            bare: bare_walk,
+            most: 4.0,
+        }),
+        ..both!(|i, _, _| csv(i.csv()))
+    },
+    both!(|i, room, _| csv_label(i.csv(), i.last_view, &mut room[..LABEL])),
+    both!(|i, room, bytes| csv_labels(i.csv(), i.first_view(), ROUND, room, bytes)),
+    both!(|i, room, bytes| csv_list(i.csv(), i.first_view(), ROUND, room, bytes)),
 ];

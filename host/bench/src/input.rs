@@ -12,10 +12,13 @@ pub const LABEL: usize = 499;
 /// How many labels a run asks for: those of a practice round.
 pub const ROUND: u64 = 40;
 
-/// A pair of files, and the pack of its commonest code.
+/// A pair of files, and the pack of its commonest code; the same pair with texts
+/// that rows can carry, and its rows.
 pub struct Input {
     pub pair: Pair,
     pub pack: Vec<u8>,
+    pub carried: Pair,
+    pub csv: Vec<u8>,
     /// The last view, and the last point of the pack.
     pub last_view: u64,
     pub last_point: u64,
@@ -27,9 +30,12 @@ impl Input {
         let pair = exact_pair(&mut Rng::new(8), records, records);
         let pack = ask::build(&pair.table, &pair.points, CODE, 0).expect("a pack");
         let last_point = ask::pack(&pack).expect("it opens");
+        let carried = pair.clone().carried();
         Input {
             last_view: pair.views.len() as u64,
             last_point,
+            csv: rows_of(&carried),
+            carried,
             pair,
             pack,
         }
@@ -43,7 +49,12 @@ impl Input {
         &self.pair.points
     }
 
-    /// Where the last round begins, of the views and of the points.
+    pub fn csv(&self) -> &[u8] {
+        &self.csv
+    }
+
+    /// Where the last round begins, of the views and of the points; a file of rows
+    /// has one for each view.
     pub fn first_view(&self) -> u64 {
         self.last_view - ROUND + 1
     }
@@ -51,6 +62,15 @@ impl Input {
     pub fn first_point(&self) -> u64 {
         self.last_point - ROUND + 1
     }
+}
+
+/// The rows of all views.
+fn rows_of(pair: &Pair) -> Vec<u8> {
+    let mut rows = vec![0; LABEL * pair.views.len()];
+    let run = ask::csv_rows(&pair.table, &pair.points, 1, u64::MAX, &mut rows).expect("files");
+    assert_eq!(run.labels, pair.views.len() as u64, "every view has a row");
+    rows.truncate(run.bytes);
+    rows
 }
 
 /// A pack of that many localities and points, all of whose offsets point at the

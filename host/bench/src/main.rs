@@ -9,6 +9,7 @@ mod command;
 mod input;
 mod plain;
 mod plain_build;
+mod plain_csv;
 mod plain_fields;
 mod plain_files;
 mod plain_label;
@@ -18,7 +19,7 @@ mod same;
 mod sets;
 mod sqlite;
 
-use asked::{Call, Question};
+use asked::{Call, Pass, Question};
 use input::{far_pack, pair_of_codes, pair_of_one_key, Input};
 use paper::make::Pair;
 use same::same;
@@ -32,10 +33,11 @@ const SIZES: [usize; 3] = [1_000, 5_000, 20_000];
 /// How often a call is timed.
 const RUNS: usize = 41;
 
-/// The bars at 20,000 records: how many times the plain version a call may
-/// take, how many times its own time at 5,000, and how many times the file's check
-/// its codes may take.
+/// The bars at 20,000 records: how many times the plain version a call may take,
+/// and how many one that writes rows of CSV PAF, how many times its own time at
+/// 5,000, and how many times the file's check its codes may take.
 const MOST_RATIO: f64 = 1.0;
+const MOST_ROWS: f64 = 1.1;
 const MOST_GROWTH: f64 = 5.0;
 const MOST_CODES: f64 = 10.0;
 
@@ -56,6 +58,19 @@ fn bare_pass(bytes: &[u8]) -> u64 {
         .iter()
         .fold(0, |sum: u8, byte| sum.wrapping_add(*byte));
     u64::from(sum)
+}
+
+/// One bare walk over rows: the longest field, as it is found byte by byte. A sum
+/// takes many bytes at once, but where fields end has to be found out.
+fn bare_walk(csv: &[u8]) -> u64 {
+    let (mut longest, mut start) = (0, 0);
+    for (at, byte) in csv.iter().enumerate() {
+        if matches!(byte, b',' | b'\n') {
+            longest = longest.max(at - start);
+            start = at + 1;
+        }
+    }
+    longest as u64
 }
 
 /// How many seconds something takes.
@@ -96,8 +111,8 @@ fn times(call: &Call, input: &Input) -> Times {
             &mut || ask(call.library, &mut room, &mut 0),
             &mut || ask(call.plain, &mut other, &mut 0),
             &mut || {
-                let file = call.pass.map_or(&[][..], |pass| (pass.file)(input));
-                bare_pass(black_box(file))
+                let bare = |pass: Pass| (pass.bare)(black_box((pass.file)(input)));
+                call.pass.map_or(0, bare)
             },
         ],
     );
@@ -128,7 +143,7 @@ fn print_call(call: &Call, inputs: &[Input]) {
     }
     println!(
         " {:>6} {:>6} {:>6}",
-        barred(last.library / last.plain, MOST_RATIO),
+        barred(last.library / last.plain, call.most),
         barred(growth, MOST_GROWTH),
         passes.unwrap_or_default()
     );
@@ -193,7 +208,7 @@ fn print_whole_pair(what: &str, pair: &Pair) {
     }
 }
 
-/// The same over the points of a pack.
+/// The same over the points of a pack, or over the rows of a CSV file.
 type PackRun = fn(&[u8], u64, u64, &mut [u8], &mut u64) -> u64;
 
 fn print_whole_pack(
@@ -216,6 +231,33 @@ fn print_whole_pack(
             ask(library),
             ask(plain),
         );
+    }
+}
+
+/// All rows of a pair, and all labels of the file that they are.
+fn print_whole_csv(Input { carried, csv, .. }: &Input) {
+    let count = carried.views.len() as u64;
+    let rows = |run: PairRun| {
+        move |count, room: &mut [u8], bytes: &mut u64| {
+            run(&carried.table, &carried.points, 1, count, room, bytes)
+        }
+    };
+    print_whole(
+        ("ttw_csv_rows, all views", RUNS, MOST_ROWS),
+        count,
+        rows(calls::csv_rows),
+        rows(plain::csv_rows),
+    );
+    let runs: [(&str, PackRun, PackRun); 2] = [
+        ("ttw_csv_labels", calls::csv_labels, plain::csv_labels),
+        ("ttw_csv_list", calls::csv_list, plain::csv_list),
+    ];
+    for (name, library, plain) in runs {
+        let ask = |run: PackRun| {
+            move |count, room: &mut [u8], bytes: &mut u64| run(csv, 1, count, room, bytes)
+        };
+        let what = format!("{name}, all rows");
+        print_whole((&what, RUNS, MOST_RATIO), count, ask(library), ask(plain));
     }
 }
 
@@ -310,14 +352,15 @@ fn main() {
         print_call(&call, &inputs);
     }
     println!(
-        "\nAt the largest size. ratio: library / plain, bar {MOST_RATIO:.1}. growth: from 5,000 to 20,000 \
+        "\nAt the largest size. ratio: library / plain, bar {MOST_RATIO:.1}, for rows {MOST_ROWS:.1}. growth: from 5,000 to 20,000 \
          records, bar {MOST_GROWTH:.1}.\npasses: library / one sum of the file's bytes, bar 3.0 for a table file \
-         and 4.0 for a point file. A figure over its bar is marked !.\n\nmicroseconds, at 20,000 records of each file:"
+         and 4.0 for a point file; of a CSV file one walk that finds its fields, bar 4.0. A figure over its bar is marked !.\n\nmicroseconds, at 20,000 records of each file:"
     );
     let largest = &inputs[inputs.len() - 1];
     print_whole_pair("all views", &largest.pair);
     print_whole_pair("one key that comes 19,997 times", &pair_of_one_key());
     print_whole_pack(largest);
+    print_whole_csv(largest);
     print_hard_packs();
     print_many_codes();
     command::print_labels(&largest.pair);

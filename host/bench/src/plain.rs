@@ -1,6 +1,7 @@
 //! The library's calls by the plain version, of the same names, arguments and answers as in `ttw::calls`: on files those
-//! of `plain_files`, on packs those of `plain_pack`.
+//! of `plain_files`, on packs those of `plain_pack`, on CSV files those of `plain_csv`.
 
+use crate::plain_csv::Csv;
 use crate::plain_files::{self, Files};
 use crate::plain_pack::Pack;
 use paper::{packed, packed_run, Refusal};
@@ -62,6 +63,18 @@ pub fn sector(pack: &[u8], digit: u64) -> u64 {
     answer(Pack::accept(pack).and_then(|pack| pack.sector(digit)))
 }
 
+pub fn csv_row(table: &[u8], points: &[u8], view: u64, out: &mut [u8]) -> u64 {
+    answer(Files::accept(table, points).and_then(|files| files.row(view, out)))
+}
+
+pub fn csv(csv: &[u8]) -> u64 {
+    answer(Csv::accept(csv, 1).map(|csv| csv.rows))
+}
+
+pub fn csv_label(csv: &[u8], row: u64, out: &mut [u8]) -> u64 {
+    answer(Csv::accept(csv, row).and_then(|csv| csv.label(out)))
+}
+
 /// Runs and listings: what they read, and how they are asked for.
 macro_rules! runs {
     ($($name:ident($($read:ident),*) = |$first:ident, $count:ident, $out:ident| $run:expr;)*) => {
@@ -97,5 +110,14 @@ runs! {
     };
     pack_list(pack) = |first, count, out| {
         Pack::accept(pack).map(|pack| pack.list(first, count, out))
+    };
+    csv_rows(table, points) = |first, count, out| {
+        Files::accept(table, points).and_then(|files| files.rows(first, count, out))
+    };
+    csv_labels(csv) = |first, count, out| {
+        Csv::accept(csv, first).map(|csv| csv.labels(count, out))
+    };
+    csv_list(csv) = |first, count, out| {
+        Csv::accept(csv, first).map(|csv| csv.list(count, out))
     };
 }

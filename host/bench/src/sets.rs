@@ -48,7 +48,7 @@ macro_rules! both {
 }
 
 /// The first is the check of all files.
-const CALLS: [Call; 10] = [
+const CALLS: [Call; 12] = [
     both!("ttw_main", |set, _, _| views(set)),
     both!("ttw_main_live", |set, _, _| live(set[6], CODE)),
     both!("ttw_main_codes", |set, room, _| codes(set[6], room)),
@@ -84,6 +84,18 @@ const CALLS: [Call; 10] = [
         set, CODE, 1, ROUND, room, bytes
     )),
     both!("ttw_main_build", |set, room, _| build(set, CODE, room)),
+    both!("ttw_main_csv_row", |set, room, _| csv_row(
+        set,
+        last(set),
+        &mut room[..LABEL]
+    )),
+    both!("ttw_main_csv_rows", |set, room, bytes| csv_rows(
+        set,
+        last(set) - ROUND + 1,
+        ROUND,
+        room,
+        bytes
+    )),
 ];
 
 /// The number of the last view.
@@ -159,7 +171,7 @@ fn print_beyond(set: Set) {
     );
 }
 
-/// The labels of a code, and of many views, as one run.
+/// The labels of a code, and labels and rows of many views, as one run.
 fn print_runs(set: Set) {
     let code = main_calls::live(set[6], CODE);
     print_whole(
@@ -173,6 +185,12 @@ fn print_runs(set: Set) {
         VIEWS,
         |count, room, bytes| main_calls::labels(set, 1, count, room, bytes),
         |count, room, bytes| plain_main::labels(set, 1, count, room, bytes),
+    );
+    print_whole(
+        ("ttw_main_csv_rows", RUNS, MOST_RATIO),
+        VIEWS,
+        |count, room, bytes| main_calls::csv_rows(set, 1, count, room, bytes),
+        |count, room, bytes| plain_main::csv_rows(set, 1, count, room, bytes),
     );
 }
 

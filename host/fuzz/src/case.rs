@@ -1,5 +1,6 @@
 //! One case: inputs from a seed and a number, and every call on them.
 
+use crate::csv::{self, CsvFile};
 use crate::edge::{Edge, Flush};
 use crate::files::{number_of, Files};
 use crate::reached::Reached;
@@ -13,6 +14,7 @@ use ttw::{calls, main_calls};
 pub struct Case {
     pub files: Files,
     pub set: SetFiles,
+    pub csv: CsvFile,
     /// A pack that may be mutated, and one at a limit.
     pub packs: [Vec<u8>; 2],
     /// The number of a point.
@@ -38,6 +40,7 @@ pub fn make(seed: u64, number: u64) -> Case {
     Case {
         files,
         set: sets::of_case(&mut rng, number),
+        csv: csv::of_case(&mut rng, number),
         packs,
         point,
         digit: number_of(&mut rng, 9),
@@ -67,11 +70,13 @@ pub fn run(case: &Case, reached: &mut Reached) {
         lent.ask_labels(case, reached);
         lent.ask_runs(case, reached);
         lent.ask_lists(case, reached);
+        lent.ask_rows(case, reached);
         lent.ask_build(case, reached);
         LentSet::new(case, flush).ask(case, reached);
         for pack in &case.packs {
             ask_pack(case, pack, flush, reached);
         }
+        ask_csv(case, flush, reached);
     }
 }
 
@@ -212,6 +217,28 @@ impl Lent {
         );
     }
 
+    /// The calls that write rows.
+    fn ask_rows(&self, case: &Case, reached: &mut Reached) {
+        let (table, points) = (self.table.bytes(), self.points.bytes());
+        let (view, count) = (case.files.view, case.count);
+        written(
+            "csv row",
+            self.flush,
+            case.room,
+            &|out| calls::csv_row(table, points, view, out),
+            &|out| paper::csv::row(&case.files.table, &case.files.points, view, out),
+            reached,
+        );
+        run_written(
+            "csv rows",
+            self.flush,
+            case.run_room,
+            &|out, bytes| calls::csv_rows(table, points, view, count, out, bytes),
+            &|out| paper::csv::rows(&case.files.table, &case.files.points, view, count, out),
+            reached,
+        );
+    }
+
     /// Building, with some room, with just enough, and with a byte less.
     fn ask_build(&self, case: &Case, reached: &mut Reached) {
         let (table, points) = (self.table.bytes(), self.points.bytes());
@@ -270,7 +297,7 @@ impl LentSet {
         same("main live", main_calls::live(set[6], code), plain, reached);
     }
 
-    /// The calls that write codes or a label.
+    /// The calls that write codes, a label or a row.
     fn ask_written(&self, case: &Case, reached: &mut Reached) {
         let (set, code) = (self.set(), self.code.bytes());
         let (plain_set, plain_code) = (case.set.set(), case.set.code.as_slice());
@@ -293,9 +320,14 @@ impl LentSet {
             &|out| main_calls::code_label(set, code, k, out),
             &|out| mainfile::code_label(plain_set, plain_code, k, out),
         );
+        written(
+            "main csv row",
+            &|out| main_calls::csv_row(set, view, out),
+            &|out| paper::csv::main_row(plain_set, view, out),
+        );
     }
 
-    /// The calls that print a run of labels, or list views.
+    /// The calls that print a run of labels or rows, or list views.
     fn ask_runs(&self, case: &Case, reached: &mut Reached) {
         let (set, code) = (self.set(), self.code.bytes());
         let (plain_set, plain_code) = (case.set.set(), case.set.code.as_slice());
@@ -322,6 +354,11 @@ impl LentSet {
             "main code list",
             &|out, bytes| main_calls::code_list(set, code, k, count, out, bytes),
             &|out| mainfile::code_list(plain_set, plain_code, k, count, out),
+        );
+        run(
+            "main csv rows",
+            &|out, bytes| main_calls::csv_rows(set, view, count, out, bytes),
+            &|out| paper::csv::main_rows(plain_set, view, count, out),
         );
     }
 
@@ -372,6 +409,39 @@ fn ask_pack(case: &Case, pack: &[u8], flush: Flush, reached: &mut Reached) {
         case.run_room,
         &|out, bytes| calls::pack_list(ours, k, count, out, bytes),
         &|out| paper::pack_list(pack, k, count, out),
+        reached,
+    );
+}
+
+/// The calls on a CSV file.
+fn ask_csv(case: &Case, flush: Flush, reached: &mut Reached) {
+    let csv = case.csv.bytes.as_slice();
+    let lent = Edge::readable(csv, flush);
+    let (ours, row, count) = (lent.bytes(), case.csv.row, case.count);
+    let rows = paper::csv::check(csv).map(|rows| rows as u64);
+    same("csv", calls::csv(ours), rows, reached);
+    written(
+        "csv label",
+        flush,
+        case.room,
+        &|out| calls::csv_label(ours, row, out),
+        &|out| paper::csv::label(csv, row, out),
+        reached,
+    );
+    run_written(
+        "csv labels",
+        flush,
+        case.run_room,
+        &|out, bytes| calls::csv_labels(ours, row, count, out, bytes),
+        &|out| paper::csv::labels(csv, row, count, out),
+        reached,
+    );
+    run_written(
+        "csv list",
+        flush,
+        case.run_room,
+        &|out, bytes| calls::csv_list(ours, row, count, out, bytes),
+        &|out| paper::csv::list(csv, row, count, out),
         reached,
     );
 }

@@ -1,5 +1,5 @@
-//! Mutations of accepted files and packs: by structure, so that a whole record,
-//! row or point moves, and by bytes.
+//! Mutations of accepted files, packs and CSV files: by structure, so that a whole
+//! record, row, point or field moves, and by bytes.
 
 use paper::make::{scratch, Edition, Rng, BUILT, EDITIONS};
 
@@ -106,6 +106,49 @@ pub fn pack(rng: &mut Rng, bytes: &mut Vec<u8>) {
     if rng.one_in(2) {
         retrailer(bytes);
     }
+}
+
+/// Mutates a CSV file, or leaves it as it is.
+pub fn csv(rng: &mut Rng, bytes: &mut Vec<u8>) {
+    for _ in 0..rng.below(3) {
+        match rng.below(7) {
+            0 => marks(rng, bytes),
+            1 => fields(rng, bytes),
+            2 => cut(rng, bytes),
+            3 => insert(rng, bytes),
+            4 => digits(rng, bytes),
+            5 => unmark(rng, bytes),
+            _ => scratch(rng, bytes),
+        }
+    }
+}
+
+/// A byte that means something in a CSV file comes in, or two of them.
+fn marks(rng: &mut Rng, bytes: &mut Vec<u8>) {
+    let at = rng.below(bytes.len() + 1);
+    let marks: [&[u8]; 8] = [b",", b"\"", b"\r", b"\n", b"\r\n", b"\n\r", b" ", b"  "];
+    bytes.splice(at..at, rng.pick(&marks).iter().copied());
+}
+
+/// Such a byte goes.
+fn unmark(rng: &mut Rng, bytes: &mut Vec<u8>) {
+    let places: Vec<usize> = (0..bytes.len())
+        .filter(|at| b",\r\n".contains(&bytes[*at]))
+        .collect();
+    if !places.is_empty() {
+        bytes.remove(*rng.pick(&places));
+    }
+}
+
+/// Two fields change places.
+fn fields(rng: &mut Rng, bytes: &mut Vec<u8>) {
+    let mut fields: Vec<Vec<u8>> = bytes
+        .split(|byte| *byte == b',')
+        .map(<[u8]>::to_vec)
+        .collect();
+    let (one, two) = (rng.below(fields.len()), rng.below(fields.len()));
+    fields.swap(one, two);
+    *bytes = fields.join(&b',');
 }
 
 /// The edition that a pack says, or the one that is built where there is no such

@@ -16,8 +16,8 @@ pub struct Kind {
     pub number: u8,
     /// The file to blame.
     pub file: u8,
-    /// Rule, field or step; the byte of a malformed record. Of other refusals,
-    /// which name a record or a length, 0.
+    /// Rule, field or step; the byte of a malformed record, the field of a
+    /// malformed row. Of other refusals, which name a record or a length, 0.
     pub detail: u64,
 }
 
@@ -42,6 +42,7 @@ impl fmt::Display for Kind {
         }
         match number {
             4 if *detail > 0 => write!(out, ", byte {detail}"),
+            14 if *detail > 0 => write!(out, ", field {detail}"),
             8 => write!(out, ", rule {detail}"),
             9 => write!(out, ", field {detail}"),
             11 => write!(out, ", step {detail}"),
@@ -59,7 +60,7 @@ impl Reached {
     pub fn count(&mut self, call: &'static str, answer: u64) {
         let number = (answer >> 56) as u8;
         let detail = match number {
-            4 => answer >> 32 & 0xF_FFFF,
+            4 | 14 => answer >> 32 & 0xF_FFFF,
             8 | 9 | 11 => answer & 0xFFFF_FFFF,
             _ => 0,
         };
@@ -73,12 +74,15 @@ impl Reached {
         *self.0.entry(kind).or_default() += 1;
     }
 
-    /// The kinds in order, the malformed records of a call and a file as one,
-    /// each with how often it came and in how many details.
+    /// The kinds in order, the malformed records of a call and a file as one, and
+    /// so its malformed rows, each with how often it came and in how many details.
     fn told(&self) -> BTreeMap<Kind, (u64, usize)> {
         let mut told: BTreeMap<Kind, (u64, usize)> = BTreeMap::new();
         for (kind, times) in &self.0 {
-            let detail = if kind.number == 4 { 0 } else { kind.detail };
+            let detail = match kind.number {
+                4 | 14 => 0,
+                _ => kind.detail,
+            };
             let (sum, details) = told.entry(Kind { detail, ..*kind }).or_default();
             *sum += times;
             *details += 1;
@@ -99,6 +103,7 @@ impl fmt::Display for Reached {
         for (kind, (times, details)) in self.told() {
             match kind.number {
                 4 => writeln!(out, "{kind}, at {details} bytes: {times}")?,
+                14 => writeln!(out, "{kind}, at {details} fields: {times}")?,
                 _ => writeln!(out, "{kind}: {times}")?,
             }
         }
@@ -117,8 +122,9 @@ fn kind(call: &'static str, number: u8, file: u8, detail: u64) -> Kind {
 
 /// The refusals that each call gives besides a value: those of a table file (t),
 /// of a point file (p), of a view's rows (v), of a pack (k), of a Mainfile set (m),
-/// of its addresses alone (a), of an address's rows (w); and single ones.
-const CALLS: [(&str, &str, &[u8]); 29] = [
+/// of its addresses alone (a), of an address's rows (w), of a CSV file (c), of the
+/// label of its row (r); and single ones.
+const CALLS: [(&str, &str, &[u8]); 37] = [
     ("table", "t", &[]),
     ("points", "p", &[]),
     ("views", "p", &[]),
@@ -148,10 +154,22 @@ const CALLS: [(&str, &str, &[u8]); 29] = [
     ("main list", "m", &[7, 10]),
     ("main code list", "m", &[7, 10, 12]),
     ("main build", "mw", &[10, 12]),
+    ("csv row", "tpv", &[7, 10, 15]),
+    ("csv rows", "tpv", &[7, 10, 15]),
+    ("main csv row", "mw", &[7, 10, 15]),
+    ("main csv rows", "mw", &[7, 10, 15]),
+    ("csv", "c", &[]),
+    ("csv label", "cr", &[7, 10]),
+    ("csv labels", "cr", &[7, 10]),
+    ("csv list", "c", &[7, 10]),
 ];
 
+/// The last field at which a row is malformed: what stands behind the sixteen.
+const LAST_FIELD: u64 = 17;
+
 /// Every kind of answer that there is; of malformed records each byte for the
-/// checks of the files, and any for the other calls.
+/// checks of the files, and of malformed rows each field, and any for the other
+/// calls.
 pub fn wanted() -> Vec<Kind> {
     let at = |call, file| move |byte| kind(call, 4, file, byte);
     let table = malformed::bytes(1).into_iter().map(at("table", 1));
@@ -160,6 +178,7 @@ pub fn wanted() -> Vec<Kind> {
     for file in 1..=7 {
         wanted.extend(sets::bytes(file).into_iter().map(at("main", file)));
     }
+    wanted.extend((1..=LAST_FIELD).map(|field| kind("csv", 14, 0, field)));
     for (call, groups, single) in CALLS {
         let mut add = |number, file, details: std::ops::RangeInclusive<u64>| {
             wanted.extend(details.map(|detail| kind(call, number, file, detail)));
@@ -180,6 +199,10 @@ pub fn wanted() -> Vec<Kind> {
                 'w' => [(8, 3), (9, 8)]
                     .into_iter()
                     .for_each(|(number, last)| add(number, 0, 1..=last)),
+                'c' => [14, 15]
+                    .into_iter()
+                    .for_each(|number| add(number, 0, 0..=0)),
+                'r' => add(8, 0, 1..=2),
                 _ => add(11, 0, 1..=4),
             }
         }

@@ -31,8 +31,13 @@ fn two_thousand_cases_reach_every_kind_of_answer_and_repeat() {
     for line in [
         "\nbuild: refusal 9, field 5: ",
         "\ncode label: refusal 8, rule 2: ",
+        "\ncsv label: refusal 8, rule 2: ",
+        "\ncsv rows: refusal 15: ",
+        "\ncsv: refusal 14, at 17 fields: ",
+        "\ncsv: refusal 15: ",
         "\nlabels: refusal 6 of the points: ",
         "\nmain build: refusal 9, field 8: ",
+        "\nmain csv rows: refusal 15: ",
         "\nmain list: refusal 5 of the sub building: ",
         "\nmain: refusal 4 of the organisation, at ",
         "\npack: refusal 11, step 3: ",
@@ -49,6 +54,7 @@ fn two_thousand_cases_reach_every_kind_of_answer_and_repeat() {
     // At both edges, the two packs of a case each.
     assert_eq!(asked(&out, "table"), 2 * 2_000);
     assert_eq!(asked(&out, "pack"), 2 * 2 * 2_000);
+    assert_eq!(asked(&out, "csv"), 2 * 2_000);
     let again = fuzz(&["--cases", "2000", "--seed", "7"]);
     assert_eq!(again.stdout, run.stdout);
     let other = fuzz(&["--cases", "2000", "--seed", "8"]);

@@ -99,7 +99,10 @@ fn nothing_reached_is_everything_missing_and_all_of_it_nothing() {
         detail,
     } in wanted()
     {
-        let second = if number == 4 { detail.max(1) } else { 0 };
+        let second = match number {
+            4 | 14 => detail.max(1),
+            _ => 0,
+        };
         let answer = u64::from(number) << 56 | u64::from(file) << 52 | second << 32 | detail;
         reached.count(call, answer);
     }

@@ -3,6 +3,7 @@
 //! gets an entry here and a line in `driver.c`.
 
 use fuzz::case::Case;
+use paper::csv;
 use paper::mainfile::{self, Set};
 use paper::{packed, packed_run, Refusal, Run};
 
@@ -29,20 +30,21 @@ pub struct Lent {
 
 /// What the header says of the stack: a call on files takes less than this,
 const FILES: u64 = 2_048;
-/// labels and listings from files less than this,
+/// labels and listings from files less than this, and so rows from files and the
+/// calls on a CSV file,
 const LABELS: u64 = 4_096;
 /// opening a pack, labels, listings, a suffix or a sector from a pack less than
 /// this,
 const PACKS: u64 = 80 << 10;
 /// building a pack or listing codes less than this.
 const BUILDING: u64 = 192 << 10;
-/// Labels and listings from a Mainfile set take less than this,
+/// Labels, listings and rows from a Mainfile set take less than this,
 const LABELS_FROM_A_SET: u64 = 6_144;
 /// building a pack from a set less than this, any other call on a set what that
 /// call on a pair of files does.
 const BUILDING_FROM_A_SET: u64 = 1 << 20;
 
-pub const CALLS: [Call; 29] = [
+pub const CALLS: [Call; 37] = [
     Call {
         name: "ttw_table",
         stack: FILES,
@@ -246,6 +248,66 @@ pub const CALLS: [Call; 29] = [
         stack: BUILDING_FROM_A_SET,
         lend: |case| lent(&set_and_code(case), &[], &[case.room]),
         plain: |r, _, w| count(mainfile::build(set_of(r), &r[7], &mut w[0])),
+    },
+    Call {
+        name: "ttw_csv_row",
+        stack: LABELS,
+        lend: |case| lent(&pair(case), &[case.files.view], &[case.room]),
+        plain: |r, n, w| count(csv::row(&r[0], &r[1], n[0], &mut w[0])),
+    },
+    Call {
+        name: "ttw_csv_rows",
+        stack: LABELS,
+        lend: |case| lent_to_run(&pair(case), case.files.view, case),
+        plain: |r, n, w| {
+            let run = csv::rows(&r[0], &r[1], n[0], n[1], &mut w[0]);
+            told(run, &mut w[1])
+        },
+    },
+    Call {
+        name: "ttw_main_csv_row",
+        stack: LABELS_FROM_A_SET,
+        lend: |case| lent(&set(case), &[case.set.view], &[case.room]),
+        plain: |r, n, w| count(csv::main_row(set_of(r), n[0], &mut w[0])),
+    },
+    Call {
+        name: "ttw_main_csv_rows",
+        stack: LABELS_FROM_A_SET,
+        lend: |case| lent_to_run(&set(case), case.set.view, case),
+        plain: |r, n, w| {
+            let run = csv::main_rows(set_of(r), n[0], n[1], &mut w[0]);
+            told(run, &mut w[1])
+        },
+    },
+    Call {
+        name: "ttw_csv",
+        stack: LABELS,
+        lend: |case| lent(&[&case.csv.bytes], &[], &[]),
+        plain: |r, _, _| count(csv::check(&r[0])),
+    },
+    Call {
+        name: "ttw_csv_label",
+        stack: LABELS,
+        lend: |case| lent(&[&case.csv.bytes], &[case.csv.row], &[case.room]),
+        plain: |r, n, w| count(csv::label(&r[0], n[0], &mut w[0])),
+    },
+    Call {
+        name: "ttw_csv_labels",
+        stack: LABELS,
+        lend: |case| lent_to_run(&[&case.csv.bytes], case.csv.row, case),
+        plain: |r, n, w| {
+            let run = csv::labels(&r[0], n[0], n[1], &mut w[0]);
+            told(run, &mut w[1])
+        },
+    },
+    Call {
+        name: "ttw_csv_list",
+        stack: LABELS,
+        lend: |case| lent_to_run(&[&case.csv.bytes], case.csv.row, case),
+        plain: |r, n, w| {
+            let list = csv::list(&r[0], n[0], n[1], &mut w[0]);
+            told(list, &mut w[1])
+        },
     },
 ];
 

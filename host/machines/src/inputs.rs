@@ -1,6 +1,6 @@
 //! What the calls are made on: cases of the fuzzer, and cases in which a file or
 //! the pack is one of the makers' damaged ones, of the samples or of the kept
-//! packs.
+//! packs, or the CSV file one of the makers'.
 
 use crate::driver::root;
 use fuzz::case::{self, Case};
@@ -41,6 +41,8 @@ enum Put {
     MainFile(usize, Vec<u8>),
     /// A Mainfile set and the number of a view.
     Set([Vec<u8>; 7], u64),
+    /// A CSV file and the number of a row.
+    Csv(Vec<u8>, u64),
 }
 
 impl Put {
@@ -57,6 +59,7 @@ impl Put {
             Put::Set(files, view) => {
                 (case.set.files, case.set.view, case.set.nth) = (files, view, view)
             }
+            Put::Csv(file, row) => (case.csv.bytes, case.csv.row) = (file, row),
         }
         case
     }
@@ -91,6 +94,17 @@ fn puts() -> Vec<Put> {
     let samples = make::samples::main_set();
     let views = 1..=samples.addresses.len() as u64;
     puts.extend(views.map(|view| Put::Set(samples.files.clone(), view)));
+    puts.extend(csv_files(&mut rng));
+    puts
+}
+
+/// Damaged CSV files, one in eight of them, and each row of an accepted one.
+fn csv_files(rng: &mut Rng) -> Vec<Put> {
+    let damaged = make::damaged_csv(rng).into_iter().step_by(8);
+    let mut puts: Vec<Put> = damaged.map(|damaged| Put::Csv(damaged.csv, 1)).collect();
+    let rows = make::csv_rows(rng, 40);
+    let file = make::csv_file(&rows);
+    puts.extend((1..=rows.len() as u64).map(|row| Put::Csv(file.clone(), row)));
     puts
 }
 
@@ -169,11 +183,12 @@ fn packs_below(folder: &Path) -> Vec<Vec<u8>> {
     packs
 }
 
-/// The largest Changes files that are accepted, the pack of their commonest code,
-/// and a Mainfile set as long as these. Every call gives a value.
+/// The largest Changes files that are accepted, the pack of their commonest code, a
+/// Mainfile set and a CSV file as long as these. Every call gives a value.
 pub fn largest() -> Case {
-    let pair = make::exact_pair(&mut Rng::new(SEED), 20_000, 20_000);
+    let pair = make::exact_pair(&mut Rng::new(SEED), 20_000, 20_000).carried();
     let code = b"AB1 ".to_vec();
+    let rows = rows_of(&pair);
     let mut pack = vec![0; 1 << 20];
     let length = paper::build(&pair.table, &pair.points, &code, &mut pack).expect("a pack");
     pack.truncate(length);
@@ -181,7 +196,18 @@ pub fn largest() -> Case {
     (case.files.code, case.packs[0], case.point, case.digit) = (code, pack, 5, 9);
     case = Put::Set(make::long_set(20_000), 5).into_case(case);
     case.set.code = b"AB10".to_vec();
+    case = Put::Csv(rows, 5).into_case(case);
     case.room = length;
     (case.count, case.run_room) = (40, 40 * 499);
     case
+}
+
+/// The rows of all views of a pair.
+fn rows_of(pair: &make::Pair) -> Vec<u8> {
+    let mut rows = vec![0; 499 * pair.views.len()];
+    let run = paper::csv::rows(&pair.table, &pair.points, 1, u64::MAX, &mut rows);
+    let run = run.expect("files");
+    assert_eq!(run.labels, pair.views.len() as u64);
+    rows.truncate(run.bytes);
+    rows
 }

@@ -44,6 +44,8 @@ fn the_header_says_how_much_stack_a_call_may_take() {
         "building a pack or listing codes less than 192 KiB",
         "labels and listings from a set take less than 6,144 bytes",
         "building a pack from a set takes less than 1 MiB",
+        "Rows of CSV PAF take what labels from the same files do, and a call on a CSV file less \
+        than 4,096 bytes",
     ] {
         assert!(said.contains(promise), "{promise}");
     }

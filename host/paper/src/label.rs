@@ -77,7 +77,7 @@ pub fn label_bytes(elements: &Elements) -> Vec<u8> {
     bytes
 }
 
-/// Writes the whole of a label or a pack into a lent buffer and answers its
+/// Writes the whole of a label, a pack or a row into a lent buffer and answers its
 /// length; bytes behind it keep their values. A shorter buffer is refused with
 /// 10 and the bytes needed, and left unwritten.
 pub(crate) fn lend(bytes: &[u8], out: &mut [u8]) -> Result<usize, Refusal> {
@@ -111,7 +111,7 @@ fn places(elements: &Elements, front: &[u8]) -> Vec<Vec<u8>> {
 }
 
 /// The two with one space between them, or the one that is present.
-fn with_space(first: &[u8], second: &[u8]) -> Vec<u8> {
+pub(crate) fn with_space(first: &[u8], second: &[u8]) -> Vec<u8> {
     let space: &[u8] = if first.is_empty() || second.is_empty() {
         b""
     } else {
@@ -179,7 +179,7 @@ fn sub_building_and_name(s: &[u8], b: &[u8]) -> Premises {
 }
 
 /// The number prints without leading zeros; zero means absent.
-fn number_text(number: u64) -> String {
+pub(crate) fn number_text(number: u64) -> String {
     if number == 0 {
         String::new()
     } else {

@@ -150,6 +150,7 @@ pub struct ViewFields {
     pub building_number: Field,
     pub concatenation: Field,
     pub po_box: Field,
+    pub indicator: Field,
     /// Locality, thoroughfare, descriptor, dependent thoroughfare, its
     /// descriptor, building name, sub building.
     pub keys: [Field; 7],
@@ -167,6 +168,7 @@ pub static POINT_FIELDS: ViewFields = ViewFields {
     building_number: point::BUILDING_NUMBER,
     concatenation: point::CONCATENATION,
     po_box: point::PO_BOX,
+    indicator: point::INDICATOR,
     keys: [
         point::LOCALITY,
         point::THOROUGHFARE,
@@ -190,6 +192,7 @@ pub static ADDRESS_FIELDS: ViewFields = ViewFields {
     building_number: address::BUILDING_NUMBER,
     concatenation: address::CONCATENATION,
     po_box: address::PO_BOX,
+    indicator: address::INDICATOR,
     keys: [
         address::LOCALITY,
         address::THOROUGHFARE,

@@ -21,8 +21,9 @@
 //! | `mainfile` | Document 02, Mainfile; layouts in the guide's chapter 5 |
 //! | `runs` | Document 02, Print a street at a time |
 //! | `pack`, `build` | The pack; Pack check; document 02, Suffix in the pack and How many in this sector? |
-//! | `listing`, `report` | One run, complete; listings of many views or points |
-//! | [`make`] | Test data: files, damaged files, packs, codes, the guide's examples, the samples |
+//! | `csv` | Document 02, CSV for the office; fields in the guide's chapter 20 |
+//! | `listing`, `report` | One run, complete; listings of many views, points or rows |
+//! | [`make`] | Test data: files, damaged files, packs, CSV files, codes, the guide's examples, the samples |
 //!
 //! # Decisions
 //!
@@ -62,14 +63,15 @@
 //! | A run of no labels, or from number 0? | no label is asked for, so none is refused; 7 before the first, if there is to be one | "equal to asking for each in turn" |
 //! | Table file refused, point file too long, or both long? | the table file's one line | "the table file first" |
 //!
-//! What document 02 and the guide's chapter 5 leave open about a Mainfile set
-//! stands in docs/READINGS.md.
+//! What document 02 and the guide's chapters 5 and 20 leave open about a Mainfile
+//! set and about CSV PAF stands in docs/READINGS.md.
 //!
 //! The makers and tests date the views of document 01's run themselves, since
 //! it says only that view 2 is later.
 
 mod address;
 pub mod build;
+pub mod csv;
 pub mod fields;
 pub mod files;
 pub mod label;

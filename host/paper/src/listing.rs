@@ -1,5 +1,6 @@
 //! How a view is listed: document 01, "One run, complete"; and listings: for
-//! each view this, for each point of a pack the line `point K`, then its label.
+//! each view this, for each point of a pack the line `point K`, then its label;
+//! for each row of a CSV file the line `row N`, then its label or refusal.
 //! A refused label does not stop a listing. It stops with 7 where no such view
 //! is left, and with 10 before the first item that does not fit in what is left.
 
@@ -43,19 +44,21 @@ pub fn code_list(
 /// Lists so many points of a pack, from number `first` on, in `out`.
 pub fn pack_list(pack: &[u8], first: u64, count: u64, out: &mut [u8]) -> Result<Run, Refusal> {
     let points = from(first, (1u64..).zip(pack::points(pack)?));
-    let item = |(k, point): (u64, pack::Point)| {
-        let mut item = format!("point {k}\n").into_bytes();
-        item.extend(point.label());
-        Ok(item)
-    };
-    Ok(run(points.map(item), count, out))
+    let listed =
+        |(k, point): (u64, pack::Point)| Ok(item(format!("point {k}\n"), Ok(point.label())));
+    Ok(run(points.map(listed), count, out))
 }
 
 /// A view with its answer: the line `view`, number and letter, where there are
 /// letters; then the label, or the line `refused`, number, detail.
 pub(crate) fn entry<'a>(source: impl Source<'a>, view: &View<'a>) -> Vec<u8> {
-    let mut text = heading(view).into_bytes();
-    match view_label(source, view) {
+    item(heading(view), view_label(source, view))
+}
+
+/// A heading, then the label or the line of its refusal.
+pub(crate) fn item(heading: String, label: Result<Vec<u8>, Refusal>) -> Vec<u8> {
+    let mut text = heading.into_bytes();
+    match label {
         Ok(label) => text.extend(label),
         Err(why) => text.extend(refused(why).bytes()),
     }

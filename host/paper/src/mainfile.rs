@@ -151,13 +151,13 @@ impl<'a> AddressFile<'a> {
 
 /// A Mainfile set that has been accepted.
 #[derive(Clone, Copy)]
-struct Mainfile<'a> {
+pub(crate) struct Mainfile<'a> {
     set: Set<'a>,
     records: [usize; MAIN_FILES],
 }
 
 impl<'a> Mainfile<'a> {
-    fn accept(set: Set<'a>) -> Result<Mainfile<'a>, Refusal> {
+    pub fn accept(set: Set<'a>) -> Result<Mainfile<'a>, Refusal> {
         let records = check(set)?;
         Ok(Mainfile { set, records })
     }

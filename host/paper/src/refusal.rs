@@ -9,9 +9,9 @@ pub struct Refusal {
     /// The file to blame: 1 the table file, 2 the point file; 1 to 7 in a
     /// Mainfile set; 0 none.
     pub file: u8,
-    /// The byte of the record where 4 is given, the view number where building
-    /// gives 8 or 9, how many labels stand before where a run of labels stops,
-    /// otherwise 0.
+    /// The byte of the record where 4 is given, the field of the row where 14
+    /// is, the view number where building gives 8 or 9, how many labels stand
+    /// before where a run of labels stops, otherwise 0.
     pub second: u64,
     /// The detail of document 01's table.
     pub detail: u64,
@@ -42,10 +42,21 @@ impl Refusal {
         }
     }
 
+    /// Refusal 14: a row of a CSV file, and its first malformed field, both
+    /// counted from 1.
+    pub fn malformed_row(row: usize, field: usize) -> Refusal {
+        Refusal {
+            second: field as u64,
+            ..Refusal::new(14, row as u64)
+        }
+    }
+
     /// The refusal as one number: its own number from bit 56, the file from
-    /// bit 52, the second detail from bit 32, the detail from bit 0.
+    /// bit 52, the second detail from bit 32, the last 32 bits of the detail
+    /// from bit 0.
     pub fn packed(&self) -> u64 {
-        u64::from(self.number) << 56 | u64::from(self.file) << 52 | self.second << 32 | self.detail
+        let detail = self.detail % (1 << 32);
+        u64::from(self.number) << 56 | u64::from(self.file) << 52 | self.second << 32 | detail
     }
 }
 

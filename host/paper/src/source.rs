@@ -93,6 +93,11 @@ impl<'a> View<'a> {
         self.field(&self.fields.po_box)
     }
 
+    /// The small user organisation indicator.
+    pub fn indicator(&self) -> &'a [u8] {
+        self.field(&self.fields.indicator)
+    }
+
     /// The key that names the row of a reference other than the organisation.
     pub fn key(&self, place: usize) -> &'a [u8] {
         self.field(&self.fields.keys[place])
@@ -195,8 +200,7 @@ pub(crate) fn rows_of<'a>(source: impl Source<'a>, view: &View<'a>) -> Result<Ro
 
 /// The label of a view, or its 8 or 9.
 pub(crate) fn view_label<'a>(source: impl Source<'a>, view: &View<'a>) -> Result<Vec<u8>, Refusal> {
-    let rows = rows_of(source, view)?;
-    Ok(label_bytes(&elements_of(source, view, &rows)))
+    Ok(label_bytes(&elements_of(source, view)?))
 }
 
 /// Writes the label of the view at that place, 1 being the first, into `out` and
@@ -211,20 +215,24 @@ pub(crate) fn write_label<'a>(
     lend(&view_label(source, &view)?, out)
 }
 
-/// What the label of a view is printed from.
-fn elements_of<'a>(source: impl Source<'a>, view: &View<'a>, rows: &Rows) -> Elements<'a> {
+/// What the label of a view is printed from, or its 8 or 9.
+pub(crate) fn elements_of<'a>(
+    source: impl Source<'a>,
+    view: &View<'a>,
+) -> Result<Elements<'a>, Refusal> {
+    let rows = rows_of(source, view)?;
     let mut texts = [NO_TEXTS; REFERENCES];
     for (place, row) in rows.iter().enumerate() {
         if let Some(row) = row {
             texts[place] = source.texts(place, *row);
         }
     }
-    Elements {
+    Ok(Elements {
         po_box: trimmed(view.po_box()),
         building_number: view.building_number(),
         concatenated: view.concatenation() == b"Y",
         outward: trimmed(view.outward()),
         inward: view.inward(),
         ..Elements::of_rows(&texts)
-    }
+    })
 }

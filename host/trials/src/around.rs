@@ -16,6 +16,9 @@ const HUGE: [u64; 6] = [
     u64::MAX,
 ];
 
+/// The refusals that a run or a listing may answer are below this.
+const NUMBERS: usize = 16;
+
 /// Every first number and every count around so many, and huge ones.
 pub fn around(numbers: u64) -> Vec<(u64, u64)> {
     let all: Vec<u64> = (0..=numbers + 2).chain(HUGE).collect();
@@ -29,12 +32,12 @@ pub fn around(numbers: u64) -> Vec<(u64, u64)> {
 /// for a value.
 pub struct Around {
     most: usize,
-    reached: [usize; 13],
+    reached: [usize; NUMBERS],
 }
 
 impl Around {
     pub fn new(most: usize) -> Around {
-        let reached = [0; 13];
+        let reached = [0; NUMBERS];
         Around { most, reached }
     }
 
@@ -70,7 +73,8 @@ impl Around {
     /// Fails unless these were answered and no other.
     #[track_caller]
     pub fn reached(&self, numbers: &[usize]) {
-        let all: Vec<usize> = (0..13).filter(|number| self.reached[*number] > 0).collect();
+        let all = (0..NUMBERS).filter(|number| self.reached[*number] > 0);
+        let all: Vec<usize> = all.collect();
         assert_eq!(all, numbers, "{:?}", self.reached);
     }
 }

@@ -4,6 +4,7 @@ pub mod agree;
 pub mod annotated;
 pub mod around;
 pub mod c;
+pub mod csv;
 pub mod leaves;
 pub mod main_sets;
 pub mod packs;

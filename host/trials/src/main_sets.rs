@@ -15,7 +15,7 @@ pub const WIDTHS: [usize; 7] = [151, 68, 30, 58, 38, 153, 88];
 
 /// Makes a call that only reads these files, and fails where it wrote.
 #[track_caller]
-fn lent_set(set: Set, call: impl FnOnce(Set) -> u64) -> u64 {
+pub(crate) fn lent_set(set: Set, call: impl FnOnce(Set) -> u64) -> u64 {
     let before = set.map(<[u8]>::to_vec);
     let answer = call(set);
     assert!(*black_box(&set) == before, "the call wrote into lent files");

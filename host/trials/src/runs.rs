@@ -1,4 +1,4 @@
-//! Runs of labels and listings: the library asked beside the second program, and beside its own calls for each label in
+//! Runs of labels and rows and listings: the library asked beside the second program, and beside its own calls for each in
 //! turn. Answer, buffer and bytes told have to be the same three times.
 
 use crate::agree::{lent, telling};
@@ -165,6 +165,7 @@ fn left(room: usize, run: impl FnOnce(&mut [u8], &mut u64) -> u64) -> Left {
     Left { answer, out, bytes }
 }
 
+/// A run of labels or a listing, which only a label's own refusal stops: 7 to 10.
 #[track_caller]
 pub(crate) fn same_thrice(
     asked: Asked,
@@ -173,7 +174,32 @@ pub(crate) fn same_thrice(
     plain: impl FnOnce(&mut [u8]) -> Result<Run, Refusal>,
 ) -> u64 {
     let ours = same_twice(asked, library, plain);
-    let turned = left(asked.room, |out, bytes| in_turn(asked, one, out, bytes));
+    same_in_turn(asked, ours, |number| (7..=10).contains(&number), one)
+}
+
+/// A run of rows, which 15 stops too.
+#[track_caller]
+pub(crate) fn rows_same_thrice(
+    asked: Asked,
+    library: impl FnOnce(&mut [u8], &mut u64) -> u64,
+    one: impl Fn(u64, &mut [u8]) -> u64,
+    plain: impl FnOnce(&mut [u8]) -> Result<Run, Refusal>,
+) -> u64 {
+    let ours = same_twice(asked, library, plain);
+    let stops = |number| (7..=10).contains(&number) || number == 15;
+    same_in_turn(asked, ours, stops, one)
+}
+
+#[track_caller]
+fn same_in_turn(
+    asked: Asked,
+    ours: Left,
+    stops: impl Fn(u64) -> bool,
+    one: impl Fn(u64, &mut [u8]) -> u64,
+) -> u64 {
+    let turned = left(asked.room, |out, bytes| {
+        in_turn(asked, stops, one, out, bytes)
+    });
     same(asked, &ours, "in turn", &turned);
     ours.answer
 }
@@ -202,16 +228,17 @@ fn same(asked: Asked, ours: &Left, other: &str, left: &Left) {
     );
 }
 
-/// The same labels asked for one by one, each in what is left behind those before it. What is refused with another number
-/// than a label's own, 7 to 10, is refused as a whole.
+/// The same labels asked for one by one, each in what is left behind those before it. What is refused with a number that
+/// stops no run is refused as a whole.
 fn in_turn(
     asked: Asked,
+    stops: impl Fn(u64) -> bool,
     one: impl Fn(u64, &mut [u8]) -> u64,
     out: &mut [u8],
     bytes: &mut u64,
 ) -> u64 {
     let unlent = one(asked.first, &mut []);
-    if !(7..=10).contains(&refusal(unlent)) {
+    if !stops(refusal(unlent)) {
         return unlent;
     }
     *bytes = 0;

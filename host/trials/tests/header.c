@@ -1,5 +1,5 @@
-/* Asks every call of the library on a pair of files and on a pack about those that it is
- * given, and prints what it answers, taken apart by the header's macros. */
+/* Asks every call of the library on a pair of files, on a pack and on a CSV file about those
+ * that it is given or that are made of them, and prints what it answers, taken apart by the header's macros. */
 #include "ttwibonal.h"
 
 #include <inttypes.h>
@@ -12,6 +12,8 @@
 #define LETTER 40
 /* How far from the end of a pack the last byte of its counts stands. */
 #define LAST_COUNT 2
+/* A byte of the post town in the row of the worked pair. */
+#define IN_TOWN 9
 
 /* Reads a whole file of less than ROOM bytes. Answers its length, 0 where it
  * can't be read. */
@@ -164,6 +166,34 @@ static void say_older(const uint8_t *pack, size_t length)
     say("its points in sector 10", ttw_sector(pack, length, 10));
 }
 
+/* The rows of the files, and what they say as a file of their own, whole, without its last byte and with a quote. */
+static void say_csv(const uint8_t *table, size_t table_length, const uint8_t *points, size_t points_length)
+{
+    uint8_t csv[2 * TTW_CSV_ROW_MAX];
+    uint8_t out[2 * 512];
+    uint64_t bytes = 0;
+    uint64_t answer = ttw_csv_row(table, table_length, points, points_length, 1, csv, sizeof csv);
+    size_t length = (size_t)TTW_VALUE(answer);
+
+    say_label("row of 1", csv, answer);
+    say("row of 1 without room", ttw_csv_row(table, table_length, points, points_length, 1, csv, length - 1));
+    say("row of 2", ttw_csv_row(table, table_length, points, points_length, 2, csv, sizeof csv));
+    answer = ttw_csv_rows(table, table_length, points, points_length, 1, 2, csv, sizeof csv, &bytes);
+    say_run("rows from 1, 2 of them", csv, answer, bytes);
+    say("rows in the file", ttw_csv(csv, length));
+    say_label("its label 1", out, ttw_csv_label(csv, length, 1, out, sizeof out));
+    say("its label 2", ttw_csv_label(csv, length, 2, out, sizeof out));
+    answer = ttw_csv_labels(csv, length, 1, 2, out, sizeof out, &bytes);
+    say_run("its labels from 1, 2 of them", out, answer, bytes);
+    answer = ttw_csv_list(csv, length, 1, 1, out, sizeof out, &bytes);
+    say_run("its list from 1, 1 of them", out, answer, bytes);
+    say("rows in no bytes", ttw_csv(csv, 0));
+    say("rows without the last byte", ttw_csv(csv, length - 1));
+    say("rows without the last two", ttw_csv(csv, length - 2));
+    csv[IN_TOWN] = '"';
+    say("rows with a quote", ttw_csv(csv, length));
+}
+
 #define SAY_NAME(name) printf("%s %d\n", #name, name)
 
 /* The names of the refusals, each with its number. */
@@ -182,6 +212,8 @@ static void say_names(void)
     SAY_NAME(TTW_REFUSED_PACK);
     SAY_NAME(TTW_REFUSED_CODE);
     SAY_NAME(TTW_REFUSED_SUFFIX);
+    SAY_NAME(TTW_REFUSED_ROW);
+    SAY_NAME(TTW_REFUSED_FIELD);
     SAY_NAME(TTW_REFUSED_DIGIT);
 }
 
@@ -204,6 +236,7 @@ int main(int argc, char **argv)
     say_codes(points, points_length);
     say_labels(table, table_length, points, points_length);
     say_older(older, older_length);
+    say_csv(table, table_length, points, points_length);
     say("empty table", ttw_table(table, 0));
     table[0] = 'X';
     say("table with another header", ttw_table(table, table_length));

@@ -1,5 +1,5 @@
-//! The header: a C program that uses every call of it on a pair of files and on a
-//! pack is compiled without a warning, linked with the library and run on
+//! The header: a C program that uses every call of it on a pair of files, on a pack
+//! and on a CSV file is compiled without a warning, linked with the library and run on
 //! document 01's pair, and on its pack as it stood in edition 1.
 
 use paper::make::{worked_pack, worked_pair, FIRST};
@@ -108,6 +108,37 @@ its suffix of point 2: refused 7, file 0, second 0, detail 0
 its suffix without its last byte: refused 11, file 0, second 0, detail 1
 its points in sector 9: 1
 its points in sector 10: refused 27, file 0, second 0, detail 0
+row of 1: 68
+AB1 9ZZ,HARTWELL BAY,,,QUARRY LANE,,,110-114,ATTIC FLAT,,,,,S, ,1A\r
+row of 1 without room: refused 10, file 0, second 0, detail 68
+row of 2: refused 9, file 0, second 0, detail 6
+rows from 1, 2 of them: refused 9, file 0, second 1, detail 6
+68 bytes
+AB1 9ZZ,HARTWELL BAY,,,QUARRY LANE,,,110-114,ATTIC FLAT,,,,,S, ,1A\r
+rows in the file: 1
+its label 1: 52
+ATTIC FLAT
+110-114 QUARRY LANE
+HARTWELL BAY
+AB1 9ZZ
+its label 2: refused 7, file 0, second 0, detail 0
+its labels from 1, 2 of them: refused 7, file 0, second 1, detail 0
+52 bytes
+ATTIC FLAT
+110-114 QUARRY LANE
+HARTWELL BAY
+AB1 9ZZ
+its list from 1, 1 of them: 1
+58 bytes
+row 1
+ATTIC FLAT
+110-114 QUARRY LANE
+HARTWELL BAY
+AB1 9ZZ
+rows in no bytes: 0
+rows without the last byte: refused 14, file 0, second 16, detail 1
+rows without the last two: refused 14, file 0, second 17, detail 1
+rows with a quote: refused 15, file 0, second 0, detail 0
 empty table: refused 1, file 1, second 0, detail 0
 table with another header: refused 2, file 1, second 0, detail 1
 points with another letter: refused 4, file 2, second 41, detail 3
@@ -124,6 +155,8 @@ TTW_REFUSED_ROOM 10
 TTW_REFUSED_PACK 11
 TTW_REFUSED_CODE 12
 TTW_REFUSED_SUFFIX 13
+TTW_REFUSED_ROW 14
+TTW_REFUSED_FIELD 15
 TTW_REFUSED_DIGIT 27
 ";
 

@@ -81,6 +81,16 @@ static void say_labels(const struct ttw_main *set, const uint8_t *code, size_t c
     say_bytes("list from 8 in AB10, 2 of them", answer, bytes);
 }
 
+static void say_rows(const struct ttw_main *set)
+{
+    uint64_t answer = ttw_main_csv_row_of(set, 4, out, sizeof out);
+    uint64_t bytes = 7;
+
+    say_bytes("row 4", answer, TTW_VALUE(answer));
+    answer = ttw_main_csv_rows_of(set, 38, 2, out, sizeof out, &bytes);
+    say_bytes("rows from 38, 2 of them", answer, bytes);
+}
+
 static void say_packs(const struct ttw_main *set, const uint8_t *code, size_t code_len)
 {
     const uint8_t refused[4] = {'A', 'B', '2', ' '};
@@ -109,6 +119,7 @@ int main(int argc, char **argv)
     say("codes", ttw_main_codes_of(&set, out, sizeof out));
     printf("first code: %.4s %d\n", (const char *)out, out[7]);
     say_labels(&set, code, sizeof code);
+    say_rows(&set);
     say_packs(&set, code, sizeof code);
     set.sub_buildings_len = 0;
     say("without sub buildings", ttw_main_of(&set));

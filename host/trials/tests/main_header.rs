@@ -44,6 +44,10 @@ STORES
 QUARRY LANE
 HARTWELL BAY
 AB10 9ZZ
+row 4: 58
+AB1 9ZZ,HARTWELL BAY,,,QUARRY LANE,,,110-114,,,,,,S, ,1E\r
+rows from 38, 2 of them: refused 9, file 0, second 1, detail 1
+AB10 9ZZ,HARTWELL BAY,,,QUARRY LANE,,,,,,STORES,,,L, ,1A\r
 pack without room: refused 10, file 0, second 0, detail 671
 points in the pack: 8
 pack of AB2: refused 9, file 0, second 39, detail 1

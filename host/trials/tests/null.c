@@ -1,7 +1,7 @@
 /* Asks every call of the library with an empty slice in each of its places, once with a null pointer and once with
  * another, and prints a line for each: the call, the slice, the answer's refusal, file and detail, and whether both
- * answers and all that was lent are the same. The table file, the point file, the pack and the seven files of a Mainfile
- * set are given as arguments. */
+ * answers and all that was lent are the same. The table file, the point file, the pack, the CSV file and the seven files
+ * of a Mainfile set are given as arguments. */
 #include "ttwibonal.h"
 
 #include <inttypes.h>
@@ -20,12 +20,12 @@ struct slice {
 
 /* What a call is lent. */
 struct lent {
-    struct slice table, points, pack, code, out;
+    struct slice table, points, pack, csv, code, out;
     struct slice main[FILES];
     uint64_t bytes;
 };
 
-static uint8_t table[ROOM], points[ROOM], pack[ROOM], out[ROOM];
+static uint8_t table[ROOM], points[ROOM], pack[ROOM], csv[ROOM], out[ROOM];
 static uint8_t files[FILES][ROOM];
 static uint8_t code[4] = {'A', 'B', '1', ' '};
 /* A place of no bytes that is not null. */
@@ -92,6 +92,29 @@ static uint64_t ask_pack_labels(struct lent *l)
 static uint64_t ask_pack_list(struct lent *l)
 {
     return ttw_pack_list(l->pack.bytes, l->pack.length, 1, 1, l->out.bytes, l->out.length, &l->bytes);
+}
+static uint64_t ask_csv_row(struct lent *l)
+{
+    return ttw_csv_row(l->table.bytes, l->table.length, l->points.bytes, l->points.length, 1, l->out.bytes,
+                       l->out.length);
+}
+static uint64_t ask_csv_rows(struct lent *l)
+{
+    return ttw_csv_rows(l->table.bytes, l->table.length, l->points.bytes, l->points.length, 1, 1, l->out.bytes,
+                        l->out.length, &l->bytes);
+}
+static uint64_t ask_csv(struct lent *l) { return ttw_csv(l->csv.bytes, l->csv.length); }
+static uint64_t ask_csv_label(struct lent *l)
+{
+    return ttw_csv_label(l->csv.bytes, l->csv.length, 1, l->out.bytes, l->out.length);
+}
+static uint64_t ask_csv_labels(struct lent *l)
+{
+    return ttw_csv_labels(l->csv.bytes, l->csv.length, 1, 1, l->out.bytes, l->out.length, &l->bytes);
+}
+static uint64_t ask_csv_list(struct lent *l)
+{
+    return ttw_csv_list(l->csv.bytes, l->csv.length, 1, 1, l->out.bytes, l->out.length, &l->bytes);
 }
 
 /* The set as the header's struct has it. */
@@ -163,9 +186,21 @@ static uint64_t ask_main_build(struct lent *l)
 
     return ttw_main_build_of(&set, l->code.bytes, l->code.length, l->out.bytes, l->out.length);
 }
+static uint64_t ask_main_csv_row(struct lent *l)
+{
+    struct ttw_main set = set_of(l);
 
-/* A call, and the letters of the slices that it takes: table, points, pack (k), code, out; the files of a set by their
- * numbers. */
+    return ttw_main_csv_row_of(&set, 1, l->out.bytes, l->out.length);
+}
+static uint64_t ask_main_csv_rows(struct lent *l)
+{
+    struct ttw_main set = set_of(l);
+
+    return ttw_main_csv_rows_of(&set, 1, 1, l->out.bytes, l->out.length, &l->bytes);
+}
+
+/* A call, and the letters of the slices that it takes: table, points, pack (k), CSV file (v), code, out; the files of a set
+ * by their numbers. */
 static const struct call {
     const char *name;
     uint64_t (*ask)(struct lent *);
@@ -190,6 +225,12 @@ static const struct call {
     {"ttw_sector", ask_sector, "k"},
     {"ttw_pack_labels", ask_pack_labels, "ko"},
     {"ttw_pack_list", ask_pack_list, "ko"},
+    {"ttw_csv_row", ask_csv_row, "tpo"},
+    {"ttw_csv_rows", ask_csv_rows, "tpo"},
+    {"ttw_csv", ask_csv, "v"},
+    {"ttw_csv_label", ask_csv_label, "vo"},
+    {"ttw_csv_labels", ask_csv_labels, "vo"},
+    {"ttw_csv_list", ask_csv_list, "vo"},
     {"ttw_main", ask_main, "1234567"},
     {"ttw_main_live", ask_main_live, "7c"},
     {"ttw_main_codes", ask_main_codes, "7o"},
@@ -200,6 +241,8 @@ static const struct call {
     {"ttw_main_list", ask_main_list, "1234567o"},
     {"ttw_main_code_list", ask_main_code_list, "1234567co"},
     {"ttw_main_build", ask_main_build, "1234567co"},
+    {"ttw_main_csv_row", ask_main_csv_row, "1234567o"},
+    {"ttw_main_csv_rows", ask_main_csv_rows, "1234567o"},
 };
 
 static struct slice *slice_of(struct lent *lent, char letter)
@@ -211,6 +254,8 @@ static struct slice *slice_of(struct lent *lent, char letter)
         return &lent->points;
     case 'k':
         return &lent->pack;
+    case 'v':
+        return &lent->csv;
     case 'c':
         return &lent->code;
     case 'o':
@@ -276,15 +321,16 @@ int main(int argc, char **argv)
     size_t i;
     const char *letter;
 
-    if (argc != 4 + FILES)
+    if (argc != 5 + FILES)
         return 2;
     memset(out, KNOWN, sizeof out);
     memset(nothing, KNOWN, sizeof nothing);
     whole.table = load(argv[1], table);
     whole.points = load(argv[2], points);
     whole.pack = load(argv[3], pack);
+    whole.csv = load(argv[4], csv);
     for (i = 0; i < FILES; i++)
-        whole.main[i] = load(argv[4 + i], files[i]);
+        whole.main[i] = load(argv[5 + i], files[i]);
     whole.code.bytes = code;
     whole.code.length = sizeof code;
     whole.out.bytes = out;

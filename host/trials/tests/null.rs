@@ -5,7 +5,7 @@ use paper::make::{set_of_pair, worked_pack, worked_pair, MainSet, BUILT};
 use trials::c::{printed, Folder};
 
 /// Call and slice, then the answer's refusal, file and detail. Slices: t table,
-/// p points, k pack, c code, o out, 1 to 7 the files of a Mainfile set.
+/// p points, k pack, v CSV file, c code, o out, 1 to 7 the files of a Mainfile set.
 const ANSWERS: &str = "\
 ttw_table t: 1 1 0
 ttw_points p: 1 2 0
@@ -49,11 +49,24 @@ ttw_pack_labels k: 11 0 1
 ttw_pack_labels o: 10 0 52
 ttw_pack_list k: 11 0 1
 ttw_pack_list o: 10 0 60
+ttw_csv_row t: 1 1 0
+ttw_csv_row p: 1 2 0
+ttw_csv_row o: 10 0 68
+ttw_csv_rows t: 1 1 0
+ttw_csv_rows p: 1 2 0
+ttw_csv_rows o: 10 0 68
+ttw_csv v: 0 0 0
+ttw_csv_label v: 7 0 0
+ttw_csv_label o: 10 0 52
+ttw_csv_labels v: 7 0 0
+ttw_csv_labels o: 10 0 52
+ttw_csv_list v: 7 0 0
+ttw_csv_list o: 10 0 58
 ";
 
 /// The calls on a Mainfile set: which of its files they take, by their numbers,
 /// whether they take a code, and the bytes that they need where they write.
-const MAIN: [(&str, std::ops::RangeInclusive<u8>, bool, Option<u64>); 10] = [
+const MAIN: [(&str, std::ops::RangeInclusive<u8>, bool, Option<u64>); 12] = [
     ("ttw_main", 1..=7, false, None),
     ("ttw_main_live", 7..=7, true, None),
     ("ttw_main_codes", 7..=7, false, Some(8)),
@@ -64,6 +77,8 @@ const MAIN: [(&str, std::ops::RangeInclusive<u8>, bool, Option<u64>); 10] = [
     ("ttw_main_list", 1..=7, false, Some(59)),
     ("ttw_main_code_list", 1..=7, true, Some(59)),
     ("ttw_main_build", 1..=7, true, Some(171)),
+    ("ttw_main_csv_row", 1..=7, false, Some(68)),
+    ("ttw_main_csv_rows", 1..=7, false, Some(68)),
 ];
 
 /// All answers: those of these calls behind the others.
@@ -88,6 +103,15 @@ fn worked_set() -> MainSet {
     MainSet::new(made.rows, Vec::new(), first)
 }
 
+/// The worked pair's first view as a CSV file.
+fn worked_row() -> Vec<u8> {
+    let pair = worked_pair();
+    let mut row = vec![0; 499];
+    let length = paper::csv::row(&pair.table, &pair.points, 1, &mut row).expect("a row");
+    row.truncate(length);
+    row
+}
+
 #[test]
 fn every_call_takes_a_null_pointer_with_length_0() {
     let folder = Folder::new("null");
@@ -96,7 +120,8 @@ fn every_call_takes_a_null_pointer_with_length_0() {
     program
         .arg(folder.file("changes1", &pair.table))
         .arg(folder.file("changes2", &pair.points))
-        .arg(folder.file("pack", &worked_pack(BUILT)));
+        .arg(folder.file("pack", &worked_pack(BUILT)))
+        .arg(folder.file("csv", &worked_row()));
     for (number, file) in worked_set().files.iter().enumerate() {
         program.arg(folder.file(&format!("main{number}"), file));
     }

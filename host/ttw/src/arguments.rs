@@ -51,7 +51,7 @@ impl Takes {
 }
 
 /// Every option.
-pub const OPTIONS: [(&str, Takes); 13] = [
+pub const OPTIONS: [(&str, Takes); 14] = [
     ("--help", Takes::NothingAnywhere),
     ("--version", Takes::NothingAnywhere),
     ("--all", Takes::Nothing),
@@ -64,6 +64,7 @@ pub const OPTIONS: [(&str, Takes); 13] = [
     ("--most", Takes::Number),
     ("--code", Takes::Code),
     ("--area", Takes::Code),
+    ("--csv", Takes::Place),
     ("--out", Takes::Place),
 ];
 
@@ -81,6 +82,7 @@ pub struct Arguments {
     pub suffix: bool,
     pub sectors: bool,
     pub line_ends: bool,
+    pub csv: Option<PathBuf>,
     pub out: Option<PathBuf>,
     pub help: bool,
     pub version: bool,
@@ -100,6 +102,7 @@ impl Arguments {
             ("--most", self.most.is_some()),
             ("--code", self.code.is_some()),
             ("--area", self.area.is_some()),
+            ("--csv", self.csv.is_some()),
             ("--out", self.out.is_some()),
         ];
         given
@@ -184,6 +187,7 @@ fn set_value(arguments: &mut Arguments, name: &str, value: &OsStr) -> Result<(),
         "--most" => once(&mut arguments.most, name, number(name, value)?),
         "--code" => once(&mut arguments.code, name, Code::new(value.as_bytes())),
         "--area" => once(&mut arguments.area, name, Code::new(value.as_bytes())),
+        "--csv" => once(&mut arguments.csv, name, place(name, value)?),
         _ => once(&mut arguments.out, name, place(name, value)?),
     }
 }

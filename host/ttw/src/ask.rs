@@ -2,7 +2,7 @@
 
 use crate::calls;
 
-/// The longest label.
+/// The longest label, and the longest row of CSV PAF.
 pub const LABEL: usize = 499;
 
 /// The refusal of a number that there is none of, the lowest of a label's own.
@@ -10,24 +10,28 @@ pub const NO_SUCH: u8 = 7;
 
 /// The refusal of a lent buffer that is too short, the highest of a label's own;
 /// its detail is the bytes needed.
-const ROOM: u8 = 10;
+pub const ROOM: u8 = 10;
+
+/// The refusal of a view that no row of CSV PAF can carry.
+const UNCARRIED: u8 = 15;
 
 /// Why a call was refused.
 #[derive(Clone, Copy, Debug, PartialEq, Eq)]
 pub struct Refusal {
-    /// 1 to 13, or 27.
+    /// 1 to 15, or 27.
     pub number: u8,
     /// The file to blame: 1 the table file, 2 the point file; of a set 1 to 7;
     /// 0 no file.
     pub file: u8,
-    /// The byte of a malformed record; the view, where building a pack is
-    /// refused because of one; the labels before, where a run stops.
+    /// The byte of a malformed record; the field of a malformed row; the view,
+    /// where building a pack is refused because of one; the labels before, where
+    /// a run stops.
     pub second: u64,
-    /// The record, rule, field, step or bytes needed, by the number.
+    /// The record, row, rule, field, step or bytes needed, by the number.
     pub detail: u64,
 }
 
-/// How far a run of labels came, or a listing.
+/// How far a run of labels or rows came, or a listing.
 #[derive(Clone, Copy, Debug, PartialEq, Eq)]
 pub struct Run {
     /// How many labels were written; of a run that stopped, the last 20 bits.
@@ -131,6 +135,32 @@ pub fn sector(pack: &[u8], digit: u64) -> Result<u64, Refusal> {
     answer(calls::sector(pack, digit))
 }
 
+/// The row of a view as CSV PAF.
+pub fn csv_row(table: &[u8], points: &[u8], view: u64) -> Result<Vec<u8>, Refusal> {
+    printed(|out| calls::csv_row(table, points, view, out))
+}
+
+/// The rows of so many views from `first` on, one behind the other in `out`.
+pub fn csv_rows(
+    table: &[u8],
+    points: &[u8],
+    first: u64,
+    count: u64,
+    out: &mut [u8],
+) -> Result<Run, Refusal> {
+    rows_run(|bytes| calls::csv_rows(table, points, first, count, out, bytes))
+}
+
+/// How many rows a CSV file has.
+pub fn csv(csv: &[u8]) -> Result<u64, Refusal> {
+    answer(calls::csv(csv))
+}
+
+/// The label of a row of a CSV file.
+pub fn csv_label(csv: &[u8], row: u64) -> Result<Vec<u8>, Refusal> {
+    printed(|out| calls::csv_label(csv, row, out))
+}
+
 /// Runs and listings: so many from `first` on, written into `out`.
 macro_rules! runs {
     ($(
@@ -169,17 +199,37 @@ runs! {
 
     /// So many points from `first` on, listed in `out`.
     pack_list(pack);
+
+    /// The labels of so many rows of a CSV file from `first` on, one behind the other
+    /// in `out`.
+    csv_labels(csv);
+
+    /// So many rows of a CSV file from `first` on, listed in `out`.
+    csv_list(csv);
 }
 
 /// What a run's answer says, or a listing's: a label's own refusal stops it, any other refuses
 /// the whole.
 pub(crate) fn run(call: impl FnOnce(&mut u64) -> u64) -> Result<Run, Refusal> {
+    run_that_stops(|number| (NO_SUCH..=ROOM).contains(&number), call)
+}
+
+/// The same of a run of rows, which stops too at a view that none can carry.
+pub(crate) fn rows_run(call: impl FnOnce(&mut u64) -> u64) -> Result<Run, Refusal> {
+    run_that_stops(
+        |number| (NO_SUCH..=ROOM).contains(&number) || number == UNCARRIED,
+        call,
+    )
+}
+
+fn run_that_stops(
+    stops: impl FnOnce(u8) -> bool,
+    call: impl FnOnce(&mut u64) -> u64,
+) -> Result<Run, Refusal> {
     let mut bytes = 0;
     let (labels, stop) = match answer(call(&mut bytes)) {
         Ok(labels) => (labels, None),
-        Err(why) if (NO_SUCH..=ROOM).contains(&why.number) => {
-            (why.second, Some(Refusal { second: 0, ..why }))
-        }
+        Err(why) if stops(why.number) => (why.second, Some(Refusal { second: 0, ..why })),
         Err(why) => return Err(why),
     };
     Ok(Run {
@@ -207,7 +257,7 @@ pub(crate) fn fitting(likely: usize, call: impl Fn(&mut [u8]) -> u64) -> Result<
     Ok(out)
 }
 
-/// The label that a call prints into a fresh buffer.
+/// The label or row that a call prints into a fresh buffer.
 pub(crate) fn printed(call: impl FnOnce(&mut [u8]) -> u64) -> Result<Vec<u8>, Refusal> {
     let mut out = vec![0; LABEL];
     let length = answer(call(&mut out))?;

@@ -105,4 +105,26 @@ calls! {
     /// So many points from `first` on, each as its line and the label, one behind
     /// the other in `out`; `bytes` becomes the bytes that they take.
     pack_list = ttw_pack_list(pack) (first, count) (out) (bytes);
+
+    /// The row of a view as CSV PAF, written into `out`.
+    csv_row = ttw_csv_row(table, points) (view) (out) ();
+
+    /// The rows of so many views from `first` on, written into `out` one behind the
+    /// other; `bytes` becomes the bytes that they take.
+    csv_rows = ttw_csv_rows(table, points) (first, count) (out) (bytes);
+
+    /// How many rows a CSV file has.
+    csv = ttw_csv(csv) () () ();
+
+    /// The label of a row of a CSV file, counted from 1, printed into `out`.
+    csv_label = ttw_csv_label(csv) (row) (out) ();
+
+    /// The labels of so many rows from `first` on, printed into `out` one behind the
+    /// other; `bytes` becomes the bytes that they take.
+    csv_labels = ttw_csv_labels(csv) (first, count) (out) (bytes);
+
+    /// So many rows from `first` on, each as its line and the label or the line of
+    /// its refusal, one behind the other in `out`; `bytes` becomes the bytes that
+    /// they take.
+    csv_list = ttw_csv_list(csv) (first, count) (out) (bytes);
 }

@@ -2,6 +2,7 @@
 //! files have in common. What they answer comes from the library's calls.
 
 use crate::arguments::{Arguments, Code};
+use crate::csv;
 use crate::files::{make_folder, read_pack, write_whole};
 use crate::order::in_order;
 use crate::output::{print, printed, send_to, Output};
@@ -35,7 +36,10 @@ pub fn codes(given: &Arguments) -> Outcome {
 
 /// `ttw labels`.
 pub fn labels(given: &Arguments) -> Outcome {
-    print_labels(given, &given.files, Pair::read_accepted)
+    match &given.csv {
+        Some(file) => csv::print_labels(given, file),
+        None => print_labels(given, &given.files, Pair::read_accepted),
+    }
 }
 
 /// `ttw pack`.
@@ -110,14 +114,14 @@ fn labels_from_nth<S: Source>(source: &S, code: &Code, k: u64, count: Option<u64
 }
 
 /// A label alone, so that it can be sent on as it is.
-fn print_one(words: Words, subject: &str, label: Result<Vec<u8>, Refusal>) -> Outcome {
+pub fn print_one(words: Words, subject: &str, label: Result<Vec<u8>, Refusal>) -> Outcome {
     let label = label.map_err(|why| Stop::Refused(words(&why, subject)))?;
     print(label)
 }
 
 /// So many labels one behind the other, as the library writes them. A refused
 /// label ends them.
-fn print_run(
+pub fn print_run(
     words: Words,
     first: u64,
     count: u64,
@@ -171,18 +175,18 @@ fn labels_of_all<S: Source>(source: &S) -> Outcome {
 }
 
 /// All labels that a listing has, to be printed as a list.
-struct Listing<'a> {
-    words: Words,
+pub struct Listing<'a> {
+    pub words: Words,
     /// Bytes of a page.
-    page: usize,
+    pub page: usize,
     /// What a refusal of the whole is said of.
-    whole: &'a str,
+    pub whole: &'a str,
 }
 
 impl Listing<'_> {
     /// Prints what `ask` lists. `names` are the heading of one label and what its
     /// refusal is said of, by its number and its heading there.
-    fn print(
+    pub fn print(
         &self,
         ask: impl Fn(u64, u64, &mut [u8]) -> Result<Run, Refusal>,
         names: impl Fn(u64, &str) -> (String, String),

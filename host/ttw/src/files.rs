@@ -10,8 +10,8 @@ use std::os::unix::ffi::OsStrExt;
 use std::path::Path;
 use ttw::words::shown;
 
-/// The name that stands for standard input where a pack is read, and for
-/// standard output where labels are written.
+/// The name that stands for standard input where a pack or a CSV file is read,
+/// and for standard output where labels or rows are written.
 pub const STANDARD: &str = "-";
 
 /// No pack of a pair of files comes near this length. Each address takes at most
@@ -29,10 +29,7 @@ pub fn read_changes(path: &Path, kind: &Kind) -> Result<Vec<u8>, Stop> {
 
 /// A pack file, or what comes on standard input.
 pub fn read_pack(path: &Path) -> Result<Vec<u8>, Stop> {
-    let (file, name) = match path == Path::new(STANDARD) {
-        true => (standard_input(), "standard input".to_string()),
-        false => (File::open(path), name_of(path)),
-    };
+    let (file, name) = open_or_standard_input(path);
     let pack = read_at_most(file, PACK_READ + 1, &name)?;
     if pack.len() as u64 > PACK_READ {
         return Err(Stop::could_not(format!("{name} is too long for a pack")));
@@ -40,10 +37,22 @@ pub fn read_pack(path: &Path) -> Result<Vec<u8>, Stop> {
     Ok(pack)
 }
 
+/// A file, or standard input, and what it is called in a message.
+pub fn open_or_standard_input(path: &Path) -> (io::Result<File>, String) {
+    match path == Path::new(STANDARD) {
+        true => (standard_input(), "standard input".to_string()),
+        false => (File::open(path), name_of(path)),
+    }
+}
+
+pub fn cannot_read(name: &str, why: &io::Error) -> Stop {
+    Stop::could_not(format!("cannot read {name}: {why}"))
+}
+
 fn read_at_most(file: io::Result<File>, most: u64, name: &str) -> Result<Vec<u8>, Stop> {
     let mut bytes = Vec::new();
     file.and_then(|file| file.take(most).read_to_end(&mut bytes))
-        .map_err(|why| Stop::could_not(format!("cannot read {name}: {why}")))?;
+        .map_err(|why| cannot_read(name, &why))?;
     Ok(bytes)
 }
 
@@ -60,7 +69,7 @@ pub fn read_whole(front: Vec<u8>, file: File, most: usize, name: &str) -> Result
     let left = most.saturating_sub(bytes.len()) as u64;
     file.take(left)
         .read_to_end(&mut bytes)
-        .map_err(|why| Stop::could_not(format!("cannot read {name}: {why}")))?;
+        .map_err(|why| cannot_read(name, &why))?;
     Ok(bytes)
 }
 

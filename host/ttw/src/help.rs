@@ -6,14 +6,15 @@ ttw prints labels from Royal Mail's files and cuts packs for handsets.
 
   ttw check  CHANGES1 CHANGES2              are both files accepted?
   ttw codes  CHANGES1 CHANGES2              outward codes with live views
-  ttw labels CHANGES1 CHANGES2 [--view N | --code AB1 [--nth K]]
-             [--count N] [--out FILE]
+  ttw labels (CHANGES1 CHANGES2 [--view N | --code AB1] | --csv FILE)
+             [--nth K] [--count N] [--out FILE]
   ttw pack   CHANGES1 CHANGES2 (--code AB1 | --all) --out FOLDER
   ttw show   PACK [--nth K [--count N]] [--suffix | --sectors] [--out FILE]
+  ttw csv    CHANGES1 CHANGES2 [--out FILE] the views as CSV PAF
   ttw extract CHANGES1 CHANGES2 (--code AB1.. | --area AB.. | --all)
              [--most N] [--line-ends] --out FOLDER
                                             parts of longer files
-  ttw main   check|codes|labels|pack|extract FILES.. [OPTIONS]
+  ttw main   check|codes|labels|pack|csv|extract FILES.. [OPTIONS]
                                             the same of a Mainfile set
 
   ttw help TOPIC           a command, or: files, refusals, status
@@ -44,15 +45,17 @@ live if its amendment letter is I or C.
 ";
 
 pub const LABELS: &str = "\
-ttw labels CHANGES1 CHANGES2 [--view N | --code AB1 [--nth K]]
-           [--count N] [--out FILE]
+ttw labels (CHANGES1 CHANGES2 [--view N | --code AB1] | --csv FILE)
+           [--nth K] [--count N] [--out FILE]
 
 Prints labels. Without options those of all views, each under its number and
-amendment letter; with --code those of the live views in that code.
+amendment letter; with --code those of the live views in that code; with --csv
+those of the rows of a CSV file, each under its number.
 
   --view N     the label of view N alone
   --code AB1   the live views of an outward code
-  --nth K      with --code: the label of the K-th of them alone
+  --csv FILE   a CSV file, not two Changes files; - is one on standard input
+  --nth K      with --code or --csv: the label of the K-th of them alone
   --count N    with --view or --nth: so many labels from there on
   --out FILE   into a file, not to standard output
 
@@ -99,6 +102,24 @@ refused. Each point costs checks of the whole pack then, so that a long pack
 takes its time.
 ";
 
+pub const CSV: &str = "\
+ttw csv CHANGES1 CHANGES2 [--out FILE]
+
+Writes a row of CSV PAF for each view, live or not, in file order: sixteen
+fields with commas between them, ended by CR LF, nothing quoted, no header. What
+no view has, the UDPRN, is empty.
+
+  --out FILE   into a file, not to standard output: see ttw help labels
+
+A view that no row can carry, because a text has a comma or a double quote or a
+thoroughfare is too long with its descriptor, is told on standard error with its
+number, and so is one whose label is refused. It is left out, the others go on,
+and the exit status is 1. Each such view costs one more check of the files.
+
+ttw labels --csv reads such a file. Of a view with a sub building, a number and
+no building name a row does not say whether both stand together, as in 12A.
+";
+
 pub const EXTRACT: &str = "\
 ttw extract CHANGES1 CHANGES2 (--code AB1.. | --area AB.. | --all)
             [--most N] [--line-ends] --out FOLDER
@@ -129,7 +150,7 @@ be deleted.
 ";
 
 pub const MAIN: &str = "\
-ttw main (check | codes | labels | pack | extract) FILES..
+ttw main (check | codes | labels | pack | csv | extract) FILES..
          [--view N | --code AB1 [--nth K]] [--count N] [--area AB] [--all]
          [--most N] [--line-ends] [--out PLACE]
 
@@ -142,6 +163,7 @@ missing or is given more than once is named. Each is read once.
   codes    each outward code, and how many addresses it has
   labels   takes --view, --code, --nth, --count and --out: see ttw help labels
   pack     takes --code, --all and --out: see ttw help pack
+  csv      takes --out: see ttw help csv
   extract  takes --code, --area, --all, --most, --line-ends and --out: see ttw
            help extract
 
@@ -166,6 +188,9 @@ A Mainfile set is seven files: localities (151 bytes a record), thoroughfares
 (68), descriptors (30), buildings (58), sub buildings (38), organisations (153)
 and addresses (88), each with a header and a trailer and without line ends.
 A PACK is a file that ttw pack has cut; - is one on standard input.
+A CSV file is CSV PAF: a row for each delivery point, 16 fields with commas
+between them, ended by CR LF, nothing quoted, no header, shorter than 4 GiB; -
+is one on standard input.
 ";
 
 const REFUSALS: &str = "\
@@ -193,6 +218,9 @@ const REFUSALS: &str = "\
     sectors
 12  not an outward code
 13  a pack of this edition has no suffix
+14  a row of a CSV file is malformed, first at that field; field 17 is what
+    stands behind the last one
+15  a field is longer than CSV PAF allows, or has a comma or a double quote
 27  an inward digit is above 9
 ";
 

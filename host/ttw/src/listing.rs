@@ -5,9 +5,12 @@ use crate::ask::{Refusal, Run, LABEL, NO_SUCH};
 /// How many labels of a run are asked for at a time.
 pub const AT_A_TIME: u64 = 1 << 14;
 
-/// A page of a listing has room for so many bytes, and so for fewer items than
-/// an answer can count.
+/// A page of a listing has room for so many bytes.
 pub const PAGE: usize = 1 << 20;
+
+/// So many labels, rows or items an answer can count where a run or a listing
+/// stops.
+pub const MOST_TOLD: u64 = (1 << 20) - 1;
 
 /// Room for so many labels, or for as many as are asked for at a time.
 pub fn room(labels: u64) -> Vec<u8> {
@@ -31,7 +34,7 @@ pub fn each_item<E>(
 ) -> Result<(), E> {
     let mut next = 1;
     loop {
-        let listed = ask(next, u64::MAX, page)?;
+        let listed = ask(next, MOST_TOLD, page)?;
         for item in items(&page[..listed.bytes]) {
             take(next, item)?;
             next += 1;

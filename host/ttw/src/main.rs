@@ -4,6 +4,7 @@
 mod arguments;
 mod commands;
 mod completion;
+mod csv;
 mod extract;
 mod files;
 mod help;
@@ -38,7 +39,7 @@ struct Command {
     run: fn(&Arguments) -> Outcome,
 }
 
-const COMMANDS: [Command; 7] = [
+const COMMANDS: [Command; 8] = [
     Command {
         name: "check",
         verbs: &[],
@@ -59,7 +60,7 @@ const COMMANDS: [Command; 7] = [
         name: "labels",
         verbs: &[],
         files: Some(2),
-        options: &["--view", "--code", "--nth", "--count", "--out"],
+        options: &["--view", "--code", "--nth", "--count", "--csv", "--out"],
         help: help::LABELS,
         run: commands::labels,
     },
@@ -78,6 +79,14 @@ const COMMANDS: [Command; 7] = [
         options: &["--nth", "--count", "--suffix", "--sectors", "--out"],
         help: help::SHOW,
         run: commands::show,
+    },
+    Command {
+        name: "csv",
+        verbs: &[],
+        files: Some(2),
+        options: &["--out"],
+        help: help::CSV,
+        run: csv::csv,
     },
     Command {
         name: "extract",
@@ -143,8 +152,12 @@ fn run_command(command: &Command, rest: &[OsString]) -> Outcome {
         return print_version();
     }
     let got = given.files.len();
-    if let Some(wanted) = command.files.filter(|wanted| *wanted != got) {
-        let words = format!("{} takes files: {wanted}, given: {got}", command.name);
+    let (wanted, with) = match given.csv {
+        Some(_) => (Some(0), " with --csv"),
+        None => (command.files, ""),
+    };
+    if let Some(wanted) = wanted.filter(|wanted| *wanted != got) {
+        let words = format!("{}{with} takes files: {wanted}, given: {got}", command.name);
         return Err(misused(&words, &format!("help {}", command.name)));
     }
     (command.run)(&given)

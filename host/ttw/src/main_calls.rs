@@ -52,6 +52,8 @@ declared! {
         bytes: *mut u64
     );
     ttw_main_build(code: *const u8, code_len: usize, out: *mut u8, out_len: usize);
+    ttw_main_csv_row(view: u64, out: *mut u8, out_len: usize);
+    ttw_main_csv_rows(first: u64, count: u64, out: *mut u8, out_len: usize, bytes: *mut u64);
 }
 
 #[link(name = "ttwibonal", kind = "static")]
@@ -217,4 +219,16 @@ pub fn code_list(
 pub fn build(set: Set, code: &[u8], out: &mut [u8]) -> u64 {
     let (room, length) = (out.as_mut_ptr(), out.len());
     asked!(ttw_main_build, set, code.as_ptr(), code.len(), room, length)
+}
+
+/// The row of a view as CSV PAF, written into `out`.
+pub fn csv_row(set: Set, view: u64, out: &mut [u8]) -> u64 {
+    asked!(ttw_main_csv_row, set, view, out.as_mut_ptr(), out.len())
+}
+
+/// The rows of so many views from `first` on, written into `out` one behind the
+/// other; `bytes` becomes the bytes that they take.
+pub fn csv_rows(set: Set, first: u64, count: u64, out: &mut [u8], bytes: &mut u64) -> u64 {
+    let (room, length) = (out.as_mut_ptr(), out.len());
+    asked!(ttw_main_csv_rows, set, first, count, room, length, bytes)
 }

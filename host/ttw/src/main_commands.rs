@@ -2,6 +2,7 @@
 
 use crate::arguments::Arguments;
 use crate::commands::{cut_packs, print_codes, print_labels};
+use crate::csv::write_rows;
 use crate::extract::{main_extract, OPTIONS};
 use crate::output::print;
 use crate::seven::Seven;
@@ -17,7 +18,7 @@ struct Verb {
 }
 
 /// The names of the commands on a set.
-pub const VERBS: [&str; 5] = ["check", "codes", "labels", "pack", "extract"];
+pub const VERBS: [&str; 6] = ["check", "codes", "labels", "pack", "csv", "extract"];
 
 const COMMANDS: [Verb; VERBS.len()] = [
     Verb {
@@ -42,6 +43,11 @@ const COMMANDS: [Verb; VERBS.len()] = [
     },
     Verb {
         name: VERBS[4],
+        options: &["--out"],
+        run: |given, files| write_rows(given, files, Seven::read_accepted),
+    },
+    Verb {
+        name: VERBS[5],
         options: &OPTIONS,
         run: main_extract,
     },

@@ -1,7 +1,7 @@
 //! The calls on a Mainfile set with their answers taken apart: a value, or a
 //! refusal.
 
-use crate::ask::{answer, fitting, printed, run, Refusal, Run};
+use crate::ask::{answer, fitting, printed, rows_run, run, Refusal, Run};
 use crate::main_calls::{self, Set, FILES};
 
 /// Where the address file stands in a set.
@@ -79,6 +79,16 @@ impl MainSet<'_> {
         out: &mut [u8],
     ) -> Result<Run, Refusal> {
         run(|bytes| main_calls::code_list(self.0, code, first, count, out, bytes))
+    }
+
+    /// The row of a view as CSV PAF.
+    pub fn csv_row(&self, view: u64) -> Result<Vec<u8>, Refusal> {
+        printed(|out| main_calls::csv_row(self.0, view, out))
+    }
+
+    /// The rows of so many views from `first` on, one behind the other in `out`.
+    pub fn csv_rows(&self, first: u64, count: u64, out: &mut [u8]) -> Result<Run, Refusal> {
+        rows_run(|bytes| main_calls::csv_rows(self.0, first, count, out, bytes))
     }
 
     /// The pack of a code; `likely` is a length that spares a second round where

@@ -97,6 +97,10 @@ impl Source for Pair {
         ask::code_list(&self.table, &self.points, code, first, count, out)
     }
 
+    fn csv_rows(&self, first: u64, count: u64, out: &mut [u8]) -> Result<Run, Refusal> {
+        ask::csv_rows(&self.table, &self.points, first, count, out)
+    }
+
     fn build(&self, code: &[u8]) -> Result<Vec<u8>, Refusal> {
         ask::build(&self.table, &self.points, code, Self::LIKELY_PACK)
     }

@@ -113,6 +113,10 @@ impl Source for Seven {
         self.set().code_list(code, first, count, out)
     }
 
+    fn csv_rows(&self, first: u64, count: u64, out: &mut [u8]) -> Result<Run, Refusal> {
+        self.set().csv_rows(first, count, out)
+    }
+
     fn build(&self, code: &[u8]) -> Result<Vec<u8>, Refusal> {
         self.set().build(code, Self::LIKELY_PACK)
     }

@@ -11,7 +11,7 @@ pub trait Source: Sync {
     /// How its refusals are said.
     const WORDS: Words;
 
-    /// Bytes of a page of a listing: each page costs a check of the files.
+    /// Bytes of a page of a listing or of rows: each page costs a check of the files.
     const PAGE: usize;
 
     /// Room that most packs fit into.
@@ -49,6 +49,9 @@ pub trait Source: Sync {
         count: u64,
         out: &mut [u8],
     ) -> Result<Run, Refusal>;
+
+    /// The rows of so many views from `first` on, as CSV PAF.
+    fn csv_rows(&self, first: u64, count: u64, out: &mut [u8]) -> Result<Run, Refusal>;
 
     /// The pack of a code.
     fn build(&self, code: &[u8]) -> Result<Vec<u8>, Refusal>;

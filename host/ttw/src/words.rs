@@ -52,7 +52,9 @@ fn told(refusal: &Refusal, subject: &str, files: &Files) -> String {
     let blamed = usize::from(refusal.file).checked_sub(1);
     let who = match blamed.and_then(|file| files.names.get(file)) {
         Some(name) => name.to_string(),
-        None if refusal.second > 0 => format!("{subject}: view {}", refusal.second),
+        None if refusal.second > 0 && refusal.number != MALFORMED_ROW => {
+            format!("{subject}: view {}", refusal.second)
+        }
         None => subject.to_string(),
     };
     let detail = match refusal.number {
@@ -87,6 +89,8 @@ fn reason(refusal: &Refusal, files: &Files) -> String {
         11 => damaged(detail).to_string(),
         12 => "not an outward code, such as AB1 or EC1N in capitals".to_string(),
         13 => "a pack of this edition has no suffix".to_string(),
+        MALFORMED_ROW => format!("row {detail} is malformed {}", at_field(refusal.second)),
+        15 => "a field is longer than CSV PAF allows, or has a comma or a double quote".to_string(),
         27 => "there is no inward digit above 9".to_string(),
         number => format!("refused with {number}, detail {detail}"),
     }
@@ -135,6 +139,40 @@ fn missing_in_a_set(field: u64) -> String {
 fn key(field: u64) -> Option<(&'static str, &'static str)> {
     let place = field.checked_sub(2)?;
     KEYS.get(usize::try_from(place).ok()?).copied()
+}
+
+/// The refusal whose second detail is a field.
+const MALFORMED_ROW: u8 = 14;
+
+/// The names of the fields of a row, in their order.
+const FIELDS: [&str; 16] = [
+    "postcode",
+    "post town",
+    "dependent locality",
+    "double dependent locality",
+    "thoroughfare",
+    "dependent thoroughfare",
+    "building number",
+    "building name",
+    "sub building name",
+    "PO box",
+    "department",
+    "organisation",
+    "UDPRN",
+    "postcode type",
+    "indicator",
+    "suffix",
+];
+
+/// Where a row is malformed.
+fn at_field(field: u64) -> String {
+    let place = field
+        .checked_sub(1)
+        .and_then(|place| usize::try_from(place).ok());
+    match place.and_then(|place| FIELDS.get(place)) {
+        Some(name) => format!("at field {field}, the {name}"),
+        None => "behind its last field".to_string(),
+    }
 }
 
 /// The step of the pack check that fails.

@@ -209,7 +209,7 @@ type Words = fn(&Refusal, &str) -> String;
 
 /// Each message of docs/REFUSALS.md, as the command makes it.
 fn messages() -> Vec<String> {
-    let all: [(Words, Refusal, &str); 25] = [
+    let all: [(Words, Refusal, &str); 30] = [
         (words, refusal(1, 1, 0, 0), "files"),
         (main_words, refusal(1, 4, 0, 0), "files"),
         (words, refusal(2, 1, 0, 1), "files"),
@@ -220,6 +220,7 @@ fn messages() -> Vec<String> {
         (words, refusal(7, 0, 0, 0), "view 42"),
         (words, refusal(7, 0, 0, 0), "AB1 number 0"),
         (words, refusal(7, 0, 0, 0), "point 3"),
+        (words, refusal(7, 0, 0, 0), "row 42"),
         (words, refusal(8, 0, 0, 1), "view 37"),
         (words, refusal(8, 0, 0, 2), "view 38"),
         (words, refusal(8, 0, 0, 3), "view 39"),
@@ -234,6 +235,10 @@ fn messages() -> Vec<String> {
         (words, refusal(11, 0, 0, 4), "pack"),
         (words, refusal(12, 0, 0, 0), "code ab1"),
         (words, refusal(13, 0, 0, 0), "point 1"),
+        (words, refusal(14, 0, 7, 2), "csv"),
+        (words, refusal(14, 0, 17, 2), "csv"),
+        (words, refusal(15, 0, 0, 0), "view 12"),
+        (words, refusal(15, 0, 0, 0), "csv"),
         (words, refusal(27, 0, 0, 0), "sector 10"),
     ];
     all.map(|(words, why, subject)| words(&why, subject))
@@ -252,7 +257,7 @@ fn the_page_of_refusals_has_the_words_that_a_user_sees() {
         .lines()
         .filter_map(|line| line.strip_prefix("## ")?.split(':').next())
         .collect();
-    let numbers = (1..=13).chain([27]);
+    let numbers = (1..=15).chain([27]);
     let numbers: Vec<String> = numbers.map(|number: u8| number.to_string()).collect();
     assert_eq!(headings, numbers);
 }
@@ -278,13 +283,14 @@ fn the_page_of_refusals_has_the_names_of_the_header() {
 }
 
 #[test]
-fn the_header_has_the_version_and_the_longest_label() {
+fn the_header_has_the_version_and_the_longest_label_and_row() {
     let header = text_of("include/ttwibonal.h");
     let version = env!("CARGO_PKG_VERSION");
     let longest = ttw::ask::LABEL;
     for line in [
         format!("#define TTW_VERSION \"{version}\""),
         format!("#define TTW_LABEL_MAX {longest}"),
+        format!("#define TTW_CSV_ROW_MAX {longest}"),
     ] {
         assert!(header.lines().any(|is| is == line), "{line}");
     }

@@ -30,7 +30,7 @@ fn topics(folder: &Folder) -> (Vec<String>, Vec<String>) {
         .1;
     let listed = listed.lines().next().expect("their line");
     let topics = listed.split(", ").map(str::to_string).collect();
-    assert_eq!(commands.len(), 7, "{commands:?}");
+    assert_eq!(commands.len(), 8, "{commands:?}");
     (commands, topics)
 }
 
@@ -91,7 +91,7 @@ fn the_man_page_has_its_sections() {
         "EXIT STATUS",
     ];
     assert_eq!(sections, expected);
-    assert_eq!(page.matches("\n.SS ttw ").count(), 7);
+    assert_eq!(page.matches("\n.SS ttw ").count(), 8);
 }
 
 /// The words of a text, one space between them.
@@ -186,7 +186,7 @@ fn bash_offers_the_options_that_help_names() {
 fn bash_offers_what_is_done_with_a_set_and_then_files() {
     let folder = Folder::new();
     folder.put("code list", b"");
-    let verbs = ["check", "codes", "labels", "pack", "extract"];
+    let verbs = ["check", "codes", "labels", "pack", "csv", "extract"];
     assert_eq!(set(offered(&folder, &["ttw", "main", ""])), set(verbs));
     assert_eq!(offered(&folder, &["ttw", "main", "co"]), ["codes"]);
     let files = offered(&folder, &["ttw", "main", "codes", "co"]);
@@ -205,6 +205,7 @@ fn bash_offers_files_where_a_file_is_taken() {
         &["ttw", "show", "a.pack", "--out", "ch"],
         &["ttw", "show", "a.pack", "--out", "=", "ch"],
         &["ttw", "pack", "a", "b", "--all", "ch"],
+        &["ttw", "labels", "--csv", "ch"],
     ] {
         assert_eq!(set(offered(&folder, words)), set(both), "{words:?}");
     }

@@ -112,7 +112,7 @@ fn a_file_of_none_of_the_kinds_is_named() {
 fn commands_and_options_that_there_are_not() {
     let folder = desk(&samples::main_set().files);
     let see = "see: ttw help main";
-    let none = format!("ttw: main needs one of: check, codes, labels, pack, extract; {see}");
+    let none = format!("ttw: main needs one of: check, codes, labels, pack, csv, extract; {see}");
     folder.ttw(&["main"]).only_tells(2, &none);
     let told = format!("ttw: there is no command main show; {see}");
     folder.ttw(&["main", "show", "set"]).only_tells(2, &told);

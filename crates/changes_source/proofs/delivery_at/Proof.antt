@@ -33,30 +33,31 @@ cast-t14 c =
     let p = c .before .before .before .before in
     omega (arith, c .value-of3 .ensures, value-small (p .part-of3 .result .now))
 
-add-t18 : tie.Need-add-t18
-add-t18 c = omega (arith, at-fits (c .before .before .before .before .before .before .before .before .before))
-
-add-t19 : tie.Need-add-t19
-add-t19 c = omega (arith, at-fits (c .before .before .before .before .before .before .before .before .before))
-
 add-t20 : tie.Need-add-t20
-add-t20 c = omega (arith, at-fits (c .before .before .before .before .before .before .before .before .before))
+add-t20 c = omega (arith, at-fits (c .before .before .before .before .before .before .before .before .before .before))
 
-add-t23 : tie.Need-add-t23
-add-t23 c =
-    omega (arith, at-fits (c .before .before .before .before .before .before .before .before .before .before))
+add-t21 : tie.Need-add-t21
+add-t21 c = omega (arith, at-fits (c .before .before .before .before .before .before .before .before .before .before))
+
+add-t22 : tie.Need-add-t22
+add-t22 c = omega (arith, at-fits (c .before .before .before .before .before .before .before .before .before .before))
+
+add-t25 : tie.Need-add-t25
+add-t25 c =
+    omega (arith, at-fits (c .before .before .before .before .before .before .before .before .before .before .before))
 
 returns : tie.Need-returns
 unfolding deliveryAt
 returns c =
-    let organisation-read = c .before .before .before in
+    let organisation-read = c .before .before .before .before in
     let number-read = organisation-read .before .before in
     let organisation-cut = number-read .before .before in
     let number-cut = organisation-cut .before .before in
     rw (
       c .needed-next .ensures,
-      c .before .byte-of2 .ensures,
-      c .before .before .byte-of .ensures,
+      c .before .byte-of3 .ensures,
+      c .before .before .byte-of2 .ensures,
+      c .before .before .before .byte-of .ensures,
       organisation-read .value-of3 .ensures,
       organisation-read .before .value-of2 .ensures,
       number-read .value-of .ensures,
@@ -72,5 +73,5 @@ pub delivery-at-spec : {M : Type 1} → statement M
 delivery-at-spec =
     tie.close
     (tie.spec (search needs) (search needs) (search needs) (search needs) (search needs) (search needs)
-    (search needs) cast-t10 (search needs) cast-t12 (search needs) cast-t14 (search needs) (search needs) add-t18
-    add-t19 add-t20 (search needs) add-t23 returns)
+    (search needs) cast-t10 (search needs) cast-t12 (search needs) cast-t14 (search needs) (search needs) (search needs) add-t20
+    add-t21 add-t22 (search needs) add-t25 returns)

@@ -31,10 +31,15 @@ returns-10 c = ap (withView (c .before .before .before .args .view)) (sym (c .be
 returns-11 : tie.Need-returns-11
 returns-11 c = ap (withView (c .before .before .before .args .view)) (sym (c .before .reason8 .given .1))
 
+returns-14 : tie.Need-returns-14
+returns-14 c = ap (withView (c .before .before .before .args .view)) (sym (c .before .reason9 .given .1))
+
 pub with-view-spec : {M : Type 1} → statement M
 with-view-spec =
     tie.close
     (tie.spec
+    (λ c. search needs)
+    (λ c. search needs)
     (λ c. search needs)
     (λ c. search needs)
     (λ c. search needs)
@@ -61,5 +66,7 @@ with-view-spec =
     returns-10
     returns-11
     (λ c. search needs)
+    (λ c. search needs)
+    returns-14
     (λ c. search needs)
     (λ c. search needs))

@@ -1,8 +1,9 @@
-//! Labels and listings printed from files.
+//! Labels, listings and rows printed from files.
 
 use super::check::{is_live_of, needed, views_in};
 use super::rows::{number_in, rows_of};
 use super::Files;
+use crate::plain_csv::{row, Tail};
 use crate::plain_fields::check_code;
 use crate::plain_label::{from, item, label, only, run, trimmed, Sheet};
 use paper::{Elements, Refusal, Run};
@@ -76,6 +77,23 @@ impl<'a> Files<'a> {
                 sheet.put(&[b' ', self.points[place][40], b'\n']);
             };
             item(heading, self.elements(place), out)
+        }))
+    }
+
+    pub fn row(&self, view: u64, out: &mut [u8]) -> Result<usize, Refusal> {
+        only(self.rows(view, 1, out)?)
+    }
+
+    pub fn rows(&self, first: u64, count: u64, out: &mut [u8]) -> Ran {
+        let views = self.views(None, first)?;
+        Ok(run(views, count, out, |(_, place), out| {
+            let view = &self.points[place];
+            let tail = Tail {
+                postcode_type: view[23],
+                indicator: view[113],
+                suffix: &view[21..23],
+            };
+            row(&self.elements(place)?, tail, out)
         }))
     }
 }

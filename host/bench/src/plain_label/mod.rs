@@ -1,11 +1,11 @@
-//! Labels, runs of them and listings, as both plain versions print them: that of
-//! the calls on files and that of the calls on packs.
+//! Labels, runs of them and listings, as all plain versions print them: those of
+//! the calls on files, on packs and on CSV files.
 
 mod print;
 mod runs;
 mod sheet;
 
-pub use runs::{from, item, label, only, run};
+pub use runs::{from, item, label, lent, only, run};
 pub use sheet::Sheet;
 
 /// A text without its padding, eight bytes at a time.

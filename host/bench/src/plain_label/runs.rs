@@ -1,4 +1,4 @@
-//! Labels and items of a listing, one or many, in a lent buffer.
+//! Labels, rows and items of a listing, one or many, in a lent buffer.
 
 use super::print::write;
 use super::sheet::Sheet;
@@ -38,7 +38,7 @@ fn refused(why: Refusal, sheet: &mut Sheet) {
 
 /// Writes what takes at most so many bytes; in a buffer that may be too short, by
 /// way of one that is not.
-fn lent<const MOST: usize>(
+pub fn lent<const MOST: usize>(
     out: &mut [u8],
     write: impl FnOnce(&mut Sheet),
 ) -> Result<usize, Refusal> {

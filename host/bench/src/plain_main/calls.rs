@@ -90,6 +90,15 @@ pub fn code_list(
     packed_run(run, bytes)
 }
 
+pub fn csv_row(set: Set, view: u64, out: &mut [u8]) -> u64 {
+    answer(Main::accept(set).and_then(|main| main.row(view, out)))
+}
+
+pub fn csv_rows(set: Set, first: u64, count: u64, out: &mut [u8], bytes: &mut u64) -> u64 {
+    let run = Main::accept(set).and_then(|main| main.rows(first, count, out));
+    packed_run(run, bytes)
+}
+
 pub fn build(set: Set, code: &[u8], out: &mut [u8]) -> u64 {
     answer(Main::accept(set).and_then(|main| main.build(code, out)))
 }

@@ -1,8 +1,9 @@
-//! Labels and listings printed from a set.
+//! Labels, listings and rows printed from a set.
 
 use super::check::{eight, Address};
 use super::rows::{number_in, Found, ORGANISATION, SHELVES, TEXTS};
 use super::Main;
+use crate::plain_csv::{row, Tail};
 use crate::plain_fields::check_code;
 use crate::plain_label::{from, item, label, only, run, trimmed, Sheet};
 use paper::{Elements, Refusal, Run};
@@ -89,6 +90,23 @@ impl<'a> Main<'a> {
                 sheet.byte(b'\n');
             };
             item(heading, self.elements(place), out)
+        }))
+    }
+
+    pub fn row(&self, view: u64, out: &mut [u8]) -> Result<usize, Refusal> {
+        only(self.rows(view, 1, out)?)
+    }
+
+    pub fn rows(&self, first: u64, count: u64, out: &mut [u8]) -> Ran {
+        let views = self.views(None, first)?;
+        Ok(run(views, count, out, |place, out| {
+            let address = &self.addresses[place];
+            let tail = Tail {
+                postcode_type: address[77],
+                indicator: address[81],
+                suffix: &address[79..81],
+            };
+            row(&self.elements(place)?, tail, out)
         }))
     }
 }

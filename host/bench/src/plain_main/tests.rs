@@ -35,6 +35,8 @@ fn same_views(set: Set, count: u64) {
         same_call!(rooms, |out, _| label(set, view, out));
         same_call!(rooms, |out, bytes| labels(set, view, 3, out, bytes));
         same_call!(rooms, |out, bytes| list(set, view, 3, out, bytes));
+        same_call!(rooms, |out, _| csv_row(set, view, out));
+        same_call!(rooms, |out, bytes| csv_rows(set, view, 3, out, bytes));
     }
 }
 

@@ -1,6 +1,6 @@
 //! Makers of test data: single records and whole files from plain structs,
-//! random accepted pairs and Mainfile sets, damaged files, packs, outward codes,
-//! the guide's examples and the samples. All are repeatable: the same seed gives
+//! random accepted pairs and Mainfile sets, damaged files, packs, CSV files,
+//! outward codes, the guide's examples and the samples. All are repeatable: the same seed gives
 //! the same bytes.
 //!
 //! Records are written here field by field, in the order and with the widths of
@@ -9,6 +9,7 @@
 
 mod codes;
 mod country;
+mod csv;
 mod damage;
 mod editions;
 pub mod guide;
@@ -24,6 +25,7 @@ mod whole;
 
 pub use codes::{bad_outward, inward, nth_suffix, outward, suffix};
 pub use country::Country;
+pub use csv::{csv_file, csv_rows, damaged_csv, full_csv_row, CsvRow, DamagedCsv};
 pub use damage::{
     damaged_main, damaged_points, damaged_table, main_breaks, point_breaks, scratch, table_breaks,
     Break, Damaged, Place,

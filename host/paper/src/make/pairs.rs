@@ -28,6 +28,29 @@ impl Pair {
             points,
         }
     }
+
+    /// The pair with texts that a row of CSV PAF can carry: without commas and
+    /// quotes, and with descriptors that leave room for any name.
+    pub fn carried(mut self) -> Pair {
+        for row in &mut self.rows {
+            row.texts.iter_mut().for_each(carry);
+            if row.row_type == 3 {
+                row.texts[0].truncate(19);
+            }
+        }
+        for view in &mut self.views {
+            carry(&mut view.po_box);
+            if let Some(follower) = &mut view.follower {
+                carry(&mut follower.organisation);
+                carry(&mut follower.department);
+            }
+        }
+        Pair::new(self.rows, self.views)
+    }
+}
+
+fn carry(text: &mut String) {
+    *text = text.replace([',', '"'], "-");
 }
 
 fn sequence(view: &View) -> Vec<u8> {

@@ -1,11 +1,12 @@
 //! The files in `samples/`, from their meaning: every row of the table of
 //! premises with and without a street, every line present and absent,
 //! organisations of both kinds, missing keys, forbidden combinations; in the pair
-//! all four letters too. And the packs that are kept beside them.
+//! all four letters too. And the CSV file and the packs that are kept beside them.
 
 use super::{
     nth_suffix, Change, Edition, MainSet, Organisation, Pair, TableRow, View, FORBIDDEN, MISSING,
 };
+use crate::csv::row;
 use crate::label_of;
 use std::fs;
 use std::path::{Path, PathBuf};
@@ -299,6 +300,39 @@ fn refused() -> Vec<View> {
             view
         });
     changed.collect()
+}
+
+/// Rows that no view gives: with a UDPRN, with padding and leading zeros and without
+/// an indicator, with every field, and two that are refused a label.
+const BY_HAND: [&str; 5] = [
+    "AB1 9ZZ,HARTWELL BAY,,,QUARRY LANE,,3,,,,,BAY BATTERIES,12345678,S,Y,2B",
+    "AB1 9ZZ,HARTWELL BAY  , ,,QUARRY LANE ,,0012,,,,,,,S,,2D",
+    "EC1N 2AA,HARTWELL BAY,NORTH END,MILL GREEN,QUARRY LANE,KILN COURT,0000,110-114,ATTIC FLAT,70,\
+     METERS,GRID OFFICE,99999999,L, ,1A",
+    "AB1 9ZZ,HARTWELL BAY,,,QUARRY LANE,,,,FLAT 1,,,,,S, ,2E",
+    "AB1 9ZZ,HARTWELL BAY,,,,KILN COURT,,,,,,,,S, ,2F",
+];
+
+/// The CSV file in `samples/rows.csv`: the rows of the pair's views, but of those
+/// that are refused one, and behind them those by hand.
+pub fn csv() -> Vec<u8> {
+    let Pair {
+        table,
+        points,
+        views,
+        ..
+    } = pair();
+    let mut rows = Vec::new();
+    for view in 1..=views.len() as u64 {
+        let mut out = [0; 499];
+        if let Ok(length) = row(&table, &points, view, &mut out) {
+            rows.extend(&out[..length]);
+        }
+    }
+    for row in BY_HAND {
+        rows.extend(row.bytes().chain(*b"\r\n"));
+    }
+    rows
 }
 
 /// The packs in `samples/packs` by their names without `.pack`, the same for each

@@ -25,9 +25,9 @@ pub const TTW: &str = env!("CARGO_BIN_EXE_ttw");
 /// How a run ends in which the one pack could not be written.
 pub const NOT_WRITTEN: &str = "packs written: 0, codes refused: 0, packs not written: 1";
 
-/// Everything that prints labels of a pair or a pack to their end, or sectors, each way once, in a folder with a pair and
+/// Everything that prints labels or rows of a pair or labels of a pack to their end, or sectors, each way once, in a folder with a pair and
 /// its pack.
-pub const PRINTING_LABELS: [&str; 12] = [
+pub const PRINTING_LABELS: [&str; 13] = [
     "labels changes1 changes2",
     "labels changes1 changes2 --code AB1",
     "labels changes1 changes2 --view 1",
@@ -40,6 +40,7 @@ pub const PRINTING_LABELS: [&str; 12] = [
     "show AB1.pack --suffix",
     "show AB1.pack --suffix --nth 1",
     "show AB1.pack --sectors",
+    "csv changes1 changes2",
 ];
 
 /// The names of a set's files in its folder, in the set's order.

@@ -5,29 +5,14 @@ use mathlib.Core.Path.{_≡_, sym, ap₂, _∙_}
 use mathlib.Core.List.{List}
 use native.Mathlib.Omega.{arith}
 use lib.ListN.{length}
-use Rattle.source.specs.declared.DeliveryPoint.{DeliveryPoint}
-use Rattle.source.specs.Delivery.{askedOf, rowsFor, refusalIn}
-use Rattle.shelf.specs.declared.Shelf.{Shelf}
-use Rattle.shelf.specs.Search.{found}
-use Rattle.source_spans.specs.Spans.{elementsBy}
-use Rattle.changes_source.specs.Rows.{tableShelf}
+use Rattle.source.specs.Delivery.{refusalIn}
 use Rattle.changes_source.proofs.Table.{table-fits}
 use Rattle.changes_source.specs.Delivery.{deliveryAt}
 use Rattle.changes_meaning.proofs.Says.{within-at}
 use Rattle.changes_meaning.proofs.Meant.{rowsAt, resolved-fine, resolved-bad}
-use Rattle.changes_label.proofs.Laws.{no-place, some-place}
+use Rattle.changes_label.proofs.Laws.{no-place, some-place, rows-as, elements-as}
 use Rattle.changes_label.proofs.inner.label_at.Statement.{statement}
 use Rattle.changes_label.proofs.inner.label_at.Tie as tie
-
--- what is read and looked up with equals
-rows-as : (s : Shelf) (p : DeliveryPoint) (table points : List ℕ) (i : ℕ) → s ≡ tableShelf → p ≡ deliveryAt points i
-    → rowsFor (found s table) (askedOf p) ≡ rowsAt table points i
-rows-as s p table points i e f = ap₂ (λ (z : Shelf) (q : DeliveryPoint). rowsFor (found z table) (askedOf q)) e f
-
-elements-as : {s z : Shelf} {p q : DeliveryPoint} {rows others : List ℕ} (table points : List ℕ) → s ≡ z → p ≡ q
-    → rows ≡ others
-    → elementsBy s table points p rows ≡ elementsBy z table points q others
-elements-as table points e f g = cc
 
 returns : tie.Need-returns
 returns c =

@@ -18,15 +18,15 @@ use Rattle.mainfile_runs.proofs.shown.item_at.Statement.{statement}
 use Rattle.mainfile_runs.proofs.shown.item_at.Tie as tie
 
 slice-aggregate-heading : tie.Need-slice-aggregate-heading
-slice-aggregate-heading c = sym (length-take-le _ _ (c .before .before .view-number .ensures .within))
+slice-aggregate-heading c = sym (length-take-le _ _ (c .before .before .worded-line .ensures .within))
 
 -- once the room for the line is found
 module _ (c : tie.After-room-before) where
-  abbrev line : tie.After-view-number
+  abbrev line : tie.After-worded-line
   line = c .before .before .before
 
   abbrev start : tie.Start
-  start = line .before .before .before .before .before .before .before .before .before
+  start = line .before .before .before .before .before .before .before .before .before .before
 
   abbrev files : Set
   files =
@@ -35,7 +35,7 @@ module _ (c : tie.After-room-before) where
       (a .organisations .now) (a .addresses .now)
 
   room : c .room-before .result ≡ before (numberLine (start .args .place)) (length (start .args .out .now))
-  room = rw (line .view-number .ensures .is) at (c .room-before .ensures)
+  room = rw (line .worded-line .ensures .is) at (c .room-before .ensures)
 
   within : c .room-before .result ≤ length (start .args .out .now)
   within = omega (arith, room, cut-within (numberLine (start .args .place)) (start .args .out .now))
@@ -60,7 +60,7 @@ headed-item-requires : tie.Need-headed-item-requires
 headed-item-requires c κs =
     let l = c .before .before .before in
     let s = start (found l) in
-    let written = line (found l) .view-number .ensures in (
+    let written = line (found l) .worded-line .ensures in (
       rw (written .is) (written .short),
       asked-small (files (found l)) (s .args .place) (s .args .out .now) (s .pre) (asked l),
     )
@@ -71,7 +71,7 @@ returns c =
     let l = whole .before .before .before .before in
     let s = start (found l) in
     let a = s .args in
-    rw (line (found l) .view-number .ensures .is) at (whole .headed-item .ensures)
+    rw (line (found l) .worded-line .ensures .is) at (whole .headed-item .ensures)
     ∙ (ap (headed (numberLine (a .place)) (l .label-at .result))
     (given-back (a .out .now) _ (found l .room-before .result)
     ∙ ap (λ (n : ℕ). take n (a .out .now) ++ l .label-at .last .1 .1 .1 .1 .1 .1 .1 .1 .0) (room (found l)))
@@ -80,5 +80,5 @@ returns c =
 pub item-at-spec : {M : Type 1} → statement M
 item-at-spec =
     tie.close
-    (tie.spec (search needs) (search needs) slice-aggregate-heading (search needs) within part-label-at-start
+    (tie.spec (search needs) (search needs) (search needs) slice-aggregate-heading (search needs) within part-label-at-start
     (search needs) (λ c κs. search needs) headed-item-requires (search needs) returns)

@@ -40,30 +40,31 @@ cast-t10 c =
     let bound = part-bound (p .before .before .before .before .address-record .result .now) 45 49 in
     omega (arith, c .value-of .ensures, four-digits (p .part-of .result .now) (rw (p .part-of .ensures) bound))
 
-add-t17 : tie.Need-add-t17
-add-t17 c = omega (arith, at-fits (c .before .before .before .before .before .before .before))
+add-t19 : tie.Need-add-t19
+add-t19 c = omega (arith, at-fits (c .before .before .before .before .before .before .before .before))
 
-add-t18 : tie.Need-add-t18
-add-t18 c = omega (arith, at-fits (c .before .before .before .before .before .before .before))
+add-t20 : tie.Need-add-t20
+add-t20 c = omega (arith, at-fits (c .before .before .before .before .before .before .before .before))
 
-mul-t20 : tie.Need-mul-t20
-mul-t20 c = omega (arith, row-fits (c .before .before .before .before .before .before .before))
+mul-t22 : tie.Need-mul-t22
+mul-t22 c = omega (arith, row-fits (c .before .before .before .before .before .before .before .before))
 
-add-t21 : tie.Need-add-t21
-add-t21 c = omega (arith, row-fits (c .before .before .before .before .before .before .before))
+add-t23 : tie.Need-add-t23
+add-t23 c = omega (arith, row-fits (c .before .before .before .before .before .before .before .before))
 
 returns : tie.Need-returns
 unfolding deliveryAt
 returns c =
     let b2 = c .before in
-    let k2 = b2 .before .before in
+    let k2 = b2 .before .before .before in
     let v = k2 .before .before in
     let keys = v .before .before in
     let s = keys .before .before in
     rw (
       c .needs-row .ensures,
-      b2 .byte-of2 .ensures,
-      b2 .before .byte-of .ensures,
+      b2 .byte-of3 .ensures,
+      b2 .before .byte-of2 .ensures,
+      b2 .before .before .byte-of .ensures,
       k2 .key-in2 .ensures,
       k2 .before .key-in .ensures,
       v .value-of .ensures,
@@ -75,4 +76,4 @@ returns c =
     ) refl
 
 pub delivery-at-spec : {M : Type 1} → statement M
-delivery-at-spec = tie.close (tie.spec (λ c κs. search needs) (λ c κs. search needs) (λ c κs. search needs) (λ c κs. search needs) (λ c κs. search needs) (λ c κs. search needs) cast-t10 (λ c κs. search needs) (λ c κs. search needs) (λ c κs. search needs) (λ c κs. search needs) (λ c. search needs) add-t17 add-t18 mul-t20 add-t21 (λ c κs. search needs) returns)
+delivery-at-spec = tie.close (tie.spec (λ c κs. search needs) (λ c κs. search needs) (λ c κs. search needs) (λ c κs. search needs) (λ c κs. search needs) (λ c κs. search needs) cast-t10 (λ c κs. search needs) (λ c κs. search needs) (λ c κs. search needs) (λ c κs. search needs) (λ c κs. search needs) (λ c. search needs) add-t19 add-t20 mul-t22 add-t23 (λ c κs. search needs) returns)

@@ -1,0 +1,4 @@
+pub mod Rows
+pub mod Fields
+pub mod Forms
+pub mod Worked

@@ -1,0 +1,11 @@
+pub mod Texts
+pub mod Numbers
+pub mod Codes
+pub mod Forms
+pub mod Labels
+pub mod Entries
+pub mod Files
+pub mod Resolved
+pub mod Views
+pub mod Sources
+pub mod Worked

@@ -1,0 +1,4 @@
+pub mod Cut
+pub mod FormLaws
+pub mod Reading
+pub mod Checked

@@ -1,0 +1,4 @@
+pub mod Ending
+pub mod Pieces
+pub mod Carried
+pub mod Placed
