@@ -1,7 +1,7 @@
 // Where the parts of a book stand.
 
 // A book: its slots, then the count.
-#[derive(Drop)]
+#[derive(Clone, Copy)]
 pub struct Book;
 
 impl Book {

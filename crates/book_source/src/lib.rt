@@ -7,7 +7,7 @@ ghost use Rattle.book_source.specs.Source.{book_of};
 use refusal::Answer;
 
 // The starts of records in a book, so many of them.
-#[derive(Drop)]
+#[derive(Clone, Copy)]
 pub struct Starts {
     pub at: [u32; 256],
     pub many: usize,

@@ -10,7 +10,7 @@ ghost use Rattle.build.specs.Placed.{started, Placed};
 use shelf::Shelf;
 
 // So many rows in so many bytes.
-#[derive(Drop)]
+#[derive(Clone, Copy)]
 pub struct Sums {
     pub rows: usize,
     pub bytes: usize,

@@ -11,7 +11,7 @@ use pack_read::PackPoint;
 use source::DeliveryPoint;
 
 // Where the rows of the seven keys of a delivery point stand, in offset order; `PackPoint::ABSENT` where a key is zero.
-#[derive(Drop)]
+#[derive(Clone, Copy)]
 pub struct Offsets {
     pub of_keys: [usize; 7],
 }

@@ -9,7 +9,7 @@ use file_record::{byte_of, part_of};
 
 // A row: its first malformed field, 0 where there is none, and then whether no field is too long, and where the row behind it
 // begins.
-#[derive(Drop)]
+#[derive(Clone, Copy)]
 pub struct Judged {
     pub fault: usize,
     pub fits: bool,

@@ -11,14 +11,14 @@ use file_record::part_of;
 use label::Span;
 
 // A text, and where the field behind it begins.
-#[derive(Drop)]
+#[derive(Clone, Copy)]
 pub struct Cut {
     pub span: Span,
     pub next: usize,
 }
 
 // The fields from post town to dependent thoroughfare, and where the number begins.
-#[derive(Drop)]
+#[derive(Clone, Copy)]
 pub struct Places {
     pub town: Span,
     pub dependent_locality: Span,
@@ -29,7 +29,7 @@ pub struct Places {
 }
 
 // Those from building number to organisation.
-#[derive(Drop)]
+#[derive(Clone, Copy)]
 pub struct Premises {
     pub number: u16,
     pub building: Span,

@@ -18,7 +18,7 @@ use refusal::{Answer, Reason};
 
 // What a row says beside the texts and the number: the postcode type, the small user organisation indicator and the two
 // bytes of the delivery point suffix.
-#[derive(Drop)]
+#[derive(Clone, Copy)]
 pub struct Ending {
     pub kind: u8,
     pub indicator: bool,

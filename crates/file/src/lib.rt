@@ -7,7 +7,7 @@ pub use follow::needed_next;
 pub use sequence::is_front_above;
 
 // A kind of file; `Formats.format_of` gives each its format.
-#[derive(Drop)]
+#[derive(Clone, Copy)]
 pub enum Kind {
     Table,
     Points,
@@ -15,7 +15,7 @@ pub enum Kind {
 }
 
 // The files of a Mainfile set, in their order; `Mainfile.main_format` gives each its format.
-#[derive(Drop)]
+#[derive(Clone, Copy)]
 pub enum MainKind {
     Localities,
     Thoroughfares,

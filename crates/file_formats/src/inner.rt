@@ -9,7 +9,7 @@ use file::{Kind, is_front_above};
 use file_record::{Point, Table};
 
 // The numbers of a format: the file to blame, the bytes of a record, the most records.
-#[derive(Drop)]
+#[derive(Clone, Copy)]
 pub struct Numbers {
     pub file: usize,
     pub width: usize,

@@ -2,7 +2,7 @@
 ghost use Rattle.std.specs.Prelude.{◌≡◌};
 
 // What the five types of a table record share, and where the text of types 2 to 5 ends.
-#[derive(Drop)]
+#[derive(Clone, Copy)]
 pub struct Table;
 
 impl Table {
@@ -32,7 +32,7 @@ impl Table {
 }
 
 // A table record of type 1.
-#[derive(Drop)]
+#[derive(Clone, Copy)]
 pub struct Locality;
 
 impl Locality {
@@ -46,7 +46,7 @@ impl Locality {
 }
 
 // What the three types of a point record share.
-#[derive(Drop)]
+#[derive(Clone, Copy)]
 pub struct Point;
 
 impl Point {
@@ -78,7 +78,7 @@ impl Point {
 }
 
 // A point record of type 1.
-#[derive(Drop)]
+#[derive(Clone, Copy)]
 pub struct View;
 
 impl View {
@@ -112,7 +112,7 @@ impl View {
 }
 
 // A point record of type 2 or 3.
-#[derive(Drop)]
+#[derive(Clone, Copy)]
 pub struct Organisation;
 
 impl Organisation {
@@ -124,7 +124,7 @@ impl Organisation {
 }
 
 // A place in a file, counted in records; the header is record 0.
-#[derive(Drop)]
+#[derive(Clone, Copy)]
 pub struct Cursor {
     pub at: usize,
 }

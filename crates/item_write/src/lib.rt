@@ -9,7 +9,7 @@ use pieces::{point_at, refused_at, spaced_at, view_at};
 use refusal::Reason;
 
 // A line, in the front of its buffer: none is longer than that.
-#[derive(Drop)]
+#[derive(Clone, Copy)]
 pub struct Line {
     pub bytes: [u8; 80],
     pub len: usize,

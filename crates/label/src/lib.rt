@@ -9,7 +9,7 @@ use field::lesser;
 pub use shape::{Front, Lines, Shape};
 
 // Where a text stands: so many bytes at a place of the first slice or of the second.
-#[derive(Drop)]
+#[derive(Clone, Copy)]
 pub struct Span {
     pub first: bool,
     pub at: usize,
@@ -17,7 +17,7 @@ pub struct Span {
 }
 
 // Where the elements of a label stand. A text of no bytes is absent, and so is the number 0.
-#[derive(Drop)]
+#[derive(Clone, Copy)]
 pub struct Spans {
     pub organisation: Span,
     pub department: Span,

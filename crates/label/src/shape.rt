@@ -2,7 +2,7 @@
 use crate::Span;
 
 // How sub building, building name and number stand on a label.
-#[derive(Drop)]
+#[derive(Clone, Copy)]
 pub enum Shape {
     Bare,
     NameLine,
@@ -16,7 +16,7 @@ pub enum Shape {
 }
 
 // The premises lines: one of a text with another beside it, and one below.
-#[derive(Drop)]
+#[derive(Clone, Copy)]
 pub struct Lines {
     pub upper: Span,
     pub beside: Span,
@@ -24,7 +24,7 @@ pub struct Lines {
 }
 
 // The front: the number, a text at once after it, another after a space; and whether it is still to be written.
-#[derive(Drop)]
+#[derive(Clone, Copy)]
 pub struct Front {
     pub pending: bool,
     pub number: u16,

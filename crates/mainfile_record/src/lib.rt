@@ -1,7 +1,7 @@
 // Where the fields of the Mainfile's records stand: the first byte of each, counted from 0. A field ends where the next begins.
 
 // A record of the localities file.
-#[derive(Drop)]
+#[derive(Clone, Copy)]
 pub struct Locality;
 
 impl Locality {
@@ -17,7 +17,7 @@ impl Locality {
 }
 
 // The records of the files of one text.
-#[derive(Drop)]
+#[derive(Clone, Copy)]
 pub struct Text;
 
 impl Text {
@@ -35,7 +35,7 @@ impl Text {
 }
 
 // A record of the organisations file.
-#[derive(Drop)]
+#[derive(Clone, Copy)]
 pub struct Organisation;
 
 impl Organisation {
@@ -51,7 +51,7 @@ impl Organisation {
 }
 
 // A record of the address file.
-#[derive(Drop)]
+#[derive(Clone, Copy)]
 pub struct Address;
 
 impl Address {

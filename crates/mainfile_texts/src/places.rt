@@ -6,7 +6,7 @@ use label::{Span, Spans};
 use source::DeliveryPoint;
 
 // Each behind the one before, as wide as its field.
-#[derive(Drop)]
+#[derive(Clone, Copy)]
 pub struct Places;
 
 impl Places {

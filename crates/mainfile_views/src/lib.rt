@@ -23,7 +23,7 @@ pub fn end_in(addresses: &[u8], code: &[u8]) -> usize
 }
 
 // Records that stand together: the first of them, and how many they are.
-#[derive(Drop)]
+#[derive(Clone, Copy)]
 pub struct Stretch {
     pub first: usize,
     pub many: usize,

@@ -2,7 +2,7 @@
 pub mod inner;
 
 // How many points have each inward digit, 0 to 9.
-#[derive(Drop)]
+#[derive(Clone, Copy)]
 pub struct Counts {
     pub of_digits: [usize; 10],
 }

@@ -1,7 +1,7 @@
 // Where the parts of a pack stand. A part ends where the next begins.
 
 // A point: its postcode, what its edition puts behind it, and the rest.
-#[derive(Drop)]
+#[derive(Clone, Copy)]
 pub struct PackPoint;
 
 impl PackPoint {
@@ -37,7 +37,7 @@ impl PackPoint {
 }
 
 // The trailer: its fields, what its edition puts behind them, and the edition as its last byte.
-#[derive(Drop)]
+#[derive(Clone, Copy)]
 pub struct PackTrailer;
 
 impl PackTrailer {
@@ -65,7 +65,7 @@ impl PackTrailer {
 }
 
 // The edition that is built, and the widths of its points and its trailer.
-#[derive(Drop)]
+#[derive(Clone, Copy)]
 pub struct NewestPack;
 
 impl NewestPack {

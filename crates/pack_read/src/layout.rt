@@ -6,7 +6,7 @@ ghost use Rattle.pack_read.specs.Laid.{Laid, LaidIn};
 use crate::kinds::{PackPoint, PackTrailer};
 
 // The widths of an edition: a point up to its rest, a point, the trailer.
-#[derive(Drop)]
+#[derive(Clone, Copy)]
 pub struct Layout {
     pub edition: u8,
     pub rest: usize,

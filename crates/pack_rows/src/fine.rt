@@ -14,7 +14,7 @@ use pack_read::inner::text_end;
 
 // A step over a row: whether the row is fine as far as its ends and lengths go, where it ends, and how many of its bytes
 // outside of its texts may stand in no text.
-#[derive(Drop)]
+#[derive(Clone, Copy)]
 pub struct Step {
     pub fine: bool,
     pub end: usize,

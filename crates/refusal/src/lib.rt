@@ -6,7 +6,7 @@ ghost use Rattle.refusal.specs.Packed.{word, packed};
 
 // The refusals from 17 on, which have no details: a type of their own, since a match of more cases than `Reason` has is read
 // by no proof.
-#[derive(Drop)]
+#[derive(Clone, Copy)]
 pub enum LaterReason {
     InsertedTwice,
     NotPresent,
@@ -18,7 +18,7 @@ pub enum LaterReason {
 
 // Why a call refuses, a case for each number of the documents, with its details. Records, rows, views, rules, fields
 // and steps are counted from 1, and so are the bytes of a record. `view` is the view at which building stopped, and 0 where a single label was asked.
-#[derive(Drop)]
+#[derive(Clone, Copy)]
 pub enum Reason {
     Length,
     Header,
@@ -40,7 +40,7 @@ pub enum Reason {
 }
 
 // What a check says: of a record, of a file, of a delivery point.
-#[derive(Drop)]
+#[derive(Clone, Copy)]
 pub enum Verdict {
     Fine,
     Bad(Reason),
@@ -48,7 +48,7 @@ pub enum Verdict {
 
 // What a call answers. `file` is the file to blame: 0 none; of a pair 1 the table file, 2 the point file; of a Mainfile set
 // 1 to 7, in document 02's order.
-#[derive(Drop)]
+#[derive(Clone, Copy)]
 pub enum Answer {
     Value(usize),
     Refused { file: usize, reason: Reason },

@@ -13,7 +13,7 @@ use refusal::Answer;
 use report::inner::{line_at, refused_at, text_at};
 
 // What asking for a label comes to, with the buffer that it was printed into.
-#[derive(Drop)]
+#[derive(Clone, Copy)]
 pub struct Fresh {
     pub answer: Answer,
     pub bytes: [u8; 499],

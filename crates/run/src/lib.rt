@@ -6,7 +6,7 @@ use refusal::{Answer, Reason};
 
 // What a run answers: no label was asked, since a file, the code or the pack is refused; or it stopped before a label that
 // was refused, so many labels being written in so many bytes; or all were written.
-#[derive(Drop)]
+#[derive(Clone, Copy)]
 pub enum Series {
     Unasked {
         file: usize,

@@ -2,7 +2,7 @@
 // that says how to read them; a record between the two is a row, and its number tells its kind and its key.
 
 // How the records of a shelf are read. Places count from a record's start.
-#[derive(Drop)]
+#[derive(Clone, Copy)]
 pub struct Shelf {
     // the bytes of a record
     pub width: usize,

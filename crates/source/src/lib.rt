@@ -3,7 +3,7 @@
 
 // What code knows of a delivery point. Places are those of the slices that hold its texts: postcode, suffix and PO box in
 // one, the organisation in the same or another.
-#[derive(Drop)]
+#[derive(Clone, Copy)]
 pub struct DeliveryPoint {
     // the seven keys, in offset order; 0 is none
     pub keys: [u32; 7],
@@ -26,7 +26,7 @@ pub struct DeliveryPoint {
 }
 
 // The rows that the seven keys of a delivery point find, in offset order; 0 is none.
-#[derive(Drop)]
+#[derive(Clone, Copy)]
 pub struct Found {
     pub rows: [usize; 7],
 }

@@ -2,7 +2,7 @@
 pub mod inner;
 
 // An entry as it is written.
-#[derive(Drop)]
+#[derive(Clone, Copy)]
 pub struct Entry;
 
 impl Entry {

@@ -90,7 +90,7 @@ fn pass_rest(from: i32, to: i32, rest: usize, rec: &mut [u8]) -> bool {
 }
 
 // How many records stand in a file, and how many bytes behind them.
-#[derive(Drop)]
+#[derive(Clone, Copy)]
 struct Counted {
     records: usize,
     rest: usize,

@@ -3,7 +3,7 @@ ghost use Rattle.std.specs.Prelude.{◌≡◌};
 ghost use Rattle.van.specs.Said.{packed};
 
 // What a call answers: what the lower library may answer too, or refusal 21.
-#[derive(Drop)]
+#[derive(Clone, Copy)]
 pub enum Answer {
     Lower(refusal::Answer),
     TooManyLines,

@@ -12,7 +12,7 @@ use label_pieces::inner::{byte_at, bytes_at};
 const COLUMNS: usize = 36;
 
 // How many rows, and how many bytes with their ends.
-#[derive(Drop)]
+#[derive(Clone, Copy)]
 pub struct Size {
     pub rows: usize,
     pub bytes: usize,
