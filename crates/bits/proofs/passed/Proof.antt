@@ -6,11 +6,11 @@ use native.Mathlib.Nat.{mod-lt}
 use Rattle.bits.proofs.passed.Statement.{statement}
 use Rattle.bits.proofs.passed.Tie as tie
 
-returns : tie.Need-returns
-returns c = (simp (eq-eqb _ 0 c.if1.true), omega (arith, mod-lt c.before.args.at {m = 32} (omega arith)))
+returns : tie.Need-returns-then-left-eq0
+returns c = (simp (eq-eqb _ 0 c.if-left-eq0.true), omega (arith, mod-lt c.args.at {m = 32} (omega arith)))
 
-returns-2 : tie.Need-returns-2
-returns-2 c = (simp (ne_eqb _ 0 c.if1.false), omega arith)
+returns-2 : tie.Need-returns-else-left-eq0
+returns-2 c = (simp (ne_eqb _ 0 c.if-left-eq0.false), omega arith)
 
-pub passed-spec : {M : Type 1} → statement M
-passed-spec = tie.close (tie.spec (search rules) returns returns-2)
+pub passed_spec : {M : Type 1} → statement M
+passed_spec = tie.close (tie.spec (search rules) returns returns-2)

@@ -24,11 +24,11 @@ use Rattle.book_build.proofs.write_if_room.Statement.{statement}
 use Rattle.book_build.proofs.write_if_room.Tie as tie
 
 -- once rows and organisations are counted
-module _ (o : tie.After-organisations-in) where
-  abbrev r : tie.After-place-rows
+module _ (o : tie.After-organisations_in-of_book) where
+  abbrev r : tie.After-place_rows-of_table
   r = o.before.before.before
 
-  abbrev t : tie.After-table-shelf
+  abbrev t : tie.After-table_shelf
   t = r.before.before
 
   abbrev s : tie.Start
@@ -41,7 +41,7 @@ module _ (o : tie.After-organisations-in) where
   marks = s.args.starts.now
 
   abbrev starts : List ℕ
-  starts = r.place-rows.last.1.1.0
+  starts = r.place_rows-of_table.last.1.1.0
 
   abbrev ds : List Packed
   ds = packed_all s.args.book.now s.args.chosen.now
@@ -53,67 +53,67 @@ module _ (o : tie.After-organisations-in) where
   pack = chosen_pack table s.args.book.now s.args.chosen.now s.args.code.now
 
   may : MayPack table s.args.book.now s.args.chosen.now s.args.code.now
-  may = s.pre.1.0
+  may = s.requires.may_pack
 
   placed : Placed (table_stock table) marks starts
-  placed = subst (λ (z : Shelf). Placed (stock_of z table) marks starts) t.table-shelf.ensures r.place-rows.ensures.1.1
+  placed = subst (λ (z : Shelf). Placed (stock_of z table) marks starts) t.table_shelf.ensures r.place_rows-of_table.ensures.1.1
 
-  rows_of : r.place-rows.result.rows ≡ all_count (table_stock table) marks
-  rows_of = r.place-rows.ensures.0 ∙ ap (λ (z : Shelf). all_count (stock_of z table) marks) t.table-shelf.ensures
+  rows_of : r.place_rows-of_table.result.rows ≡ all_count (table_stock table) marks
+  rows_of = r.place_rows-of_table.ensures.0 ∙ ap (λ (z : Shelf). all_count (stock_of z table) marks) t.table_shelf.ensures
 
-  bytes_of : r.place-rows.result.bytes ≡ all_bytes (table_stock table) marks
-  bytes_of = r.place-rows.ensures.1.0 ∙ ap (λ (z : Shelf). all_bytes (stock_of z table) marks) t.table-shelf.ensures
+  bytes_of : r.place_rows-of_table.result.bytes ≡ all_bytes (table_stock table) marks
+  bytes_of = r.place_rows-of_table.ensures.1.0 ∙ ap (λ (z : Shelf). all_bytes (stock_of z table) marks) t.table_shelf.ensures
 
   points : count ≡ length ds
   points = sym (packed-length s.args.book.now s.args.chosen.now)
 
   whole : length pack
-      ≡ r.place-rows.result.bytes + o.organisations-in.result.bytes + point_width newest * count + trailer_width newest
-  whole = omega (arith, counted may.packable s.pre.1.1 placed, points, bytes_of, o.organisations-in.ensures.1)
+      ≡ r.place_rows-of_table.result.bytes + o.organisations_in-of_book.result.bytes + point_width newest * count + trailer_width newest
+  whole = omega (arith, counted may.packable s.requires.marked placed, points, bytes_of, o.organisations_in-of_book.ensures.1)
 
   few : length pack < 4_294_967_295
   few = may.packable.small
 
-place-rows-requires : tie.Need-place-rows-requires
+place-rows-requires : tie.Need-place_rows-of_table-requires
 place-rows-requires c κs =
     let t = c.before in
     let s = t.before.before.before.before.before.before.before.before in
     let small = table-small s.args.table.now s.requires.0.of_table in
-    rw t.table-shelf.ensures (table_fits, (omega (arith, small, marked-long s.requires.1.1), omega (arith, small)))
+    rw t.table_shelf.ensures (table_fits, (omega (arith, small, marked-long s.requires.1.1), omega (arith, small)))
 
-organisations-in-requires : tie.Need-organisations-in-requires
+organisations-in-requires : tie.Need-organisations_in-of_book-requires
 organisations-in-requires c κs =
     let t = c.before.before.before.before in
-    t.before.before.before.before.before.before.before.before.requires.0.of_chosen
+    t.requires.0.of_chosen
 
-mul-points : tie.Need-overflow-mul-points
+mul-points : tie.Need-overflow_mul-points
 mul-points c = omega (arith, whole c, few c)
 
-add-needed : tie.Need-overflow-add-needed
+add-needed : tie.Need-overflow_add-needed
 add-needed c = omega (arith, whole c.before.before, few c.before.before)
 
-add-needed-2 : tie.Need-overflow-add-needed-2
+add-needed-2 : tie.Need-overflow_add-needed-2
 add-needed-2 c = omega (arith, whole c.before.before, few c.before.before)
 
-add-needed-3 : tie.Need-overflow-add-needed-3
+add-needed-3 : tie.Need-overflow_add-needed-3
 add-needed-3 c = omega (arith, whole c.before.before, few c.before.before)
 
-returns : tie.Need-returns
+returns : tie.Need-returns-then-out-needed
 returns c =
     let o = c.before.before.before in
     counted-short (pack o) (s o).args.out.now (sym (whole o)) (omega (arith, whole o))
 
-add-rows : tie.Need-overflow-add-rows
+add-rows : tie.Need-overflow_add-rows
 add-rows c =
     let o = c.before.before.before.before.before in
     omega (
       arith,
       rows-small (may o).packable (s o).requires.1.1 (placed o),
       rows_of o,
-      o.organisations-in.ensures.0,
+      o.organisations_in-of_book.ensures.0,
     )
 
-write-pack-requires : tie.Need-write-pack-requires
+write-pack-requires : tie.Need-write_pack-requires
 write-pack-requires c κs =
     let o = c.before.before.before.before.before.before.before in
     let is = written (may o).packable (s o).requires.1.1 (placed o) in (
@@ -124,25 +124,25 @@ write-pack-requires c κs =
               arith,
               rows-counted (may o).packable (s o).requires.1.1 (placed o),
               rows_of o,
-              o.organisations-in.ensures.0,
+              o.organisations_in-of_book.ensures.0,
             );
         of_points = points o;
         of_room = omega (arith, ap length is, whole o);
       },
     )
 
-returns-2 : tie.Need-returns-2
+returns-2 : tie.Need-returns
 returns-2 c =
-    let p = c.before.before in
+    let p = c in
     let o = p.before.before.before.before.before.before.before.before in
     let out = (s o).args.out.now in
     let is = written (may o).packable (s o).requires.1.1 (placed o) in
     let fits : length (pack o) ≤ length out = omega (arith, whole o) in
-    let wrote = wrote_as is p.write-pack.ensures in
+    let wrote = wrote_as is p.write_pack.ensures in
     counted-written (pack o) out fits wrote.size wrote.is
 
-pub write-if-room-spec : {M : Type 1} → statement M
-write-if-room-spec =
+pub write_if_room_spec : {M : Type 1} → statement M
+write_if_room_spec =
     tie.close
     (tie.spec (search rules) place-rows-requires organisations-in-requires mul-points add-needed add-needed-2 add-needed-3
     (search rules) returns add-rows write-pack-requires (search rules) (search rules) returns-2)

@@ -6,22 +6,22 @@ use Rattle.book_check.proofs.Kept.{book-long, judged-book, judged-other}
 use Rattle.book_check.proofs.check_book.Statement.{statement}
 use Rattle.book_check.proofs.check_book.Tie as tie
 
-count-of-requires : tie.Need-count-of-requires
+count-of-requires : tie.Need-count_of-requires
 count-of-requires c κs =
     let b = c.before in
-    book-long b.before.before.args.book.now (sym b.is-book.ensures ∙ c.if1.true)
+    book-long b.args.book.now (sym b.is_book.ensures ∙ c.if-is_book.true)
 
-returns : tie.Need-returns
+returns : tie.Need-returns-then-is_book
 returns c =
-    let t = c.before in
-    let b = t.before in
-    ap Value c.count-of.ensures.0
-    ∙ sym (judged-book b.before.before.args.book.now (sym b.is-book.ensures ∙ t.if1.true))
+    let t = c in
+    let b = t in
+    ap Value c.count_of.ensures.0
+    ∙ sym (judged-book b.args.book.now (sym b.is_book.ensures ∙ t.if-is_book.true))
 
-returns-2 : tie.Need-returns-2
+returns-2 : tie.Need-returns
 returns-2 c =
-    let b = c.before in
-    sym (judged-other b.before.before.args.book.now (sym b.is-book.ensures ∙ c.if1.false))
+    let b = c in
+    sym (judged-other b.args.book.now (sym b.is_book.ensures ∙ c.if-is_book.false))
 
-pub check-book-spec : {M : Type 1} → statement M
-check-book-spec = tie.close (tie.spec (search rules) count-of-requires returns returns-2)
+pub check_book_spec : {M : Type 1} → statement M
+check_book_spec = tie.close (tie.spec (search rules) count-of-requires returns returns-2)

@@ -6,41 +6,41 @@ use Rattle.book_check.proofs.Kept.{other_length, many, misplaced, by-fine}
 use Rattle.book_check.proofs.is_book.Statement.{statement}
 use Rattle.book_check.proofs.is_book.Tie as tie
 
-returns : tie.Need-returns
-returns c = sym (other_length c.before.before.args.book.now c.if1.true)
+returns : tie.Need-returns-then-book-ne-LENGTH
+returns c = sym (other_length c.args.book.now c.if-book-ne-LENGTH.true)
 
-returns-2 : tie.Need-returns-2
+returns-2 : tie.Need-returns-then-count-gt-SLOTS
 returns-2 c =
-    let n = c.before in
-    let l = n.before in
-    let book = l.before.before.args.book.now in
-    sym (many book l.if1.false (rw n.count-of.ensures.0 at c.if2.true))
+    let n = c in
+    let l = n in
+    let book = l.args.book.now in
+    sym (many book l.if-book-ne-LENGTH.false (rw n.count_of-count.ensures.0 at c.if-count-gt-SLOTS.true))
 
-returns-3 : tie.Need-returns-3
+returns-3 : tie.Need-returns-then-not-all_placed
 returns-3 c =
-    let p = c.before in
-    let m = p.before in
-    let n = m.before in
-    let l = n.before in
-    let book = l.before.before.args.book.now in
-    let placed = rw n.count-of.ensures.0 at p.all_Placed.ensures in
+    let p = c in
+    let m = p in
+    let n = m in
+    let l = n in
+    let book = l.args.book.now in
+    let placed = rw n.count_of-count.ensures.0 at p.all_Placed.ensures in
     sym
-    (misplaced book l.if1.false (rw n.count-of.ensures.0 at m.if2.false)
-    (sym placed ∙ not-true _ c.if3.true))
+    (misplaced book l.if-book-ne-LENGTH.false (rw n.count_of-count.ensures.0 at m.if-count-gt-SLOTS.false)
+    (sym placed ∙ c.if-not-all_placed.true))
 
-returns-4 : tie.Need-returns-4
+returns-4 : tie.Need-returns
 returns-4 c =
-    let o = c.before in
-    let p = o.before in
-    let m = p.before in
-    let n = m.before in
-    let l = n.before in
-    let book = l.before.before.args.book.now in
-    let placed = rw n.count-of.ensures.0 at p.all_Placed.ensures in
-    c.all-fine.ensures
+    let o = c in
+    let p = o in
+    let m = p in
+    let n = m in
+    let l = n in
+    let book = l.args.book.now in
+    let placed = rw n.count_of-count.ensures.0 at p.all_Placed.ensures in
+    c.all_fine.ensures
     ∙ sym
-    (by-fine book l.if1.false (rw n.count-of.ensures.0 at m.if2.false) (sym placed ∙ not-false _ o.if3.false))
+    (by-fine book l.if-book-ne-LENGTH.false (rw n.count_of-count.ensures.0 at m.if-count-gt-SLOTS.false) (sym placed ∙ o.if-not-all_placed.false))
 
-pub is-book-spec : {M : Type 1} → statement M
-is-book-spec =
+pub is_book_spec : {M : Type 1} → statement M
+is_book_spec =
     tie.close (tie.spec returns (search rules) returns-2 (search rules) returns-3 (search rules) returns-4)

@@ -8,34 +8,34 @@ use Rattle.book_event.proofs.Events.{wanted-place}
 use Rattle.book_event.proofs.event_in.Statement.{statement}
 use Rattle.book_event.proofs.event_in.Tie as tie
 
-event-from-requires : tie.Need-event-from-requires
+event-from-requires : tie.Need-event_from-requires
 event-from-requires c κs =
     let behind-wanted-at = c.before in
     let start = behind-wanted-at.before.before.before.before.before.before.before in
-    (start.requires, rw behind-wanted-at.wanted-at.ensures (wanted-place start.args.points.now start.args.view))
+    (start.requires, rw behind-wanted-at.wanted_at-place.ensures (wanted-place start.args.points.now start.args.view))
 
-returns : tie.Need-returns
+returns : tie.Need-returns-in-Value
 returns c =
-    let behind-event-from = c.before.before in
-    let behind-wanted-at = behind-event-from.before.before in
-    let behind-enum-told = behind-wanted-at.before.before in
-    let behind-check-points = behind-enum-told.before.before in
-    let start = behind-check-points.before.before.before in
+    let behind-event-from = c in
+    let behind-wanted-at = behind-event-from in
+    let behind-enum-told = behind-wanted-at in
+    let behind-check-points = behind-enum-told in
+    let start = behind-check-points in
     let a = start.args in
-    behind-event-from.event-from.ensures
-    ∙ (ap (event_from a.book.now a.points.now) behind-wanted-at.wanted-at.ensures
-    ∙ sym (afterwards-value Refused a.book.now _ (sym behind-check-points.check-points.ensures ∙ behind-enum-told.enum_told.given.1)))
+    behind-event-from.event_from.ensures
+    ∙ (ap (event_from a.book.now a.points.now) behind-wanted-at.wanted_at-place.ensures
+    ∙ sym (afterwards-value Refused a.book.now _ (sym behind-check-points.check_points.ensures ∙ behind-enum-told.in-Value.is)))
 
-returns-2 : tie.Need-returns-2
+returns-2 : tie.Need-returns-in-Refused
 returns-2 c =
-    let behind-file = c.before in
-    let behind-check-points = behind-file.before.before in
-    let start = behind-check-points.before.before.before in
+    let behind-file = c in
+    let behind-check-points = behind-file in
+    let start = behind-check-points in
     let a = start.args in
-    sym (afterwards-refused Refused a.book.now _ (sym behind-check-points.check-points.ensures ∙ behind-file.file.given.1))
+    sym (afterwards-refused Refused a.book.now _ (sym behind-check-points.check_points.ensures ∙ behind-file.in-Refused.is))
 
-pub event-in-spec : {M : Type 1} → statement M
-event-in-spec =
+pub event_in_spec : {M : Type 1} → statement M
+event_in_spec =
     tie.close
     (tie.spec (search rules) (λ c. search rules) (λ c. search rules) (search rules) event-from-requires (λ c. search rules)
     (search rules) returns returns-2)

@@ -13,31 +13,31 @@ tidy-requires c κs =
     let behind-enum-told = c.before in
     let behind-check-book = behind-enum-told.before.before in
     let start = behind-check-book.before.before.before in
-    judged-is start.args.book.now (sym behind-check-book.check-book.ensures ∙ behind-enum-told.enum_told.given.1)
+    judged-is start.args.book.now (sym behind-check-book.check_book.ensures ∙ behind-enum-told.in-Value.is)
 
-returns : tie.Need-returns
+returns : tie.Need-returns-in-Value
 unfolding tidy_outcome
 returns c =
-    let behind-tidy = c.before.before in
-    let behind-enum-told = behind-tidy.before.before in
-    let behind-check-book = behind-enum-told.before.before in
-    let start = behind-check-book.before.before.before in
+    let behind-tidy = c in
+    let behind-enum-told = behind-tidy in
+    let behind-check-book = behind-enum-told in
+    let start = behind-check-book in
     let a = start.args in
     let done = behind-tidy.tidy.ensures in
     said-as (ap Value done.0) done.1
-    ∙ sym (afterwards-value Refused a.book.now _ (sym behind-check-book.check-book.ensures ∙ behind-enum-told.enum_told.given.1))
+    ∙ sym (afterwards-value Refused a.book.now _ (sym behind-check-book.check_book.ensures ∙ behind-enum-told.in-Value.is))
 
-returns-2 : tie.Need-returns-2
+returns-2 : tie.Need-returns-in-Refused
 unfolding tidy_outcome
 returns-2 c =
-    let behind-file = c.before in
-    let behind-check-book = behind-file.before.before in
-    let start = behind-check-book.before.before.before in
+    let behind-file = c in
+    let behind-check-book = behind-file in
+    let start = behind-check-book in
     let a = start.args in
-    sym (afterwards-refused Refused a.book.now _ (sym behind-check-book.check-book.ensures ∙ behind-file.file.given.1))
+    sym (afterwards-refused Refused a.book.now _ (sym behind-check-book.check_book.ensures ∙ behind-file.in-Refused.is))
 
-pub tidy-book-spec : {M : Type 1} → statement M
-tidy-book-spec =
+pub tidy_book_spec : {M : Type 1} → statement M
+tidy_book_spec =
     tie.close
     (tie.spec (search rules) (λ c. search rules) tidy-requires (λ c. search rules) (search rules) returns (search rules)
     returns-2)

@@ -10,52 +10,52 @@ use Rattle.book_label.proofs.label_in_code.Statement.{statement}
 use Rattle.book_label.proofs.label_in_code.Tie as tie
 
 -- once both are judged
-module _ (k : tie.After-check-source) where
+module _ (k : tie.After-check_source) where
   abbrev start : tie.Start
   start = k.before.before.before.before.before
 
-returns : tie.Need-returns
+returns : tie.Need-returns-then-outward_fault-ne0
 unfolding code_label
 returns c =
-    let f = c.before in
-    let t = f.before in
-    let k = t.before.before in
+    let f = c in
+    let t = f in
+    let k = t.before in
     let a = (start k).args in
     sym
     (by-bad-code Refused a.code.now a.out.now _ (book_of a.book.now a.table.now)
-    (sym k.check-source.ensures ∙ t.enum_told.given.1) (rw f.outward-fault.ensures at c.if1.true))
+    (sym k.check_source.ensures ∙ t.in-Value.is) (rw f.outward_fault.ensures at c.if-outward_fault-ne0.true))
 
-label-among-requires : tie.Need-label-among-requires
+label-among-requires : tie.Need-label_among-requires
 label-among-requires c κs =
-    let t = c.before.before.before in
+    let t = c in
     let k = t.before.before in
     let a = (start k).args in
-    let taken = sym k.check-source.ensures ∙ t.enum_told.given.1 in
+    let taken = sym k.check_source.ensures ∙ t.in-Value.is in
     (book-good a.book.now a.table.now taken, table-accepted a.book.now a.table.now taken)
 
-returns-2 : tie.Need-returns-2
+returns-2 : tie.Need-returns-else-outward_fault-ne0
 returns-2 c =
-    let w = c.before.before in
-    let good = w.before.before in
-    let f = good.before in
-    let t = f.before in
-    let k = t.before.before in
+    let w = c in
+    let good = w in
+    let f = good in
+    let t = f in
+    let k = t.before in
     let a = (start k).args in
-    w.label-among.ensures
-    ∙ code-label a.book.now a.table.now (sym k.check-source.ensures ∙ t.enum_told.given.1) a.code.now
-    (rw f.outward-fault.ensures at good.if1.false) a.k a.out.now
+    w.label_among.ensures
+    ∙ code-label a.book.now a.table.now (sym k.check_source.ensures ∙ t.in-Value.is) a.code.now
+    (rw f.outward_fault.ensures at good.if-outward_fault-ne0.false) a.k a.out.now
 
-returns-3 : tie.Need-returns-3
+returns-3 : tie.Need-returns-in-Refused
 unfolding code_label
 returns-3 c =
-    let k = c.before.before.before in
+    let k = c.before in
     let a = (start k).args in
     sym
     (by-refused Refused a.code.now a.out.now _ (book_of a.book.now a.table.now)
-    (sym k.check-source.ensures ∙ c.before.file.given.1))
+    (sym k.check_source.ensures ∙ c.in-Refused.is))
 
-pub label-in-code-spec : {M : Type 1} → statement M
-label-in-code-spec =
+pub label_in_code_spec : {M : Type 1} → statement M
+label_in_code_spec =
     tie.close
     (tie.spec (search rules) (search rules) (search rules) returns label-among-requires (search rules) (search rules)
     returns-2 returns-3)

@@ -9,35 +9,35 @@ use Rattle.book_label.proofs.label_of_place.Statement.{statement}
 use Rattle.book_label.proofs.label_of_place.Tie as tie
 
 -- once both are judged
-module _ (k : tie.After-check-source) where
+module _ (k : tie.After-check_source) where
   abbrev start : tie.Start
   start = k.before.before.before.before
 
-label-among-requires : tie.Need-label-among-requires
+label-among-requires : tie.Need-label_among-requires
 label-among-requires c κs =
     let t = c.before.before in
     let k = t.before.before in
     let a = (start k).args in
-    let taken = sym k.check-source.ensures ∙ t.enum_told.given.1 in
+    let taken = sym k.check_source.ensures ∙ t.in-Value.is in
     (book-good a.book.now a.table.now taken, table-accepted a.book.now a.table.now taken)
 
-returns : tie.Need-returns
+returns : tie.Need-returns-in-Value
 returns c =
-    let w = c.before.before in
-    let t = w.before.before.before in
+    let w = c in
+    let t = w in
     let k = t.before.before in
     let a = (start k).args in
-    let taken = sym k.check-source.ensures ∙ t.enum_told.given.1 in
-    w.label-among.ensures ∙ view-label a.book.now a.table.now taken a.place a.out.now
+    let taken = sym k.check_source.ensures ∙ t.in-Value.is in
+    w.label_among.ensures ∙ view-label a.book.now a.table.now taken a.place a.out.now
 
-returns-2 : tie.Need-returns-2
+returns-2 : tie.Need-returns-in-Refused
 unfolding view_label
 returns-2 c =
-    let k = c.before.before.before in
-    sym (afterwards-refused Refused (start k).args.out.now _ (sym k.check-source.ensures ∙ c.before.file.given.1))
+    let k = c.before in
+    sym (afterwards-refused Refused (start k).args.out.now _ (sym k.check_source.ensures ∙ c.in-Refused.is))
 
-pub label-of-place-spec : {M : Type 1} → statement M
-label-of-place-spec =
+pub label_of_place_spec : {M : Type 1} → statement M
+label_of_place_spec =
     tie.close
     (tie.spec (search rules) (search rules) (search rules) label-among-requires (search rules) (search rules) returns
     returns-2)

@@ -28,50 +28,50 @@ abbrev said_of : (book code : List ℕ) → Answer
 said_of book code =
     cond (eqb (outward_fault code) 0) (Value (length (in_code code (addresses_of book)))) (Refused 0 BadCode)
 
-returns : tie.Need-returns
+returns : tie.Need-returns-then-outward_fault-ne0
 unfolding book_live
 returns c =
-    let f = c.before in
-    let t = f.before in
-    let k = t.before.before in
-    let a = k.before.before.before.args in
+    let f = c in
+    let t = f in
+    let k = t in
+    let a = k.args in
     let bad : said_of a.book.now a.code.now ≡ Refused 0 BadCode =
-    rw (ne_eqb (outward_fault a.code.now) 0 (rw f.outward-fault.ensures at c.if1.true)) in
-    sym bad ∙ after-value _ _ _ k.check-book.ensures _ t.enum_told.given.1
+    rw (ne_eqb (outward_fault a.code.now) 0 (rw f.outward_fault.ensures at c.if-outward_fault-ne0.true)) in
+    sym bad ∙ after-value _ _ _ k.check_book.ensures _ t.in-Value.is
 
-starts-in-requires : tie.Need-starts-in-requires
+starts-in-requires : tie.Need-starts_in-requires
 starts-in-requires c κs =
-    let t = c.before.before in
-    let k = t.before.before in
-    is-book k.before.before.before.args.book.now (sym k.check-book.ensures ∙ t.enum_told.given.1)
+    let t = c in
+    let k = t in
+    is-book k.args.book.now (sym k.check_book.ensures ∙ t.in-Value.is)
 
-returns-2 : tie.Need-returns-2
+returns-2 : tie.Need-returns-else-outward_fault-ne0
 unfolding book_live
 returns-2 c =
-    let good = c.before in
-    let f = good.before in
-    let t = f.before in
-    let k = t.before.before in
-    let a = k.before.before.before.args in
-    let taken = sym k.check-book.ensures ∙ t.enum_told.given.1 in
-    let clean = rw f.outward-fault.ensures at good.if1.false in
+    let good = c in
+    let f = good in
+    let t = f in
+    let k = t in
+    let a = k.args in
+    let taken = sym k.check_book.ensures ∙ t.in-Value.is in
+    let clean = rw f.outward_fault.ensures at good.if-outward_fault-ne0.false in
     let facts = book-facts a.book.now (is-book a.book.now taken) in
-    let h = c.starts-in.ensures in
-    let many : c.starts-in.result.many ≡ length (in_code a.code.now (addresses_of a.book.now)) =
+    let h = c.starts_in.ensures in
+    let many : c.starts_in.result.many ≡ length (in_code a.code.now (addresses_of a.book.now)) =
     sym (length-take-le _ _ (omega (arith, h.few, h.long)))
     ∙ (ap length h.are
     ∙ (sym (addresses-many a.book.now (starts_in a.code.now a.book.now)) ∙ ap length (sym (code-starts a.book.now facts a.code.now clean)))) in
     let said : said_of a.book.now a.code.now ≡ Value (length (in_code a.code.now (addresses_of a.book.now))) =
     rw (eq-eqb (outward_fault a.code.now) 0 clean) in
-    ap Value many ∙ (sym said ∙ after-value _ _ _ k.check-book.ensures _ t.enum_told.given.1)
+    ap Value many ∙ (sym said ∙ after-value _ _ _ k.check_book.ensures _ t.in-Value.is)
 
-returns-3 : tie.Need-returns-3
+returns-3 : tie.Need-returns-in-Refused
 unfolding book_live
 returns-3 c =
-    let k = c.before.before.before in
-    after-refused _ _ _ k.check-book.ensures _ _ c.before.file.given.1
+    let k = c in
+    after-refused _ _ _ k.check_book.ensures _ _ c.in-Refused.is
 
-pub live-in-spec : {M : Type 1} → statement M
-live-in-spec =
+pub live_in_spec : {M : Type 1} → statement M
+live_in_spec =
     tie.close
     (tie.spec (search rules) (search rules) (search rules) returns starts-in-requires (search rules) returns-2 returns-3)

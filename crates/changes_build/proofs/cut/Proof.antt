@@ -14,62 +14,62 @@ use Rattle.changes_build.proofs.cut.Statement.{statement}
 use Rattle.changes_build.proofs.cut.Tie as tie
 
 -- once the numbers of the table's records are known
-module _ (f : tie.After-fill-refs) where
-  abbrev t : tie.After-table-shelf
+module _ (f : tie.After-fill_refs) where
+  abbrev t : tie.After-table_shelf
   t = f.before.before
 
   abbrev s : tie.Start
   s = t.before.before.before.before.before
 
-  known : Known s.args.table.now f.fill-refs.last.1.1.0 s.args.points.now
+  known : Known s.args.table.now f.fill_refs.last.1.1.0 s.args.points.now
   known =
       record {
         of_table = s.pre.of_table;
         of_points = s.pre.of_points;
-        filled = subst (λ (z : Shelf). Filled z s.args.table.now f.fill-refs.last.1.1.0) t.table-shelf.ensures
-            f.fill-refs.ensures;
+        filled = subst (λ (z : Shelf). Filled z s.args.table.now f.fill_refs.last.1.1.0) t.table_shelf.ensures
+            f.fill_refs.ensures;
       }
 
-fill-refs-requires : tie.Need-fill-refs-requires
+fill-refs-requires : tie.Need-fill_refs-requires
 fill-refs-requires c κs =
     let t = c.before in
     let s = t.before.before.before.before.before in
-    rw t.table-shelf.ensures
+    rw t.table_shelf.ensures
     (table_fits, fresh-long s.args.table.now s.requires.of_table 20000 (omega arith))
 
-mark-views-requires : tie.Need-mark-views-requires
+mark-views-requires : tie.Need-mark_views-requires
 mark-views-requires c κs =
     let f = c.before.before.before in
     (known f, fresh-long (s f).args.table.now (s f).requires.of_table 20000 (omega arith))
 
-write-if-room-requires : tie.Need-write-if-room-requires
+write-if-room-requires : tie.Need-write_if_room-requires
 write-if-room-requires c κs =
     let m = c.before.before.before.before.before.before in
     let f = m.before.before.before.before in
-    let told = c.before.before.before.enum_told.given.1 in
-    (known f, ((s f).requires, fresh-marked 20000 refl m.mark-views.ensures told))
+    let told = c.in-Fine.is in
+    (known f, ((s f).requires, fresh-marked 20000 refl m.mark_views.ensures told))
 
-returns : tie.Need-returns
+returns : tie.Need-returns-in-Fine
 returns c =
-    let w = c.before.before.before in
-    let m = w.before.before.before.before.before.before.before in
+    let w = c in
+    let m = w in
     let b = s m.before.before.before.before in
     let a = b.args in
-    let told = w.before.before.before.before.enum_told.given.1 in
-    w.write-if-room.ensures
+    let told = w.in-Fine.is in
+    w.write_if_room.ensures
     ∙ sym
     (cut_as (packable a.table.now a.points.now a.code.now b.pre) a.out.now Fine
-    (sym m.mark-views.ensures.said ∙ told))
+    (sym m.mark_views.ensures.said ∙ told))
 
-returns-2 : tie.Need-returns-2
+returns-2 : tie.Need-returns-in-Bad
 returns-2 c =
-    let k = c.before in
-    let m = k.before.before.before in
+    let k = c in
+    let m = k in
     let b = s m.before.before.before.before in
     let a = b.args in
     sym
-    (cut_as (packable a.table.now a.points.now a.code.now b.pre) a.out.now (Bad k.reason.given.0.0)
-    (sym m.mark-views.ensures.said ∙ k.reason.given.1))
+    (cut_as (packable a.table.now a.points.now a.code.now b.pre) a.out.now (Bad k.in-Bad.reason)
+    (sym m.mark_views.ensures.said ∙ k.in-Bad.is))
 
 pub cut_spec : {M : Type 1} → statement M
 cut_spec =

@@ -25,14 +25,14 @@ use Rattle.changes_build.proofs.write_if_room.Statement.{statement}
 use Rattle.changes_build.proofs.write_if_room.Tie as tie
 
 -- once the views are counted
-module _ (w : tie.After-count-wanted) where
-  abbrev o : tie.After-organisations-in
+module _ (w : tie.After-count_wanted-count) where
+  abbrev o : tie.After-organisations_in-of_points
   o = w.before
 
-  abbrev r : tie.After-place-rows
+  abbrev r : tie.After-place_rows-of_table
   r = o.before.before.before
 
-  abbrev t : tie.After-table-shelf
+  abbrev t : tie.After-table_shelf
   t = r.before.before
 
   abbrev s : tie.Start
@@ -51,70 +51,70 @@ module _ (w : tie.After-count-wanted) where
   marks = s.args.starts.now
 
   abbrev starts : List ℕ
-  starts = r.place-rows.last.1.1.0
+  starts = r.place_rows-of_table.last.1.1.0
 
   abbrev pack : List ℕ
   pack = live_pack table points code
 
   ready : Packable table points (packed_in points code) (live_in points code) code
-  ready = packable table points code s.pre.1.0
+  ready = packable table points code s.requires.judged
 
   placed : Placed (table_stock table) marks starts
-  placed = subst (λ (z : Shelf). Placed (stock_of z table) marks starts) t.table-shelf.ensures r.place-rows.ensures.1.1
+  placed = subst (λ (z : Shelf). Placed (stock_of z table) marks starts) t.table_shelf.ensures r.place_rows-of_table.ensures.1.1
 
-  rows_of : r.place-rows.result.rows ≡ all_count (table_stock table) marks
-  rows_of = r.place-rows.ensures.0 ∙ ap (λ (z : Shelf). all_count (stock_of z table) marks) t.table-shelf.ensures
+  rows_of : r.place_rows-of_table.result.rows ≡ all_count (table_stock table) marks
+  rows_of = r.place_rows-of_table.ensures.0 ∙ ap (λ (z : Shelf). all_count (stock_of z table) marks) t.table_shelf.ensures
 
-  bytes_of : r.place-rows.result.bytes ≡ all_bytes (table_stock table) marks
-  bytes_of = r.place-rows.ensures.1.0 ∙ ap (λ (z : Shelf). all_bytes (stock_of z table) marks) t.table-shelf.ensures
+  bytes_of : r.place_rows-of_table.result.bytes ≡ all_bytes (table_stock table) marks
+  bytes_of = r.place_rows-of_table.ensures.1.0 ∙ ap (λ (z : Shelf). all_bytes (stock_of z table) marks) t.table_shelf.ensures
 
-  views : w.count-wanted.result ≡ length (packed_in points code)
-  views = w.count-wanted.ensures ∙ count-of code points
+  views : w.count_wanted-count.result ≡ length (packed_in points code)
+  views = w.count_wanted-count.ensures ∙ count-of code points
 
   whole : length pack
-      ≡ r.place-rows.result.bytes + o.organisations-in.result.bytes + point_width newest * w.count-wanted.result
+      ≡ r.place_rows-of_table.result.bytes + o.organisations_in-of_points.result.bytes + point_width newest * w.count_wanted-count.result
       + trailer_width newest
-  whole = omega (arith, counted ready s.pre.1.1 placed, views, bytes_of, o.organisations-in.ensures.1)
+  whole = omega (arith, counted ready s.requires.marked placed, views, bytes_of, o.organisations_in-of_points.ensures.1)
 
   few : length pack < 4_294_967_295
   few = ready.small
 
-place-rows-requires : tie.Need-place-rows-requires
+place-rows-requires : tie.Need-place_rows-of_table-requires
 place-rows-requires c κs =
     let t = c.before in
     let s = t.before.before.before.before.before.before.before in
     let small = table-small s.args.table.now s.requires.0.of_table in
-    rw t.table-shelf.ensures (table_fits, (omega (arith, small, marked-long s.requires.1.1), omega (arith, small)))
+    rw t.table_shelf.ensures (table_fits, (omega (arith, small, marked-long s.requires.1.1), omega (arith, small)))
 
-add-needed : tie.Need-overflow-add-needed
+add-needed : tie.Need-overflow_add-needed
 add-needed c = omega (arith, whole c.before.before, few c.before.before)
 
-mul-needed : tie.Need-overflow-mul-needed
+mul-needed : tie.Need-overflow_mul-needed
 mul-needed c = omega (arith, whole c.before.before, few c.before.before)
 
-add-needed-2 : tie.Need-overflow-add-needed-2
+add-needed-2 : tie.Need-overflow_add-needed-2
 add-needed-2 c = omega (arith, whole c.before.before, few c.before.before)
 
-add-needed-3 : tie.Need-overflow-add-needed-3
+add-needed-3 : tie.Need-overflow_add-needed-3
 add-needed-3 c = omega (arith, whole c.before.before, few c.before.before)
 
-returns : tie.Need-returns
+returns : tie.Need-returns-then-out-needed
 returns c =
     let w = c.before.before.before in
     let out = (s w).args.out.now in
     counted-short (pack w) out (sym (whole w)) (omega (arith, whole w))
 
-add-rows : tie.Need-overflow-add-rows
+add-rows : tie.Need-overflow_add-rows
 add-rows c =
     let w = c.before.before.before.before.before in
     omega (
       arith,
       rows-small (ready w) (s w).requires.1.1 (placed w),
       rows_of w,
-      (o w).organisations-in.ensures.0,
+      (o w).organisations_in-of_points.ensures.0,
     )
 
-write-pack-requires : tie.Need-write-pack-requires
+write-pack-requires : tie.Need-write_pack-requires
 write-pack-requires c κs =
     let w = c.before.before.before.before.before.before.before in
     let is = written (ready w) (s w).requires.1.1 (placed w) in (
@@ -125,25 +125,25 @@ write-pack-requires c κs =
               arith,
               rows-counted (ready w) (s w).requires.1.1 (placed w),
               rows_of w,
-              (o w).organisations-in.ensures.0,
+              (o w).organisations_in-of_points.ensures.0,
             );
         of_points = views w;
         of_room = omega (arith, ap length is, whole w);
       },
     )
 
-returns-2 : tie.Need-returns-2
+returns-2 : tie.Need-returns
 returns-2 c =
-    let p = c.before.before in
+    let p = c in
     let w = p.before.before.before.before.before.before.before.before in
     let out = (s w).args.out.now in
     let is = written (ready w) (s w).requires.1.1 (placed w) in
     let fits : length (pack w) ≤ length out = omega (arith, whole w) in
-    let wrote = wrote_as is p.write-pack.ensures in
+    let wrote = wrote_as is p.write_pack.ensures in
     counted-written (pack w) out fits wrote.size wrote.is
 
-pub write-if-room-spec : {M : Type 1} → statement M
-write-if-room-spec =
+pub write_if_room_spec : {M : Type 1} → statement M
+write_if_room_spec =
     tie.close
     (tie.spec (search rules) place-rows-requires (search rules) (search rules) add-needed mul-needed add-needed-2
     add-needed-3 (search rules) returns add-rows write-pack-requires (search rules) (search rules) returns-2)

@@ -9,33 +9,33 @@ use Rattle.changes_codes.specs.Codes.{codes_outcome}
 use Rattle.changes_codes.proofs.codes_in.Statement.{statement}
 use Rattle.changes_codes.proofs.codes_in.Tie as tie
 
-list-codes-requires : tie.Need-list-codes-requires
+list-codes-requires : tie.Need-list_codes-requires
 list-codes-requires c κs =
     let t = c.before in
     let k = t.before.before in
-    let e = sym k.check-points.ensures ∙ t.enum_told.given.1 in
-    accepted point_format k.before.before.before.args.points.now _ e
+    let e = sym k.check_points.ensures ∙ t.in-Value.is in
+    accepted point_format k.args.points.now _ e
 
-returns : tie.Need-returns
+returns : tie.Need-returns-in-Value
 unfolding codes_outcome
 returns c =
-    let v = c.before.before in
-    let t = v.before.before in
-    let k = t.before.before in
-    v.list-codes.ensures
+    let v = c in
+    let t = v in
+    let k = t in
+    v.list_codes.ensures
     ∙ sym
-    (afterwards-value Refused k.before.before.before.args.out.now _
-    (sym k.check-points.ensures ∙ t.enum_told.given.1))
+    (afterwards-value Refused k.args.out.now _
+    (sym k.check_points.ensures ∙ t.in-Value.is))
 
-returns-2 : tie.Need-returns-2
+returns-2 : tie.Need-returns-in-Refused
 unfolding codes_outcome
 returns-2 c =
-    let k = c.before.before.before in
+    let k = c in
     sym
-    (afterwards-refused Refused k.before.before.before.args.out.now _
-    (sym k.check-points.ensures ∙ c.before.file.given.1))
+    (afterwards-refused Refused k.args.out.now _
+    (sym k.check_points.ensures ∙ c.in-Refused.is))
 
-pub codes-in-spec : {M : Type 1} → statement M
-codes-in-spec =
+pub codes_in_spec : {M : Type 1} → statement M
+codes_in_spec =
     tie.close
     (tie.spec (search rules) (search rules) list-codes-requires (search rules) (search rules) returns returns-2)

@@ -11,8 +11,8 @@ use Rattle.changes_codes.proofs.list_codes.Statement.{statement}
 use Rattle.changes_codes.proofs.list_codes.Tie as tie
 
 -- once the codes are counted
-module _ (q : tie.After-count-codes) where
-  abbrev g : tie.After-live-codes
+module _ (q : tie.After-count_codes-k) where
+  abbrev g : tie.After-live_codes-n
   g = q.before.before.before.before
 
   abbrev s : tie.Start
@@ -21,54 +21,54 @@ module _ (q : tie.After-count-codes) where
   abbrev points : List ℕ
   points = s.args.points.now
 
-  listed : take g.live-codes.result g.live-codes.last.1.0 ≡ all_codes points
-  listed = front-is g.live-codes.ensures
+  listed : take g.live_codes-n.result g.live_codes-n.last.1.0 ≡ all_codes points
+  listed = front-is g.live_codes-n.ensures
 
-live-codes-requires : tie.Need-live-codes-requires
+live-codes-requires : tie.Need-live_codes-n-requires
 live-codes-requires c κs =
     let s = c.before.before.before in
     fresh-room 20000 s.args.points.now s.requires (omega arith)
 
-array-borrow-prefix-codes : tie.Need-array-borrow-prefix-codes
-array-borrow-prefix-codes c = front-within c.before.live-codes.ensures
+array-borrow-prefix-codes : tie.Need-slice_bounds-codes-end
+array-borrow-prefix-codes c = front-within c.live_codes-n.ensures
 
-slice-aggregate-count-codes : tie.Need-slice-aggregate-count-codes
-slice-aggregate-count-codes c = front-lent c.before.before.live-codes.ensures
+slice-aggregate-count-codes : tie.Need-slice_bounds-count_codes-end
+slice-aggregate-count-codes c = front-lent c.live_codes-n.ensures
 
-count-codes-requires : tie.Need-count-codes-requires
+count-codes-requires : tie.Need-count_codes-k-requires
 count-codes-requires c κs =
-    let g = c.before.before.before in
-    let s = g.before.before.before.before in
-    fresh-rooms 20000 s.args.points.now s.requires (omega arith) g.live-codes.ensures
+    let g = c in
+    let s = g in
+    fresh-rooms 20000 s.args.points.now s.requires (omega arith) g.live_codes-n.ensures
 
-array-share-prefix-codes : tie.Need-array-share-prefix-codes
-array-share-prefix-codes c = codes-within c.before.before.count-codes.ensures _
+array-share-prefix-codes : tie.Need-slice_bounds-codes-end-2
+array-share-prefix-codes c = codes-within c.count_codes-k.ensures _
 
-slice-aggregate-write-if-room : tie.Need-slice-aggregate-write-if-room
-slice-aggregate-write-if-room c = codes-lent c.before.before.before.count-codes.ensures _
+slice-aggregate-write-if-room : tie.Need-slice_bounds-write_if_room-end
+slice-aggregate-write-if-room c = codes-lent c.count_codes-k.ensures _
 
-array-share-prefix-counts : tie.Need-array-share-prefix-counts
-array-share-prefix-counts c = counts-within c.before.before.before.count-codes.ensures
+array-share-prefix-counts : tie.Need-slice_bounds-counts-end
+array-share-prefix-counts c = counts-within c.count_codes-k.ensures
 
-slice-aggregate-write-if-room-2 : tie.Need-slice-aggregate-write-if-room-2
-slice-aggregate-write-if-room-2 c = counts-lent c.before.before.before.before.count-codes.ensures
+slice-aggregate-write-if-room-2 : tie.Need-slice_bounds-write_if_room-end-2
+slice-aggregate-write-if-room-2 c = counts-lent c.count_codes-k.ensures
 
-write-if-room-requires : tie.Need-write-if-room-requires
+write-if-room-requires : tie.Need-write_if_room-requires
 write-if-room-requires c κs =
     let q = c.before.before.before.before.before in
-    let k = q.count-codes.ensures in (
+    let k = q.count_codes-k.ensures in (
       as_many k (points q) _ (listed q),
       few k (points q) _ (listed q) (s q).requires,
     )
 
 returns : tie.Need-returns
 returns c =
-    let w = c.before.before in
+    let w = c in
     let q = w.before.before.before.before.before.before in
-    w.write-if-room.ensures ∙ told q.count-codes.ensures (points q) _ (listed q) (s q).args.out.now
+    w.write_if_room.ensures ∙ told q.count_codes-k.ensures (points q) _ (listed q) (s q).args.out.now
 
-pub list-codes-spec : {M : Type 1} → statement M
-list-codes-spec =
+pub list_codes_spec : {M : Type 1} → statement M
+list_codes_spec =
     tie.close
     (tie.spec
     (search rules)

@@ -10,36 +10,36 @@ use Rattle.changes_csv.proofs.Laws.{row-by-place}
 use Rattle.changes_csv.proofs.row_of_view.Statement.{statement}
 use Rattle.changes_csv.proofs.row_of_view.Tie as tie
 
-row-at-requires : tie.Need-row-at-requires
+row-at-requires : tie.Need-row_at-requires
 row-at-requires c κs =
     let w = c.before in
     let t = w.before.before in
     let k = t.before.before in
-    let a = k.before.before.before.before.args in
-    let taken = sym k.check-pair.ensures ∙ t.enum_told.given.1 in
-    rw w.wanted-at.ensures
+    let a = k.args in
+    let taken = sym k.check_pair.ensures ∙ t.in-Value.is in
+    rw w.wanted_at-place.ensures
     (wanted-place a.table.now a.points.now [] a.view (table-accepted a.table.now a.points.now taken))
 
-returns : tie.Need-returns
+returns : tie.Need-returns-in-Value
 returns c =
-    let l = c.before.before in
-    let w = l.before.before in
-    let t = w.before.before in
-    let k = t.before.before in
-    let a = k.before.before.before.before.args in
-    let taken = sym k.check-pair.ensures ∙ t.enum_told.given.1 in
-    rw w.wanted-at.ensures at l.row_at.ensures
+    let l = c in
+    let w = l in
+    let t = w in
+    let k = t in
+    let a = k.args in
+    let taken = sym k.check_pair.ensures ∙ t.in-Value.is in
+    rw w.wanted_at-place.ensures at l.row_at.ensures
     ∙ row-by-place a.table.now a.points.now taken a.view a.out.now
 
-returns-2 : tie.Need-returns-2
+returns-2 : tie.Need-returns-in-Refused
 unfolding view_row
 returns-2 c =
-    let k = c.before.before.before in
-    let a = k.before.before.before.before.args in
-    sym (afterwards-refused Refused a.out.now _ (sym k.check-pair.ensures ∙ c.before.file.given.1))
+    let k = c in
+    let a = k.args in
+    sym (afterwards-refused Refused a.out.now _ (sym k.check_pair.ensures ∙ c.in-Refused.is))
 
-pub row-of-view-spec : {M : Type 1} → statement M
-row-of-view-spec =
+pub row_of_view_spec : {M : Type 1} → statement M
+row_of_view_spec =
     tie.close
     (tie.spec (search rules) (search rules) (search rules) (search rules) row-at-requires (search rules) (search rules)
     returns returns-2)

@@ -9,31 +9,31 @@ use Rattle.changes_csv.proofs.Laws.{rows-by-place}
 use Rattle.changes_csv.proofs.rows_of_views.Statement.{statement}
 use Rattle.changes_csv.proofs.rows_of_views.Tie as tie
 
-run-rows-requires : tie.Need-run-rows-requires
+run-rows-requires : tie.Need-run_rows-requires
 run-rows-requires c κs =
     let t = c.before in
     let k = t.before.before in
-    let a = k.before.before.before.before.args in
-    table-accepted a.table.now a.points.now (sym k.check-pair.ensures ∙ t.enum_told.given.1)
+    let a = k.args in
+    table-accepted a.table.now a.points.now (sym k.check_pair.ensures ∙ t.in-Value.is)
 
-returns : tie.Need-returns
+returns : tie.Need-returns-in-Value
 returns c =
-    let l = c.before.before in
-    let t = l.before.before in
-    let k = t.before.before in
-    let a = k.before.before.before.before.args in
-    l.run-rows.ensures
-    ∙ rows-by-place a.table.now a.points.now (sym k.check-pair.ensures ∙ t.enum_told.given.1) a.first
+    let l = c in
+    let t = l in
+    let k = t in
+    let a = k.args in
+    l.run_rows.ensures
+    ∙ rows-by-place a.table.now a.points.now (sym k.check_pair.ensures ∙ t.in-Value.is) a.first
     a.count a.out.now
 
-returns-2 : tie.Need-returns-2
+returns-2 : tie.Need-returns-in-Refused
 unfolding view_rows
 returns-2 c =
-    let k = c.before.before.before in
-    let a = k.before.before.before.before.args in
-    sym (afterwards-refused Unasked a.out.now _ (sym k.check-pair.ensures ∙ c.before.file.given.1))
+    let k = c in
+    let a = k.args in
+    sym (afterwards-refused Unasked a.out.now _ (sym k.check_pair.ensures ∙ c.in-Refused.is))
 
-pub rows-of-views-spec : {M : Type 1} → statement M
-rows-of-views-spec =
+pub rows_of_views_spec : {M : Type 1} → statement M
+rows_of_views_spec =
     tie.close
     (tie.spec (search rules) (search rules) run-rows-requires (search rules) (search rules) returns returns-2)

@@ -9,55 +9,55 @@ use Rattle.changes_label.proofs.Laws.{table-accepted, wanted-place, code-by-plac
 use Rattle.changes_label.proofs.label_in_code.Statement.{statement}
 use Rattle.changes_label.proofs.label_in_code.Tie as tie
 
-returns : tie.Need-returns
+returns : tie.Need-returns-then-outward_fault-ne0
 unfolding code_label
 returns c =
-    let f = c.before in
-    let t = f.before in
-    let k = t.before.before in
-    let a = k.before.before.before.before.before.args in
-    let taken = sym k.check-pair.ensures ∙ t.enum_told.given.1 in
+    let f = c in
+    let t = f in
+    let k = t in
+    let a = k.args in
+    let taken = sym k.check_pair.ensures ∙ t.in-Value.is in
     sym
     (by-bad-code Refused a.code.now a.out.now _ (pair_of a.table.now a.points.now) taken
-    (rw f.outward-fault.ensures at c.if1.true))
+    (rw f.outward_fault.ensures at c.if-outward_fault-ne0.true))
 
-label-at-requires : tie.Need-label-at-requires
+label-at-requires : tie.Need-label_at-requires
 label-at-requires c κs =
-    let w = c.before in
-    let f = w.before.before in
-    let t = f.before in
-    let k = t.before.before in
-    let a = k.before.before.before.before.before.args in
-    let taken = sym k.check-pair.ensures ∙ t.enum_told.given.1 in
-    rw w.wanted-at.ensures
+    let w = c in
+    let f = w in
+    let t = f in
+    let k = t in
+    let a = k.args in
+    let taken = sym k.check_pair.ensures ∙ t.in-Value.is in
+    rw w.wanted_at-place.ensures
     (wanted-place a.table.now a.points.now a.code.now a.k
     (table-accepted a.table.now a.points.now taken))
 
-returns-2 : tie.Need-returns-2
+returns-2 : tie.Need-returns-else-outward_fault-ne0
 returns-2 c =
-    let l = c.before.before in
-    let w = l.before.before in
-    let i = w.before in
-    let f = i.before in
-    let t = f.before in
-    let k = t.before.before in
-    let a = k.before.before.before.before.before.args in
-    let taken = sym k.check-pair.ensures ∙ t.enum_told.given.1 in
-    rw w.wanted-at.ensures at l.label_at.ensures
+    let l = c in
+    let w = l in
+    let i = w in
+    let f = i in
+    let t = f in
+    let k = t in
+    let a = k.args in
+    let taken = sym k.check_pair.ensures ∙ t.in-Value.is in
+    rw w.wanted_at-place.ensures at l.label_at.ensures
     ∙ code-by-place a.table.now a.points.now taken a.k a.out.now a.code.now
-    (rw f.outward-fault.ensures at i.if1.false)
+    (rw f.outward_fault.ensures at i.if-outward_fault-ne0.false)
 
-returns-3 : tie.Need-returns-3
+returns-3 : tie.Need-returns-in-Refused
 unfolding code_label
 returns-3 c =
-    let k = c.before.before.before in
-    let a = k.before.before.before.before.before.args in
+    let k = c in
+    let a = k.args in
     sym
     (by-refused Refused a.code.now a.out.now _ (pair_of a.table.now a.points.now)
-    (sym k.check-pair.ensures ∙ c.before.file.given.1))
+    (sym k.check_pair.ensures ∙ c.in-Refused.is))
 
-pub label-in-code-spec : {M : Type 1} → statement M
-label-in-code-spec =
+pub label_in_code_spec : {M : Type 1} → statement M
+label_in_code_spec =
     tie.close
     (tie.spec (search rules) (search rules) (search rules) returns (search rules) label-at-requires (search rules)
     (search rules) returns-2 returns-3)

@@ -6,15 +6,15 @@ use Rattle.changes_list.specs.Listing.{letter_at}
 use Rattle.changes_list.proofs.letter_at.Statement.{statement}
 use Rattle.changes_list.proofs.letter_at.Tie as tie
 
-returns : tie.Need-returns
+returns : tie.Need-returns-then-place-eq0
 unfolding letter_at
-returns c = simp (eq-eqb _ 0 c.if1.true)
+returns c = simp (eq-eqb _ 0 c.if-place-eq0.true)
 
-returns-2 : tie.Need-returns-2
+returns-2 : tie.Need-returns
 unfolding letter_at
 returns-2 c =
-    let p = c.before in
-    rw (c.byte_of.ensures, p.point-record.ensures) (simp (ne_eqb _ 0 p.before.if1.false))
+    let p = c in
+    rw (c.byte_of-letter.ensures, p.point_record.ensures) (simp (ne_eqb _ 0 p.if-place-eq0.false))
 
-pub letter-at-spec : {M : Type 1} → statement M
-letter-at-spec = tie.close (tie.spec returns (search rules) (search rules) (search rules) returns-2)
+pub letter_at_spec : {M : Type 1} → statement M
+letter_at_spec = tie.close (tie.spec returns (search rules) (search rules) (search rules) returns-2)

@@ -6,22 +6,22 @@ use Rattle.refusal.proofs.Outcomes.{after-value, after-refused}
 use Rattle.changes_list.proofs.letter_of.Statement.{statement}
 use Rattle.changes_list.proofs.letter_of.Tie as tie
 
-returns : tie.Need-returns
+returns : tie.Need-returns-in-Value
 unfolding letter_answer
 returns c =
-    let w = c.before in
-    let t = w.before.before in
-    rw (c.letter_at.ensures, w.wanted-at.ensures)
-    (after-value _ _ _ t.before.before.check-points.ensures _ t.enum_told.given.1)
+    let w = c in
+    let t = w in
+    rw (c.letter_at.ensures, w.wanted_at.ensures)
+    (after-value _ _ _ t.check_points.ensures _ t.in-Value.is)
 
-returns-2 : tie.Need-returns-2
+returns-2 : tie.Need-returns-in-Refused
 unfolding letter_answer
 returns-2 c =
-    let k = c.before.before.before in
-    after-refused _ _ _ k.check-points.ensures _ _ c.before.file.given.1
+    let k = c in
+    after-refused _ _ _ k.check_points.ensures _ _ c.in-Refused.is
 
-pub letter-of-spec : {M : Type 1} → statement M
-letter-of-spec =
+pub letter_of_spec : {M : Type 1} → statement M
+letter_of_spec =
     tie.close
     (tie.spec
     (λ c κs. search rules)

@@ -6,15 +6,15 @@ use Rattle.changes_list.specs.Listing.{live_at}
 use Rattle.changes_list.proofs.live_at.Statement.{statement}
 use Rattle.changes_list.proofs.live_at.Tie as tie
 
-returns : tie.Need-returns
+returns : tie.Need-returns-then-outward_fault-eq0
 unfolding live_at
 returns c =
-    let t = c.before in
-    rw c.count-wanted.ensures (simp (eq-eqb _ 0 (sym t.before.outward-fault.ensures ∙ t.if1.true)))
+    let t = c in
+    rw c.count_wanted.ensures (simp (eq-eqb _ 0 (sym t.outward_fault.ensures ∙ t.if-outward_fault-eq0.true)))
 
-returns-2 : tie.Need-returns-2
+returns-2 : tie.Need-returns-else-outward_fault-eq0
 unfolding live_at
-returns-2 c = simp (ne_eqb _ 0 (rw c.before.outward-fault.ensures at c.if1.false))
+returns-2 c = simp (ne_eqb _ 0 (rw c.outward_fault.ensures at c.if-outward_fault-eq0.false))
 
-pub live-at-spec : {M : Type 1} → statement M
-live-at-spec = tie.close (tie.spec (search rules) (search rules) returns returns-2)
+pub live_at_spec : {M : Type 1} → statement M
+live_at_spec = tie.close (tie.spec (search rules) (search rules) returns returns-2)

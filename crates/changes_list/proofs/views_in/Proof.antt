@@ -6,20 +6,20 @@ use Rattle.refusal.proofs.Outcomes.{after-value, after-refused}
 use Rattle.changes_list.proofs.views_in.Statement.{statement}
 use Rattle.changes_list.proofs.views_in.Tie as tie
 
-returns : tie.Need-returns
+returns : tie.Need-returns-in-Value
 unfolding views_answer
 returns c =
-    let t = c.before.before in
-    rw c.count-wanted.ensures (after-value _ _ _ t.before.before.check-points.ensures _ t.enum_told.given.1)
+    let t = c in
+    rw c.count_wanted.ensures (after-value _ _ _ t.check_points.ensures _ t.in-Value.is)
 
-returns-2 : tie.Need-returns-2
+returns-2 : tie.Need-returns-in-Refused
 unfolding views_answer
 returns-2 c =
-    let k = c.before.before.before in
-    after-refused _ _ _ k.check-points.ensures _ _ c.before.file.given.1
+    let k = c in
+    after-refused _ _ _ k.check_points.ensures _ _ c.in-Refused.is
 
-pub views-in-spec : {M : Type 1} → statement M
-views-in-spec =
+pub views_in_spec : {M : Type 1} → statement M
+views_in_spec =
     tie.close
     (tie.spec
     (λ c κs. search rules)

@@ -8,5 +8,5 @@ use Rattle.changes_points.proofs.is_point_letter.Tie as tie
 returns : tie.Need-returns
 returns c = rw (or-false (eqb c.args.b 73))
 
-pub is-point-letter-spec : {M : Type 1} → statement M
-is-point-letter-spec = tie.close (tie.spec returns)
+pub is_point_letter_spec : {M : Type 1} → statement M
+is_point_letter_spec = tie.close (tie.spec returns)

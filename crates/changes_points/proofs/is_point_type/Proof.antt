@@ -8,5 +8,5 @@ use Rattle.changes_points.proofs.is_point_type.Tie as tie
 returns : tie.Need-returns
 returns c = rw (or-false (eqb c.args.b 51))
 
-pub is-point-type-spec : {M : Type 1} → statement M
-is-point-type-spec = tie.close (tie.spec returns)
+pub is_point_type_spec : {M : Type 1} → statement M
+is_point_type_spec = tie.close (tie.spec returns)

@@ -5,28 +5,28 @@ use borrow.Author.Tests.{ne_eqb}
 use Rattle.changes_points.proofs.point_rest_fault.Statement.{statement}
 use Rattle.changes_points.proofs.point_rest_fault.Tie as tie
 
-returns : tie.Need-returns
+returns : tie.Need-returns-in-49
 returns c =
-    let m = c.before in
-    rw c.view-fault.ensures (simp (sym m.before.byte_of.ensures ∙ m.match.keys1))
+    let m = c in
+    rw c.view_fault.ensures (simp (sym m.byte_of-kind.ensures ∙ m.in-49.is))
 
-returns-2 : tie.Need-returns-2
+returns-2 : tie.Need-returns-in-50
 returns-2 c =
-    let m = c.before.before in
-    rw (c.organisation-fault.ensures, c.before.filled_at.ensures) (simp (sym m.before.byte_of.ensures ∙ m.match.keys2))
+    let m = c in
+    rw (c.organisation_fault.ensures, c.filled_at-name.ensures) (simp (sym m.byte_of-kind.ensures ∙ m.in-50.is))
 
-returns-3 : tie.Need-returns-3
+returns-3 : tie.Need-returns-in-51
 returns-3 c =
-    let m = c.before.before in
-    rw (c.organisation-fault2.ensures, c.before.text_at.ensures) (simp (sym m.before.byte_of.ensures ∙ m.match.keys3))
+    let m = c in
+    rw (c.organisation_fault-in-51.ensures, c.text_at-name.ensures) (simp (sym m.byte_of-kind.ensures ∙ m.in-51.is))
 
-returns-4 : tie.Need-returns-4
+returns-4 : tie.Need-returns-in_default
 returns-4 c =
-    let n = rw c.before.byte_of.ensures at c.match.rest in
+    let n = rw c.byte_of-kind.ensures at c.in_default.in_default-own.rest in
     simp (ne_eqb _ 49 n.0.0.1, ne_eqb _ 50 n.0.1, ne_eqb _ 51 n.1)
 
-pub point-rest-fault-spec : {M : Type 1} → statement M
-point-rest-fault-spec =
+pub point_rest_fault_spec : {M : Type 1} → statement M
+point_rest_fault_spec =
     tie.close
     (tie.spec
     (λ c κs. search rules)

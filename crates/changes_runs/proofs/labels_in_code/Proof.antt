@@ -10,47 +10,47 @@ use Rattle.changes_runs.proofs.Laws.{in-code-by-place}
 use Rattle.changes_runs.proofs.labels_in_code.Statement.{statement}
 use Rattle.changes_runs.proofs.labels_in_code.Tie as tie
 
-returns : tie.Need-returns
+returns : tie.Need-returns-then-outward_fault-ne0
 unfolding code_run
 returns c =
-    let f = c.before in
-    let t = f.before in
-    let k = t.before.before in
-    let a = k.before.before.before.before.before.args in
+    let f = c in
+    let t = f in
+    let k = t in
+    let a = k.args in
     sym
     (by-bad-code Unasked a.code.now a.out.now _ (pair_of a.table.now a.points.now)
-    (sym k.check-pair.ensures ∙ t.enum_told.given.1) (rw f.outward-fault.ensures at c.if1.true))
+    (sym k.check_pair.ensures ∙ t.in-Value.is) (rw f.outward_fault.ensures at c.if-outward_fault-ne0.true))
 
-run-places-requires : tie.Need-run-places-requires
+run-places-requires : tie.Need-run_places-requires
 run-places-requires c κs =
-    let t = c.before.before.before in
-    let k = t.before.before in
-    let a = k.before.before.before.before.before.args in
-    table-accepted a.table.now a.points.now (sym k.check-pair.ensures ∙ t.enum_told.given.1)
+    let t = c in
+    let k = t in
+    let a = k.args in
+    table-accepted a.table.now a.points.now (sym k.check_pair.ensures ∙ t.in-Value.is)
 
-returns-2 : tie.Need-returns-2
+returns-2 : tie.Need-returns-else-outward_fault-ne0
 returns-2 c =
-    let l = c.before.before in
-    let i = l.before.before in
-    let f = i.before in
-    let t = f.before in
-    let k = t.before.before in
-    let a = k.before.before.before.before.before.args in
-    l.run-places.ensures
-    ∙ in-code-by-place a.table.now a.points.now (sym k.check-pair.ensures ∙ t.enum_told.given.1) a.first
-    a.count a.out.now a.code.now (rw f.outward-fault.ensures at i.if1.false)
+    let l = c in
+    let i = l in
+    let f = i in
+    let t = f in
+    let k = t in
+    let a = k.args in
+    l.run_places.ensures
+    ∙ in-code-by-place a.table.now a.points.now (sym k.check_pair.ensures ∙ t.in-Value.is) a.first
+    a.count a.out.now a.code.now (rw f.outward_fault.ensures at i.if-outward_fault-ne0.false)
 
-returns-3 : tie.Need-returns-3
+returns-3 : tie.Need-returns-in-Refused
 unfolding code_run
 returns-3 c =
-    let k = c.before.before.before in
-    let a = k.before.before.before.before.before.args in
+    let k = c in
+    let a = k.args in
     sym
     (by-refused Unasked a.code.now a.out.now _ (pair_of a.table.now a.points.now)
-    (sym k.check-pair.ensures ∙ c.before.file.given.1))
+    (sym k.check_pair.ensures ∙ c.in-Refused.is))
 
-pub labels-in-code-spec : {M : Type 1} → statement M
-labels-in-code-spec =
+pub labels_in_code_spec : {M : Type 1} → statement M
+labels_in_code_spec =
     tie.close
     (tie.spec (search rules) (search rules) (search rules) returns run-places-requires (search rules) (search rules)
     returns-2 returns-3)

@@ -7,7 +7,7 @@ use Rattle.changes_source.proofs.organised_at.Tie as tie
 
 returns : tie.Need-returns
 unfolding delivery_at
-returns c = rw (c.needed-next.ensures, c.before.point-record.ensures) refl
+returns c = rw (c.needed_next.ensures, c.point_record.ensures) refl
 
-pub organised-at-spec : {M : Type 1} → statement M
-organised-at-spec = tie.close (tie.spec (search rules) (search rules) returns)
+pub organised_at_spec : {M : Type 1} → statement M
+organised_at_spec = tie.close (tie.spec (search rules) (search rules) returns)

@@ -4,11 +4,11 @@ use borrow.Author.Tests.{lt-ltb, le-ltb}
 use Rattle.changes_source.proofs.start_at.Statement.{statement}
 use Rattle.changes_source.proofs.start_at.Tie as tie
 
-returns : tie.Need-returns
-returns c = simp (lt-ltb _ _ c.if1.true)
+returns : tie.Need-returns-then-i-points
+returns c = simp (lt-ltb _ _ c.if-i-points.true)
 
-returns-2 : tie.Need-returns-2
-returns-2 c = simp (le-ltb _ _ c.if1.false)
+returns-2 : tie.Need-returns-else-i-points
+returns-2 c = simp (le-ltb _ _ c.if-i-points.false)
 
-pub start-at-spec : {M : Type 1} → statement M
-start-at-spec = tie.close (tie.spec (search rules) returns returns-2)
+pub start_at_spec : {M : Type 1} → statement M
+start_at_spec = tie.close (tie.spec (search rules) returns returns-2)

@@ -8,5 +8,5 @@ use Rattle.changes_table.proofs.is_table_letter.Tie as tie
 returns : tie.Need-returns
 returns c = rw (or-false (eqb c.args.b 32))
 
-pub is-table-letter-spec : {M : Type 1} → statement M
-is-table-letter-spec = tie.close (tie.spec returns)
+pub is_table_letter_spec : {M : Type 1} → statement M
+is_table_letter_spec = tie.close (tie.spec returns)

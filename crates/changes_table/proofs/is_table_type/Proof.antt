@@ -8,5 +8,5 @@ use Rattle.changes_table.proofs.is_table_type.Tie as tie
 returns : tie.Need-returns
 returns c = rw (or-false (eqb c.args.b 53))
 
-pub is-table-type-spec : {M : Type 1} → statement M
-is-table-type-spec = tie.close (tie.spec returns)
+pub is_table_type_spec : {M : Type 1} → statement M
+is_table_type_spec = tie.close (tie.spec returns)

@@ -8,11 +8,11 @@ use Rattle.changes_table.proofs.letter_at.Tie as tie
 
 returns : tie.Need-returns
 returns c =
-    let t = c.before in
-    let b = t.before in
-    let a = b.before.before.args in
-    rw (c.byte-fault.ensures, t.is-table-letter.ensures, b.byte_of.ensures, one_byte (66 ∷ 67 ∷ 68 ∷ 73 ∷ 32 ∷ []) a.rec.now 23)
+    let t = c in
+    let b = t in
+    let a = b.args in
+    rw (c.byte_fault.ensures, t.is_table_letter.ensures, b.byte_of.ensures, one_byte (66 ∷ 67 ∷ 68 ∷ 73 ∷ 32 ∷ []) a.rec.now 23)
 
-pub letter-at-spec : {M : Type 1} → statement M
-letter-at-spec =
+pub letter_at_spec : {M : Type 1} → statement M
+letter_at_spec =
     tie.close (tie.spec (λ c κs. search rules) (λ c κs. search rules) (λ c κs. search rules) returns)

@@ -8,9 +8,9 @@ use Rattle.changes_table.proofs.name_fault.Tie as tie
 
 returns : tie.Need-returns
 returns c =
-    let f = c.before in
-    let a = f.before.before.args in
+    let f = c in
+    let a = f.args in
     rw (c.first_of.ensures, f.filled_at.ensures, (let size : 24 + (a.end - 24) ≡ a.end = omega arith in size))
 
-pub name-fault-spec : {M : Type 1} → statement M
-name-fault-spec = tie.close (tie.spec (λ c κs. search rules) (λ c κs. search rules) returns)
+pub name_fault_spec : {M : Type 1} → statement M
+name_fault_spec = tie.close (tie.spec (λ c κs. search rules) (λ c κs. search rules) returns)

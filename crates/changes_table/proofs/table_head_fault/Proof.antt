@@ -8,19 +8,19 @@ use Rattle.changes_table.proofs.table_head_fault.Tie as tie
 
 returns : tie.Need-returns
 returns c =
-    let behind-type-at = c.before in
-    let behind-first-of3 = behind-type-at.before in
-    let behind-key-at = behind-first-of3.before in
-    let behind-first-of2 = behind-key-at.before in
-    let behind-digits-at = behind-first-of2.before in
-    let behind-first-of = behind-digits-at.before in
-    let behind-letter-at = behind-first-of.before in
-    let at-start = behind-letter-at.before.before in
-    rw (c.first-of4.ensures, behind-type-at.type_at.ensures, behind-first-of3.first-of3.ensures, behind-key-at.key-at.ensures, behind-first-of2.first-of2.ensures, behind-digits-at.digits-at.ensures, behind-first-of.first_of.ensures, behind-letter-at.letter_at.ensures)
+    let behind-type-at = c in
+    let behind-first-of3 = behind-type-at in
+    let behind-key-at = behind-first-of3 in
+    let behind-first-of2 = behind-key-at in
+    let behind-digits-at = behind-first-of2 in
+    let behind-first-of = behind-digits-at in
+    let behind-letter-at = behind-first-of in
+    let at-start = behind-letter-at in
+    rw (c.first_of.ensures, behind-type-at.type_at.ensures, behind-first-of3.first_of-key.ensures, behind-key-at.key_at.ensures, behind-first-of2.first_of-when.ensures, behind-digits-at.digits_at.ensures, behind-first-of.first_of-letter.ensures, behind-letter-at.letter_at.ensures)
     (rw (digits-join at-start.args.rec.now 9 17 23 (lit≤ tt) (lit≤ tt)))
 
-pub table-head-fault-spec : {M : Type 1} → statement M
-table-head-fault-spec =
+pub table_head_fault_spec : {M : Type 1} → statement M
+table_head_fault_spec =
     tie.close
     (tie.spec
     (λ c κs. search rules)

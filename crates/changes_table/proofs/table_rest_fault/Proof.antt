@@ -5,38 +5,38 @@ use borrow.Author.Tests.{ne_eqb}
 use Rattle.changes_table.proofs.table_rest_fault.Statement.{statement}
 use Rattle.changes_table.proofs.table_rest_fault.Tie as tie
 
-returns : tie.Need-returns
+returns : tie.Need-returns-in-49
 returns c =
-    let m = c.before in
-    rw c.locality-fault.ensures (simp (sym m.before.byte_of.ensures ∙ m.match.keys1))
+    let m = c in
+    rw c.locality_fault.ensures (simp (sym m.byte_of-kind.ensures ∙ m.in-49.is))
 
-returns-2 : tie.Need-returns-2
+returns-2 : tie.Need-returns-in-50
 returns-2 c =
-    let m = c.before in
-    rw c.name-fault.ensures (simp (sym m.before.byte_of.ensures ∙ m.match.keys2))
+    let m = c in
+    rw c.name_fault.ensures (simp (sym m.byte_of-kind.ensures ∙ m.in-50.is))
 
-returns-3 : tie.Need-returns-3
+returns-3 : tie.Need-returns-in-51
 returns-3 c =
-    let m = c.before in
-    rw c.name-fault2.ensures (simp (sym m.before.byte_of.ensures ∙ m.match.keys3))
+    let m = c in
+    rw c.name_fault-in-51.ensures (simp (sym m.byte_of-kind.ensures ∙ m.in-51.is))
 
-returns-4 : tie.Need-returns-4
+returns-4 : tie.Need-returns-in-52
 returns-4 c =
-    let m = c.before in
-    rw c.name-fault3.ensures (simp (sym m.before.byte_of.ensures ∙ m.match.keys4))
+    let m = c in
+    rw c.name_fault-in-52.ensures (simp (sym m.byte_of-kind.ensures ∙ m.in-52.is))
 
-returns-5 : tie.Need-returns-5
+returns-5 : tie.Need-returns-in-53
 returns-5 c =
-    let m = c.before in
-    rw c.name-fault4.ensures (simp (sym m.before.byte_of.ensures ∙ m.match.keys5))
+    let m = c in
+    rw c.name_fault-in-53.ensures (simp (sym m.byte_of-kind.ensures ∙ m.in-53.is))
 
-returns-6 : tie.Need-returns-6
+returns-6 : tie.Need-returns-in_default
 returns-6 c =
-    let n = rw c.before.byte_of.ensures at c.match.rest in
+    let n = rw c.byte_of-kind.ensures at c.in_default.in_default-own.rest in
     simp (ne_eqb _ 49 n.0.0.0.0.1, ne_eqb _ 50 n.0.0.0.1, ne_eqb _ 51 n.0.0.1, ne_eqb _ 52 n.0.1, ne_eqb _ 53 n.1)
 
-pub table-rest-fault-spec : {M : Type 1} → statement M
-table-rest-fault-spec =
+pub table_rest_fault_spec : {M : Type 1} → statement M
+table_rest_fault_spec =
     tie.close
     (tie.spec
     (λ c κs. search rules)

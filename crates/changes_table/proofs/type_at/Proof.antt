@@ -8,11 +8,11 @@ use Rattle.changes_table.proofs.type_at.Tie as tie
 
 returns : tie.Need-returns
 returns c =
-    let t = c.before in
-    let b = t.before in
-    let a = b.before.before.args in
-    rw (c.byte-fault.ensures, t.is-table-type.ensures, b.byte_of.ensures, one_byte (49 ∷ 50 ∷ 51 ∷ 52 ∷ 53 ∷ []) a.rec.now 0)
+    let t = c in
+    let b = t in
+    let a = b.args in
+    rw (c.byte_fault.ensures, t.is_table_type.ensures, b.byte_of.ensures, one_byte (49 ∷ 50 ∷ 51 ∷ 52 ∷ 53 ∷ []) a.rec.now 0)
 
-pub type-at-spec : {M : Type 1} → statement M
-type-at-spec =
+pub type_at_spec : {M : Type 1} → statement M
+type_at_spec =
     tie.close (tie.spec (λ c κs. search rules) (λ c κs. search rules) (λ c κs. search rules) returns)

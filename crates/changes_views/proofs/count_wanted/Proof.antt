@@ -10,58 +10,58 @@ use Rattle.changes_views.proofs.Laws.{next-range, next-next, places-step, places
 use Rattle.changes_views.proofs.count_wanted.Statement.{statement}
 use Rattle.changes_views.proofs.count_wanted.Tie as tie
 
-abbrev invariant-loop : tie.invariant-loop
+abbrev invariant-loop : tie.invariant-loop-at
 invariant-loop points code last n₀ at₀ n at =
     (n ≤ at)
     × (next_wanted code points at ≡ at)
     × (wanted_count code points ≡ n + length (wanted_from code points (last_of points - at) at))
 
-abbrev decreases-loop : tie.decreases-loop
+abbrev decreases-loop : tie.decreases-loop-at
 decreases-loop points code last n₀ at₀ n at = last - at
 
-loop-holds : tie.Need-loop-init invariant-loop decreases-loop
+loop-holds : tie.Need-loop-at-init invariant-loop decreases-loop
 loop-holds c =
-    let a = c.before.before.before.before.args in
-    rw c.next-wanted.ensures (
+    let a = c.args in
+    rw c.next_wanted-at.ensures (
       omega arith,
       next-next a.code.now a.points.now _,
       omega (arith, count-is a.code.now a.points.now),
     )
 
-loop-less : tie.Need-loop-smaller invariant-loop decreases-loop
+loop-less : tie.Need-loop-at-smaller invariant-loop decreases-loop
 loop-less c =
-    let l = c.before.before in
-    let a = l.before.before.before.before.before.args in
-    omega (arith, c.next-wanted2.ensures, (next-range a.code.now a.points.now (l.loop.at + 1)).0)
+    let l = c in
+    let a = l.args in
+    omega (arith, c.next_wanted-at-in-loop-at.ensures, (next-range a.code.now a.points.now (l.loop-at.at + 1)).0)
 
-loop-again : tie.Need-loop-preserved invariant-loop decreases-loop
+loop-again : tie.Need-loop-at-preserved invariant-loop decreases-loop
 loop-again c =
-    let l = c.before.before in
-    let f = l.before.before in
-    let a = f.before.before.before.args in
-    let i = l.loop.at in
+    let l = c in
+    let f = l in
+    let a = f.args in
+    let i = l.loop-at.at in
     let step =
     ap length
-    (places-step a.code.now a.points.now i l.loop.invariant.1 (omega (arith, f.last_of.ensures))) in
-    rw c.next-wanted2.ensures (
+    (places-step a.code.now a.points.now i l.loop-at.invariant.1 (omega (arith, f.last_of-last.ensures))) in
+    rw c.next_wanted-at-in-loop-at.ensures (
       omega (arith, (next-range a.code.now a.points.now (i + 1)).0),
       next-next a.code.now a.points.now (i + 1),
-      omega (arith, l.loop.invariant.2, step),
+      omega (arith, l.loop-at.invariant.2, step),
     )
 
 returns : tie.Need-returns invariant-loop decreases-loop
 returns c =
-    let l = c.before in
-    let f = l.before.before in
-    let a = f.before.before.before.args in
+    let l = c in
+    let f = l in
+    let a = f.args in
     omega (
       arith,
-      l.loop.invariant.2,
-      ap length (places-end a.code.now a.points.now l.loop.at (omega (arith, f.last_of.ensures))),
+      l.loop-at.invariant.2,
+      ap length (places-end a.code.now a.points.now l.loop-at.at (omega (arith, f.last_of-last.ensures))),
     )
 
-pub count-wanted-spec : {M : Type 1} → statement M
-count-wanted-spec =
+pub count_wanted_spec : {M : Type 1} → statement M
+count_wanted_spec =
     tie.close
     (tie.spec invariant-loop decreases-loop (search rules) (search rules) loop-holds (search rules) (search rules) (search rules)
     loop-less loop-again returns)

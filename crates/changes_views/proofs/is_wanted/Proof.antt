@@ -6,32 +6,32 @@ use Rattle.changes_views.proofs.Laws.{wanted-other, wanted-any, wanted-live}
 use Rattle.changes_views.proofs.is_wanted.Statement.{statement}
 use Rattle.changes_views.proofs.is_wanted.Tie as tie
 
-returns : tie.Need-returns
+returns : tie.Need-returns-then-byte_of-ne49
 returns c =
-    let s = c.before.before.before.before in
+    let s = c in
     sym
     (wanted-other s.args.code.now s.args.rec.now
-    (ne_eqb _ 49 (rw c.before.byte_of.ensures at c.if1.true)))
+    (ne_eqb _ 49 (rw c.byte_of.ensures at c.if-byte_of-ne49.true)))
 
-returns-2 : tie.Need-returns-2
+returns-2 : tie.Need-returns-then-code-eq0
 returns-2 c =
-    let t = c.before in
-    let s = t.before.before.before.before in
+    let t = c in
+    let s = t in
     sym
     (wanted-any s.args.code.now s.args.rec.now
-    (eq-eqb _ 49 (rw t.before.byte_of.ensures at t.if1.false)) c.if2.true)
+    (eq-eqb _ 49 (rw t.byte_of.ensures at t.if-byte_of-ne49.false)) c.if-code-eq0.true)
 
-returns-3 : tie.Need-returns-3
+returns-3 : tie.Need-returns
 returns-3 c =
-    let b = c.before.before in
-    let u = b.before in
-    let t = u.before in
-    let s = t.before.before.before.before in
-    rw (c.same_bytes.ensures, c.before.part_of.ensures, b.byte-of2.ensures)
+    let b = c in
+    let u = b in
+    let t = u in
+    let s = t in
+    rw (c.same_bytes-same.ensures, c.part_of-outward.ensures, b.byte_of-letter.ensures)
     (sym
     (wanted-live s.args.code.now s.args.rec.now
-    (eq-eqb _ 49 (rw t.before.byte_of.ensures at t.if1.false)) u.if2.false))
+    (eq-eqb _ 49 (rw t.byte_of.ensures at t.if-byte_of-ne49.false)) u.if-code-eq0.false))
 
-pub is-wanted-spec : {M : Type 1} → statement M
-is-wanted-spec =
+pub is_wanted_spec : {M : Type 1} → statement M
+is_wanted_spec =
     tie.close (tie.spec (search rules) returns returns-2 (search rules) (search rules) (search rules) returns-3)

@@ -8,44 +8,44 @@ use Rattle.changes_views.proofs.Laws.{next-stop, next-step, next-end}
 use Rattle.changes_views.proofs.next_wanted.Statement.{statement}
 use Rattle.changes_views.proofs.next_wanted.Tie as tie
 
-abbrev invariant-loop : tie.invariant-loop
+abbrev invariant-loop : tie.invariant-loop-at
 invariant-loop points code i last at₀ at = next_wanted code points i ≡ next_wanted code points at
 
-abbrev decreases-loop : tie.decreases-loop
+abbrev decreases-loop : tie.decreases-loop-at
 decreases-loop points code i last at₀ at = last - at
 
-loop-holds : tie.Need-loop-init invariant-loop decreases-loop
+loop-holds : tie.Need-loop-at-init invariant-loop decreases-loop
 loop-holds c = refl
 
-returns : tie.Need-returns invariant-loop decreases-loop
+returns : tie.Need-returns-then-is_wanted invariant-loop decreases-loop
 returns c =
-    let l = c.before.before.before.before in
-    let f = l.before in
-    let a = f.before.before.before.args in
+    let l = c in
+    let f = l in
+    let a = f.args in
     sym
-    (l.loop.invariant
-    ∙ next-stop a.code.now a.points.now l.loop.at (omega (arith, f.last_of.ensures))
-    (rw (c.before.is_wanted.ensures, c.before.before.point-record.ensures) at c.if1.true))
+    (l.loop-at.invariant
+    ∙ next-stop a.code.now a.points.now l.loop-at.at (omega (arith, f.last_of-last.ensures))
+    (rw (c.is_wanted.ensures, c.point_record-rec.ensures) at c.if-is_wanted.true))
 
-loop-again : tie.Need-loop-preserved invariant-loop decreases-loop
+loop-again : tie.Need-loop-at-preserved invariant-loop decreases-loop
 loop-again c =
-    let l = c.before.before.before.before in
-    let f = l.before in
-    let a = f.before.before.before.args in
-    l.loop.invariant
-    ∙ next-step a.code.now a.points.now l.loop.at (omega (arith, f.last_of.ensures))
-    (rw (c.before.is_wanted.ensures, c.before.before.point-record.ensures) at c.if1.false)
+    let l = c in
+    let f = l in
+    let a = f.args in
+    l.loop-at.invariant
+    ∙ next-step a.code.now a.points.now l.loop-at.at (omega (arith, f.last_of-last.ensures))
+    (rw (c.is_wanted.ensures, c.point_record-rec.ensures) at c.if-is_wanted.false)
 
-returns-2 : tie.Need-returns-2 invariant-loop decreases-loop
+returns-2 : tie.Need-returns invariant-loop decreases-loop
 returns-2 c =
-    let l = c.before in
-    let f = l.before in
-    let a = f.before.before.before.args in
+    let l = c in
+    let f = l in
+    let a = f.args in
     sym
-    (l.loop.invariant ∙ next-end a.code.now a.points.now l.loop.at (omega (arith, f.last_of.ensures)))
+    (l.loop-at.invariant ∙ next-end a.code.now a.points.now l.loop-at.at (omega (arith, f.last_of-last.ensures)))
 
-pub next-wanted-spec : {M : Type 1} → statement M
-next-wanted-spec =
+pub next_wanted_spec : {M : Type 1} → statement M
+next_wanted_spec =
     tie.close
     (tie.spec invariant-loop decreases-loop (search rules) loop-holds (search rules) (search rules) returns (search rules)
     (search rules) loop-again returns-2)

@@ -17,42 +17,42 @@ use Rattle.changes_views.proofs.number_at.Tie as tie
 none : (points : List ℕ) (place i : ℕ) → place ≤ i → wanted_from [] points (place - i) (i + 1) ≡ []
 none points place i h = rw (let z : place - i ≡ 0 = omega arith in z)
 
-abbrev invariant-loop : tie.invariant-loop
+abbrev invariant-loop : tie.invariant-loop-i
 invariant-loop points place n₀ i₀ n i =
     (n ≤ i) × (i ≤ place) × (view_number points place ≡ n + length (wanted_from [] points (place - i) (i + 1)))
 
-abbrev decreases-loop : tie.decreases-loop
+abbrev decreases-loop : tie.decreases-loop-i
 decreases-loop points place n₀ i₀ n i = place - i
 
-loop-holds : tie.Need-loop-init invariant-loop decreases-loop
-loop-holds c = (omega arith, omega arith, number_is c.before.args.points.now c.before.args.place ∙ rw (zero-add, sub-zero))
+loop-holds : tie.Need-loop-i-init invariant-loop decreases-loop
+loop-holds c = (omega arith, omega arith, number_is c.args.points.now c.args.place ∙ rw (zero-add, sub-zero))
 
-loop-again : tie.Need-loop-preserved invariant-loop decreases-loop
+loop-again : tie.Need-loop-i-preserved-then-is_wanted invariant-loop decreases-loop
 loop-again c =
-    let l = c.before.before.before.before.before in
-    let a = l.before.before.args in
+    let l = c in
+    let a = l.args in
     let step =
-    number_step a.points.now a.place l.loop.i true (omega arith)
-    (ap (wanted []) (sym c.before.before.before.point-record.ensures) ∙ (sym c.before.is_wanted.ensures ∙ c.if1.true)) in
-    (omega arith, omega arith, l.loop.invariant.2 ∙ omega (arith, step))
+    number_step a.points.now a.place l.loop-i.i true (omega arith)
+    (ap (wanted []) (sym c.point_record.ensures) ∙ (sym c.is_wanted.ensures ∙ c.if-is_wanted.true)) in
+    (omega arith, omega arith, l.loop-i.invariant.2 ∙ omega (arith, step))
 
-loop-again-2 : tie.Need-loop-preserved-2 invariant-loop decreases-loop
+loop-again-2 : tie.Need-loop-i-preserved invariant-loop decreases-loop
 loop-again-2 c =
-    let l = c.before.before.before.before.before in
-    let a = l.before.before.args in
+    let l = c in
+    let a = l.args in
     let step =
-    number_step a.points.now a.place l.loop.i false (omega arith)
-    (ap (wanted []) (sym c.before.before.before.point-record.ensures) ∙ (sym c.before.is_wanted.ensures ∙ c.if1.false)) in
-    (omega arith, omega arith, l.loop.invariant.2 ∙ omega (arith, step))
+    number_step a.points.now a.place l.loop-i.i false (omega arith)
+    (ap (wanted []) (sym c.point_record.ensures) ∙ (sym c.is_wanted.ensures ∙ c.if-is_wanted.false)) in
+    (omega arith, omega arith, l.loop-i.invariant.2 ∙ omega (arith, step))
 
 returns : tie.Need-returns invariant-loop decreases-loop
 returns c =
-    let l = c.before in
-    let a = l.before.before.args in
-    omega (arith, l.loop.invariant.2, ap length (none a.points.now a.place l.loop.i (omega arith)))
+    let l = c in
+    let a = l.args in
+    omega (arith, l.loop-i.invariant.2, ap length (none a.points.now a.place l.loop-i.i (omega arith)))
 
-pub number-at-spec : {M : Type 1} → statement M
-number-at-spec =
+pub number_at_spec : {M : Type 1} → statement M
+number_at_spec =
     tie.close
     (tie.spec invariant-loop decreases-loop loop-holds (search rules) (search rules) (search rules) (search rules) (search rules)
     (search rules) loop-again (search rules) loop-again-2 returns)

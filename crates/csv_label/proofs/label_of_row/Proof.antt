@@ -13,37 +13,37 @@ use Rattle.csv_label.proofs.label_of_row.Statement.{statement}
 use Rattle.csv_label.proofs.label_of_row.Tie as tie
 
 -- the file was accepted
-module _ (t : tie.After-enum-told) where
+module _ (t : tie.In-Value) where
   abbrev start : tie.Start
-  start = t.before.before.before.before.before
+  start = t.before.before.before.before
 
-label-at-requires : tie.Need-label-at-requires
+label-at-requires : tie.Need-label_at-requires
 label-at-requires c κs =
     let p = c.before in
     let t = p.before in
     let a = (start t).args in
-    row_here a.csv.now (sym t.before.before.check-csv.ensures ∙ t.enum_told.given.1) a.row p.row-place.result p.row-place.ensures.0 p.row-place.ensures.1
+    row_here a.csv.now (sym t.check_csv.ensures ∙ t.in-Value.is) a.row p.row_place.result p.row_place.ensures.0 p.row_place.ensures.1
 
-returns : tie.Need-returns
+returns : tie.Need-returns-in-Value
 unfolding row_label
 returns c =
-    let l = c.before.before in
-    let p = l.before.before in
+    let l = c in
+    let p = l in
     let t = p.before in
     let a = (start t).args in
     l.label_at.ensures
-    ∙ (ap (λ (o : Option (List ℕ)). label_or (resolved_of o) a.out.now) p.row-place.ensures.1
-    ∙ label-asked a.csv.now (sym t.before.before.check-csv.ensures ∙ t.enum_told.given.1) a.row a.out.now)
+    ∙ (ap (λ (o : Option (List ℕ)). label_or (resolved_of o) a.out.now) p.row_place.ensures.1
+    ∙ label-asked a.csv.now (sym t.check_csv.ensures ∙ t.in-Value.is) a.row a.out.now)
 
-returns-2 : tie.Need-returns-2
+returns-2 : tie.Need-returns-in-Refused
 unfolding csv_label
 returns-2 c =
-    let f = c.before in
-    let o = f.before.before in
-    let a = o.before.before.before.args in
-    sym (afterwards-refused Refused a.out.now _ (sym o.check-csv.ensures ∙ f.file.given.1))
+    let f = c in
+    let o = f in
+    let a = o.args in
+    sym (afterwards-refused Refused a.out.now _ (sym o.check_csv.ensures ∙ f.in-Refused.is))
 
-pub label-of-row-spec : {M : Type 1} → statement M
-label-of-row-spec =
+pub label_of_row_spec : {M : Type 1} → statement M
+label_of_row_spec =
     tie.close
     (tie.spec (search rules) (search rules) (search rules) label-at-requires (search rules) (search rules) returns returns-2)

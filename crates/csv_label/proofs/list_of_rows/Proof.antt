@@ -12,26 +12,26 @@ use Rattle.csv_label.proofs.list_of_rows.Tie as tie
 walk-requires : tie.Need-walk-requires
 walk-requires c κs =
     let n = c.before.before in
-    sym n.before.before.check-csv.ensures ∙ n.rows.given.1
+    sym n.check_csv.ensures ∙ n.in-Value.is
 
-returns : tie.Need-returns
+returns : tie.Need-returns-in-Value
 returns c =
-    let l = c.before.before in
-    let n = l.before.before.before in
-    let o = n.before.before in
-    let a = o.before.before.before.args in
+    let l = c in
+    let n = l in
+    let o = n in
+    let a = o.args in
     l.walk.ensures
-    ∙ rows-shown a.csv.now (sym o.check-csv.ensures ∙ n.rows.given.1) true a.first a.count a.out.now
+    ∙ rows-shown a.csv.now (sym o.check_csv.ensures ∙ n.in-Value.is) true a.first a.count a.out.now
 
-returns-2 : tie.Need-returns-2
+returns-2 : tie.Need-returns-in-Refused
 unfolding csv_list
 returns-2 c =
-    let f = c.before in
-    let o = f.before.before in
-    let a = o.before.before.before.args in
-    sym (afterwards-refused Unasked a.out.now _ (sym o.check-csv.ensures ∙ f.file.given.1))
+    let f = c in
+    let o = f in
+    let a = o.args in
+    sym (afterwards-refused Unasked a.out.now _ (sym o.check_csv.ensures ∙ f.in-Refused.is))
 
-pub list-of-rows-spec : {M : Type 1} → statement M
-list-of-rows-spec =
+pub list_of_rows_spec : {M : Type 1} → statement M
+list_of_rows_spec =
     tie.close
     (tie.spec (search rules) (search rules) walk-requires (search rules) (search rules) returns returns-2)

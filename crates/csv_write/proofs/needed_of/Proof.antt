@@ -10,19 +10,19 @@ use Rattle.csv_write.proofs.Sizes.{at-most-spans}
 use Rattle.csv_write.proofs.needed_of.Statement.{statement}
 use Rattle.csv_write.proofs.needed_of.Tie as tie
 
-returns : tie.Need-returns
+returns : tie.Need-returns-then-room-lt-AMPLE
 returns c x = (λ h. omega (arith, c.row_len.ensures x, h), λ h. c.row_len.ensures x)
 
 -- what is told of the spans, each of which says at most 255: all, and again from some of them on, since few are read at once
-ample : (c : tie.Else1) (x : Ending)
-    → let g = c.before.before.before.args in length (row_in g.a.now g.b.now g.e x) ≤ g.room
+ample : (c : tie.Else-room-lt-AMPLE) (x : Ending)
+    → let g = c.args in length (row_in g.a.now g.b.now g.e x) ≤ g.room
 ample c x =
-    let start = c.before.before.before in
+    let start = c in
     let told = start.well_formed.1.1.0 in
     omega (
       arith,
       at-most-spans start.args.a.now start.args.b.now start.args.e x,
-      c.if1.false,
+      c.if-room-lt-AMPLE.false,
       told.1,
       told.1.1.1.1,
       told.1.1.1.1.1.1.1.1,
@@ -30,8 +30,8 @@ ample c x =
       told.1.1.1.1.1.1.1.1.1.1.1.1.1.1,
     )
 
-returns-2 : tie.Need-returns-2
+returns-2 : tie.Need-returns
 returns-2 c x = (λ h. ample c x, λ h. omega (arith, h))
 
-pub needed-of-spec : {M : Type 1} → statement M
-needed-of-spec = tie.close (tie.spec (search rules) returns returns-2)
+pub needed_of_spec : {M : Type 1} → statement M
+needed_of_spec = tie.close (tie.spec (search rules) returns returns-2)

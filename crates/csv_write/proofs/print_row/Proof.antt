@@ -16,7 +16,7 @@ use Rattle.csv_write.proofs.print_row.Statement.{statement}
 use Rattle.csv_write.proofs.print_row.Tie as tie
 
 -- where the texts are carried
-module _ (kept : tie.Then1) where
+module _ (kept : tie.Then-is_carried) where
   abbrev start : tie.Start
   start = kept.before.before.before.before.before
 
@@ -27,35 +27,35 @@ module _ (kept : tie.Then1) where
   said_of = elements_in start.args.a.now start.args.b.now start.args.e
 
   is_carried : carried said_of ≡ true
-  is_carried = sym kept.before.is_carried.ensures ∙ kept.if1.taken
+  is_carried = sym kept.is_carried.ensures ∙ kept.if-is_carried.taken
 
-returns : tie.Need-returns
+returns : tie.Need-returns-then-out-needed
 returns c =
     let kept = c.before.before in
     let out = (start kept).args.out.now in
-    counted-short (row kept) out ((c.before.needed_of.ensures (start kept).args.x).1 c.if2.true) c.if2.true
+    counted-short (row kept) out ((c.needed_of-needed.ensures (start kept).args.x).1 c.if-out-needed.true) c.if-out-needed.true
     ∙ written-carried (row kept) (said_of kept) out (is_carried kept)
 
 -- and there is room
-fits : (c : tie.Else2) → length (row c.before.before) ≤ length (start c.before.before).args.out.now
-fits c = (c.before.needed_of.ensures (start c.before.before).args.x).0 (omega (arith, c.if2.false))
+fits : (c : tie.Else-out-needed) → length (row c.before.before) ≤ length (start c.before.before).args.out.now
+fits c = (c.needed_of-needed.ensures (start c.before.before).args.x).0 (omega (arith, c.if-out-needed.false))
 
-returns-2 : tie.Need-returns-2
+returns-2 : tie.Need-returns-then-is_carried
 returns-2 c =
-    let written = c.before.before in
+    let written = c in
     let room = written.before.before in
     let kept = room.before.before in
     let out = (start kept).args.out.now in
-    counted-written (row kept) out (fits room) written.write-row.ensures.size written.write-row.ensures.is
+    counted-written (row kept) out (fits room) written.write_row.ensures.size written.write_row.ensures.is
     ∙ written-carried (row kept) (said_of kept) out (is_carried kept)
 
-returns-3 : tie.Need-returns-3
+returns-3 : tie.Need-returns
 returns-3 c =
-    let g = c.before.before.before.before.before.args in
+    let g = c.args in
     written-not (row_in g.a.now g.b.now g.e g.x) (elements_in g.a.now g.b.now g.e) g.out.now
-    (sym c.before.is_carried.ensures ∙ c.if1.false)
+    (sym c.is_carried.ensures ∙ c.if-is_carried.false)
 
-pub print-row-spec : {M : Type 1} → statement M
-print-row-spec =
+pub print_row_spec : {M : Type 1} → statement M
+print_row_spec =
     tie.close
     (tie.spec (search rules) (search rules) returns (λ c κs. fits c.before) (search rules) returns-2 returns-3)

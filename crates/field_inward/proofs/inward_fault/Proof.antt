@@ -7,28 +7,28 @@ use Rattle.field_outward.proofs.Codes.{inward-bytes}
 use Rattle.field_inward.proofs.inward_fault.Statement.{statement}
 use Rattle.field_inward.proofs.inward_fault.Tie as tie
 
-returns : tie.Need-returns
+returns : tie.Need-returns-then-code-ne3
 unfolding inward_fault
-returns c = simp (ne_eqb _ 3 c.if1.true)
+returns c = simp (ne_eqb _ 3 c.if-code-ne3.true)
 
-returns-2 : tie.Need-returns-2
+returns-2 : tie.Need-returns
 returns-2 c =
-    let u = c.before.before.before in
-    let v = u.before in
-    let w = v.before.before.before in
-    let e = w.before.before in
+    let u = c in
+    let v = u in
+    let w = v in
+    let e = w in
     rw (
-      c.unless3.ensures,
-      c.before.is_digit.ensures,
-      u.unless2.ensures,
+      c.unless-2.ensures,
+      c.is_digit.ensures,
+      u.unless-letters.ensures,
       v.unless.ensures,
-      v.before.is-inward-letter2.ensures,
-      w.is-inward-letter.ensures,
+      v.is_inward_letter-2.ensures,
+      w.is_inward_letter.ensures,
     )
-    (sym (inward-bytes e.before.before.args.code.now e.if1.false))
+    (sym (inward-bytes e.args.code.now e.if-code-ne3.false))
 
-pub inward-fault-spec : {M : Type 1} → statement M
-inward-fault-spec =
+pub inward_fault_spec : {M : Type 1} → statement M
+inward_fault_spec =
     tie.close
     (tie.spec returns (search rules) (search rules) (search rules) (search rules) (search rules) (search rules)
     (search rules) (search rules) (search rules) returns-2)

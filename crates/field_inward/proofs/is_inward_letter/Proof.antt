@@ -8,7 +8,7 @@ use Rattle.field_inward.proofs.is_inward_letter.Tie as tie
 
 returns : tie.Need-returns
 unfolding inward_letter
-returns c = rw (c.is-letter.ensures, or-false)
+returns c = rw (c.is_letter.ensures, or-false)
 
-pub is-inward-letter-spec : {M : Type 1} → statement M
-is-inward-letter-spec = tie.close (tie.spec (search rules) returns)
+pub is_inward_letter_spec : {M : Type 1} → statement M
+is_inward_letter_spec = tie.close (tie.spec (search rules) returns)

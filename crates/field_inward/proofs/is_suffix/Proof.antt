@@ -13,22 +13,22 @@ use Rattle.field_outward.proofs.Codes.{suffix-bytes}
 use Rattle.field_inward.proofs.is_suffix.Statement.{statement}
 use Rattle.field_inward.proofs.is_suffix.Tie as tie
 
-returns : tie.Need-returns
+returns : tie.Need-returns-then-suffix-ne2
 unfolding suffix_fault
-returns c = simp (ne_eqb _ 2 c.if1.true)
+returns c = simp (ne_eqb _ 2 c.if-suffix-ne2.true)
 
 two : (t u : Bool) → t && u ≡ eqb (cond t (cond u 0 2) 1) 0
 two true true = refl
 two true false = refl
 two false u = refl
 
-returns-2 : tie.Need-returns-2
+returns-2 : tie.Need-returns
 returns-2 c =
-    let d = c.before.before in
-    let e = d.before.before in
-    let code = e.before.before.args.suffix.now in
-    rw (c.is-letter.ensures, d.is_digit.ensures, suffix-bytes code e.if1.false)
+    let d = c in
+    let e = d in
+    let code = e.args.suffix.now in
+    rw (c.is_letter.ensures, d.is_digit.ensures, suffix-bytes code e.if-suffix-ne2.false)
     (two (digit (get_or code 0 0)) (letter (get_or code 1 0)))
 
-pub is-suffix-spec : {M : Type 1} → statement M
-is-suffix-spec = tie.close (tie.spec returns (search rules) (search rules) (search rules) (search rules) returns-2)
+pub is_suffix_spec : {M : Type 1} → statement M
+is_suffix_spec = tie.close (tie.spec returns (search rules) (search rules) (search rules) (search rules) returns-2)

@@ -6,29 +6,29 @@ use Rattle.field.proofs.Runs.{run_at, run-but}
 use Rattle.field_outward.proofs.class_of.Statement.{statement}
 use Rattle.field_outward.proofs.class_of.Tie as tie
 
-returns : tie.Need-returns
+returns : tie.Need-returns-in-32
 unfolding class
-returns c = sym (ap class c.match.keys1)
+returns c = sym (ap class c.in-32.is)
 
-returns-2 : tie.Need-returns-2
+returns-2 : tie.Need-returns-in-48-to-57
 unfolding class
-returns-2 c = sym (run_at class 2 48 10 refl _ c.before.if1.false c.if2.true)
+returns-2 c = sym (run_at class 2 48 10 refl _ c.if-b-lt48.false c.in-48-to-57.if-b-lt58-own.true)
 
-returns-3 : tie.Need-returns-3
+returns-3 : tie.Need-returns-in-65-to-90
 unfolding class
-returns-3 c = sym (run_at class 1 65 26 refl _ c.before.if3.false c.if4.true)
+returns-3 c = sym (run_at class 1 65 26 refl _ c.if-b-lt65.false c.in-65-to-90.if-b-lt91-own.true)
 
-returns-4 : tie.Need-returns-4
+returns-4 : tie.Need-returns-in_default
 unfolding class
-returns-4 c = sym (run-but class 3 32 0 48 refl _ (omega arith) c.if1.true c.before.match.rest.1)
+returns-4 c = sym (run-but class 3 32 0 48 refl _ (omega arith) c.in_default.if-b-lt48-own.true c.in_default-1.rest.1)
 
-returns-5 : tie.Need-returns-5
+returns-5 : tie.Need-returns-in_default-2
 unfolding class
-returns-5 c = sym (run_at class 3 58 7 refl _ c.before.if2.false c.if3.true)
+returns-5 c = sym (run_at class 3 58 7 refl _ c.if-b-lt58.false c.in_default.if-b-lt65-own.true)
 
-returns-6 : tie.Need-returns-6
+returns-6 : tie.Need-returns-in_default-3
 unfolding class
-returns-6 c = sym (run_at class 3 91 165 refl _ c.if4.false (omega arith))
+returns-6 c = sym (run_at class 3 91 165 refl _ c.in_default.if-b-lt91-own.false (omega arith))
 
-pub class-of-spec : {M : Type 1} → statement M
-class-of-spec = tie.close (tie.spec returns returns-2 returns-3 returns-4 returns-5 returns-6)
+pub class_of_spec : {M : Type 1} → statement M
+class_of_spec = tie.close (tie.spec returns returns-2 returns-3 returns-4 returns-5 returns-6)

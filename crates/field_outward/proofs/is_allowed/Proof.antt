@@ -6,27 +6,27 @@ use Rattle.field_outward.proofs.Codes.{third-on}
 use Rattle.field_outward.proofs.is_allowed.Statement.{statement}
 use Rattle.field_outward.proofs.is_allowed.Tie as tie
 
-returns : tie.Need-returns
+returns : tie.Need-returns-in-0
 unfolding allowed
 returns c =
-    let m = c.before.before in
-    c.is-marked.ensures ∙ sym (ap (λ n. allowed n m.before.args.b) m.match.keys1)
+    let m = c in
+    c.is_marked.ensures ∙ sym (ap (λ n. allowed n m.args.b) m.in-0.is)
 
-returns-2 : tie.Need-returns-2
+returns-2 : tie.Need-returns-in-1
 unfolding allowed
 returns-2 c =
-    let m = c.before.before in
-    c.is-marked2.ensures ∙ sym (ap (λ n. allowed n m.before.args.b) m.match.keys2)
+    let m = c in
+    c.is_marked-in-1.ensures ∙ sym (ap (λ n. allowed n m.args.b) m.in-1.is)
 
-returns-3 : tie.Need-returns-3
+returns-3 : tie.Need-returns-in_default
 unfolding allowed
 returns-3 c =
-    let m = c.before.before in
-    c.is-marked3.ensures
-    ∙ third-on m.before.args.before m.before.args.b m.match.rest.0.1 m.match.rest.1
+    let m = c in
+    c.is_marked-in_default.ensures
+    ∙ third-on m.args.before m.args.b m.in_default.in_default-own.rest.0.1 m.in_default.in_default-own.rest.1
 
-pub is-allowed-spec : {M : Type 1} → statement M
-is-allowed-spec =
+pub is_allowed_spec : {M : Type 1} → statement M
+is_allowed_spec =
     tie.close
     (tie.spec (search rules) (search rules) (search rules) (search rules) (search rules) (search rules) returns
     returns-2 returns-3)

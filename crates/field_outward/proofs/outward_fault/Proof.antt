@@ -6,15 +6,15 @@ use Rattle.field_outward.proofs.Codes.{four, not-four}
 use Rattle.field_outward.proofs.outward_fault.Statement.{statement}
 use Rattle.field_outward.proofs.outward_fault.Tie as tie
 
-returns : tie.Need-returns
-returns c = sym (not-four c.before.before.args.code.now c.if1.true)
+returns : tie.Need-returns-then-code-ne4
+returns c = sym (not-four c.args.code.now c.if-code-ne4.true)
 
-returns-2 : tie.Need-returns-2
+returns-2 : tie.Need-returns
 returns-2 c =
-    let e = c.before.before.before.before.before in
-    c.pattern-fault.ensures ∙ sym (ap outward_fault (four e.before.before.args.code.now e.if1.false))
+    let e = c in
+    c.pattern_fault.ensures ∙ sym (ap outward_fault (four e.args.code.now e.if-code-ne4.false))
 
-pub outward-fault-spec : {M : Type 1} → statement M
-outward-fault-spec =
+pub outward_fault_spec : {M : Type 1} → statement M
+outward_fault_spec =
     tie.close
     (tie.spec returns (search rules) (search rules) (search rules) (search rules) (search rules) returns-2)

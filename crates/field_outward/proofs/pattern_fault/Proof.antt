@@ -7,96 +7,96 @@ use Rattle.field_outward.proofs.Codes.{to-3, sequence, one-letter, two-letters, 
 use Rattle.field_outward.proofs.pattern_fault.Statement.{statement}
 use Rattle.field_outward.proofs.pattern_fault.Tie as tie
 
-mul-sequence : tie.Need-overflow-mul-sequence
+mul-sequence : tie.Need-overflow_mul-sequence
 mul-sequence c = omega (arith, to-3 _ c.class_of.ensures)
 
-mul-sequence-2 : tie.Need-overflow-mul-sequence-2
-mul-sequence-2 c = omega (arith, to-3 _ c.class-of2.ensures)
+mul-sequence-2 : tie.Need-overflow_mul-sequence-2
+mul-sequence-2 c = omega (arith, to-3 _ c.class_of-2.ensures)
 
-add-sequence : tie.Need-overflow-add-sequence
-add-sequence c = omega (arith, to-3 _ c.class-of2.ensures, to-3 _ c.before.class_of.ensures)
+add-sequence : tie.Need-overflow_add-sequence
+add-sequence c = omega (arith, to-3 _ c.class_of-2.ensures, to-3 _ c.class_of.ensures)
 
-mul-sequence-3 : tie.Need-overflow-mul-sequence-3
-mul-sequence-3 c = omega (arith, to-3 _ c.class-of3.ensures)
+mul-sequence-3 : tie.Need-overflow_mul-sequence-3
+mul-sequence-3 c = omega (arith, to-3 _ c.class_of-3.ensures)
 
-add-sequence-2 : tie.Need-overflow-add-sequence-2
+add-sequence-2 : tie.Need-overflow_add-sequence-2
 add-sequence-2 c =
-    let b = c.before in
-    omega (arith, to-3 _ c.class-of3.ensures, to-3 _ b.class-of2.ensures, to-3 _ b.before.class_of.ensures)
+    let b = c in
+    omega (arith, to-3 _ c.class_of-3.ensures, to-3 _ b.class_of-2.ensures, to-3 _ b.class_of.ensures)
 
-add-sequence-3 : tie.Need-overflow-add-sequence-3
+add-sequence-3 : tie.Need-overflow_add-sequence-3
 add-sequence-3 c =
-    let third = c.before in
-    let b = third.before in
+    let third = c in
+    let b = third in
     omega (
       arith,
-      to-3 _ c.class-of4.ensures,
-      to-3 _ third.class-of3.ensures,
-      to-3 _ b.class-of2.ensures,
-      to-3 _ b.before.class_of.ensures,
+      to-3 _ c.class_of-4.ensures,
+      to-3 _ third.class_of-3.ensures,
+      to-3 _ b.class_of-2.ensures,
+      to-3 _ b.class_of.ensures,
     )
 
 -- the number that is matched is the class sequence
-classes : (c : tie.After-class-of4) → let b = c.before.before in let g = b.before.before.args in
-    b.before.class_of.result * 1000 + b.class-of2.result * 100 + c.before.class-of3.result * 10
-    + c.class-of4.result
+classes : (c : tie.After-class_of-4) → let b = c in let g = b.args in
+    b.class_of.result * 1000 + b.class_of-2.result * 100 + c.class_of-3.result * 10
+    + c.class_of-4.result
     ≡ sequence g.a g.b g.c g.d
 classes c =
-    let b = c.before.before in
-    rw (c.class-of4.ensures, c.before.class-of3.ensures, b.class-of2.ensures, b.before.class_of.ensures)
+    let b = c in
+    rw (c.class_of-4.ensures, c.class_of-3.ensures, b.class_of-2.ensures, b.class_of.ensures)
 
-returns : tie.Need-returns
+returns : tie.Need-returns-in-1200
 returns c =
-    let m = c.before in
-    let first = m.before in
-    let g = first.before.before.before.before.before.args in
-    rw (c.unless.ensures, first.is-allowed.ensures)
-    (sym (one-letter g.a g.b g.c g.d (rw (classes first.before) at m.match.keys1)))
+    let m = c in
+    let first = m in
+    let g = first.args in
+    rw (c.unless.ensures, first.is_allowed-first.ensures)
+    (sym (one-letter g.a g.b g.c g.d (rw (classes first.before) at m.in-1200.is)))
 
-returns-2 : tie.Need-returns-2
+returns-2 : tie.Need-returns-in-1120
 returns-2 c =
-    let second = c.before.before in
-    let m = second.before in
-    let first = m.before in
-    let g = first.before.before.before.before.before.args in
-    rw (c.unless3.ensures, c.before.unless2.ensures, second.is-allowed2.ensures, first.is-allowed.ensures)
-    (sym (two-letters g.a g.b g.c g.d (rw (classes first.before) at m.match.keys2)))
+    let second = c in
+    let m = second in
+    let first = m in
+    let g = first.args in
+    rw (c.unless-in-1120-2.ensures, c.unless-in-1120.ensures, second.is_allowed.ensures, first.is_allowed-first.ensures)
+    (sym (two-letters g.a g.b g.c g.d (rw (classes first.before) at m.in-1120.is)))
 
-returns-3 : tie.Need-returns-3
+returns-3 : tie.Need-returns-in-1210
 returns-3 c =
-    let second = c.before.before in
-    let m = second.before in
-    let first = m.before in
-    let g = first.before.before.before.before.before.args in
-    rw (c.unless5.ensures, c.before.unless4.ensures, second.is-allowed3.ensures, first.is-allowed.ensures)
-    (sym (apart-letters g.a g.b g.c g.d (rw (classes first.before) at m.match.keys3)))
+    let second = c in
+    let m = second in
+    let first = m in
+    let g = first.args in
+    rw (c.unless-in-1210-2.ensures, c.unless-in-1210.ensures, second.is_allowed-in-1210.ensures, first.is_allowed-first.ensures)
+    (sym (apart-letters g.a g.b g.c g.d (rw (classes first.before) at m.in-1210.is)))
 
-returns-4 : tie.Need-returns-4
+returns-4 : tie.Need-returns-in-1121
 returns-4 c =
-    let u = c.before.before in
-    let third = u.before in
-    let m = third.before.before in
-    let first = m.before in
-    let g = first.before.before.before.before.before.args in
+    let u = c in
+    let third = u in
+    let m = third in
+    let first = m in
+    let g = first.args in
     rw (
-      c.unless8.ensures,
-      c.before.unless7.ensures,
-      u.unless6.ensures,
-      third.is-allowed5.ensures,
-      third.before.is-allowed4.ensures,
-      first.is-allowed.ensures,
+      c.unless-in-1121-3.ensures,
+      c.unless-in-1121-2.ensures,
+      u.unless-in-1121.ensures,
+      third.is_allowed-in-1121-2.ensures,
+      third.is_allowed-in-1121.ensures,
+      first.is_allowed-first.ensures,
     )
-    (sym (three-letters g.a g.b g.c g.d (rw (classes first.before) at m.match.keys4)))
+    (sym (three-letters g.a g.b g.c g.d (rw (classes first.before) at m.in-1121.is)))
 
-returns-5 : tie.Need-returns-5
+returns-5 : tie.Need-returns-in_default
 returns-5 c =
     let k = c.before.before in
-    let g = k.before.before.before.before.args in
-    let n = rw (classes k) at c.match.rest in
+    let g = k.args in
+    let n = rw (classes k) at c.in_default.in_default-own.rest in
     sym (no-pattern g.a g.b g.c g.d n.0.0.0.1 n.0.0.1 n.0.1 n.1)
 
-pub pattern-fault-spec : {M : Type 1} → statement M
-pattern-fault-spec =
+pub pattern_fault_spec : {M : Type 1} → statement M
+pattern_fault_spec =
     tie.close
     (tie.spec (search rules) mul-sequence (search rules) mul-sequence-2 add-sequence (search rules) mul-sequence-3
     add-sequence-2 (search rules) add-sequence-3 (search rules) (search rules) (search rules) (search rules)

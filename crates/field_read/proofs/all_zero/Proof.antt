@@ -12,30 +12,30 @@ use Rattle.field.proofs.Faults.{every-step, every-end}
 use Rattle.field_read.proofs.all_zero.Statement.{statement}
 use Rattle.field_read.proofs.all_zero.Tie as tie
 
-abbrev invariant-loop : tie.invariant-loop
+abbrev invariant-loop : tie.invariant-loop-i
 invariant-loop s some₀ i₀ some i = (i ≤ length s) × (every zero_digit s ≡ not some && every zero_digit (drop i s))
 
-abbrev decreases-loop : tie.decreases-loop
+abbrev decreases-loop : tie.decreases-loop-i
 decreases-loop s some₀ i₀ some i = length s - i
 
-loop-holds : tie.Need-loop-init invariant-loop decreases-loop
+loop-holds : tie.Need-loop-i-init invariant-loop decreases-loop
 loop-holds c = (search rules, refl)
 
-loop-again : tie.Need-loop-preserved invariant-loop decreases-loop
+loop-again : tie.Need-loop-i-preserved invariant-loop decreases-loop
 loop-again c =
-    let l = c.before.before.before in
-    let a = l.before.before.args in
+    let l = c in
+    let a = l.args in
     rw c.digit_value.ensures
-    (omega arith, l.loop.invariant.1 ∙ every-step zero_digit a.s.now l.loop.i l.loop.some (omega arith))
+    (omega arith, l.loop-i.invariant.1 ∙ every-step zero_digit a.s.now l.loop-i.i l.loop-i.some (omega arith))
 
 returns : tie.Need-returns invariant-loop decreases-loop
 returns c =
-    let l = c.before in
-    let a = l.before.before.args in
-    sym (l.loop.invariant.1 ∙ every-end zero_digit a.s.now l.loop.i l.loop.some (omega arith))
+    let l = c in
+    let a = l.args in
+    sym (l.loop-i.invariant.1 ∙ every-end zero_digit a.s.now l.loop-i.i l.loop-i.some (omega arith))
 
-pub all-zero-spec : {M : Type 1} → statement M
-all-zero-spec =
+pub all_zero_spec : {M : Type 1} → statement M
+all_zero_spec =
     tie.close
     (tie.spec invariant-loop decreases-loop loop-holds (search rules) (search rules) (search rules) (search rules) loop-again
     returns)

@@ -8,74 +8,74 @@ use Rattle.field_read.proofs.Padding.{one-blank, two-blank, padded-first, padded
 use Rattle.field_read.proofs.padded_from.Statement.{statement}
 use Rattle.field_read.proofs.padded_from.Tie as tie
 
-four-asked : (c : tie.After-less) → let g = c.before.before.before.args in Padded g.rec.now g.end 4 c.less.result
+four-asked : (c : tie.After-less-four) → let g = c.args in Padded g.rec.now g.end 4 c.less-four.result
 four-asked c =
-    let four = c.before in
-    let start = four.before.before in
+    let four = c in
+    let start = four in
     let rec = start.args.rec.now in
     let end = start.args.end in
     let whole : end - 4 + 4 ≡ end = omega (arith, start.requires.0) in
-    padded-half rec end start.requires.0 4 end four.four-blank.result c.less.result
-    (padded-first rec end start.requires.0 start.requires.2) (sym (rw whole at four.four-blank.ensures)) c.less.ensures
+    padded-half rec end start.requires.0 4 end four.four_blank.result c.less-four.result
+    (padded-first rec end start.requires.0 start.requires.2) (sym (rw whole at four.four_blank.ensures)) c.less-four.ensures
 
-sub-less : tie.Need-overflow-sub-less
-sub-less c = omega (arith, (four-asked c).room, c.before.before.before.requires.0)
+sub-less : tie.Need-overflow_sub-four
+sub-less c = omega (arith, (four-asked c).room, c.requires.0)
 
-shared-slice-read-less : tie.Need-shared-slice-read-smaller
+shared-slice-read-less : tie.Need-bounds-rec-four
 shared-slice-read-less c =
     let p = four-asked c.before in
-    let start = c.before.before.before.before in
+    let start = c in
     omega (arith, p.room, p.before, start.requires.0, start.requires.1)
 
-sub-less-2 : tie.Need-overflow-sub-less-2
-sub-less-2 c = omega (arith, (four-asked c.before).room, c.before.before.before.before.requires.0)
+sub-less-2 : tie.Need-overflow_sub-four-2
+sub-less-2 c = omega (arith, (four-asked c.before).room, c.requires.0)
 
-shared-slice-read-less-2 : tie.Need-shared-slice-read-smaller-2
+shared-slice-read-less-2 : tie.Need-bounds-rec-four-2
 shared-slice-read-less-2 c =
     let p = four-asked c.before.before in
-    let start = c.before.before.before.before.before in
+    let start = c in
     omega (arith, p.room, p.before, start.requires.0, start.requires.1)
 
-less-requires-2 : tie.Need-less-requires-2
+less-requires-2 : tie.Need-less-two-requires
 less-requires-2 c κs =
-    omega (arith, (four-asked c.before.before).room, c.before.before.before.before.before.requires.0)
+    omega (arith, (four-asked c.before.before).room, c.requires.0)
 
-two-asked : (c : tie.After-less2) → let g = c.before.before.before.before.before.before.args in
-    Padded g.rec.now g.end 2 c.less2.result
+two-asked : (c : tie.After-less-two) → let g = c.args in
+    Padded g.rec.now g.end 2 c.less-two.result
 two-asked c =
     let four = c.before.before.before in
     let p = four-asked four in
-    let start = four.before.before.before in
+    let start = four in
     let rec = start.args.rec.now in
-    padded-half rec start.args.end start.requires.0 2 four.less.result _ c.less2.result p
-    (two-blank rec four.less.result (omega (arith, p.room, start.requires.0)) (omega (arith, p.before, start.requires.1)))
-    c.less2.ensures
+    padded-half rec start.args.end start.requires.0 2 four.less-four.result _ c.less-two.result p
+    (two-blank rec four.less-four.result (omega (arith, p.room, start.requires.0)) (omega (arith, p.before, start.requires.1)))
+    c.less-two.ensures
 
-sub-less-3 : tie.Need-overflow-sub-less-3
-sub-less-3 c = omega (arith, (two-asked c).room, c.before.before.before.before.before.before.requires.0)
+sub-less-3 : tie.Need-overflow_sub-two
+sub-less-3 c = omega (arith, (two-asked c).room, c.requires.0)
 
-shared-slice-read-less-3 : tie.Need-shared-slice-read-smaller-3
+shared-slice-read-less-3 : tie.Need-bounds-rec-two
 shared-slice-read-less-3 c =
     let p = two-asked c.before in
-    let start = c.before.before.before.before.before.before.before in
+    let start = c in
     omega (arith, p.room, p.before, start.requires.0, start.requires.1)
 
-less-requires-3 : tie.Need-less-requires-3
+less-requires-3 : tie.Need-less-requires
 less-requires-3 c κs =
-    omega (arith, (two-asked c.before).room, c.before.before.before.before.before.before.before.requires.0)
+    omega (arith, (two-asked c.before).room, c.requires.0)
 
 returns : tie.Need-returns
 returns c =
     let two = c.before.before in
     let p = two-asked two in
-    let start = two.before.before.before.before.before.before in
+    let start = two in
     let rec = start.args.rec.now in
-    padded-half rec start.args.end start.requires.0 1 two.less2.result _ c.less3.result p
-    (one-blank rec two.less2.result (omega (arith, p.room, start.requires.0)) (omega (arith, p.before, start.requires.1)))
-    c.less3.ensures
+    padded-half rec start.args.end start.requires.0 1 two.less-two.result _ c.less.result p
+    (one-blank rec two.less-two.result (omega (arith, p.room, start.requires.0)) (omega (arith, p.before, start.requires.1)))
+    c.less.ensures
 
-pub padded-from-spec : {M : Type 1} → statement M
-padded-from-spec =
+pub padded_from_spec : {M : Type 1} → statement M
+padded_from_spec =
     tie.close
     (tie.spec
     (search rules)

@@ -14,72 +14,72 @@ use Rattle.field_read.proofs.Padding.{padded-text}
 use Rattle.field_read.proofs.read_text.Statement.{statement}
 use Rattle.field_read.proofs.read_text.Tie as tie
 
-abbrev invariant-loop : tie.invariant-loop
+abbrev invariant-loop : tie.invariant-loop-e
 invariant-loop rec start end e₀ floor e = (start ≤ e) × (e ≤ length rec) × (text_in rec start e ≡ text_in rec start end)
 
-abbrev decreases-loop : tie.decreases-loop
+abbrev decreases-loop : tie.decreases-loop-e
 decreases-loop rec start end e₀ floor e = e
 
-at_first : (c : tie.After-lesser invariant-loop decreases-loop) → let a = c.before.before.args in
-    (c.lesser.result ≤ length a.rec.now) × (text_in a.rec.now a.start c.lesser.result ≡ text_in a.rec.now a.start a.end)
+at_first : (c : tie.After-lesser-e invariant-loop decreases-loop) → let a = c.args in
+    (c.lesser-e.result ≤ length a.rec.now) × (text_in a.rec.now a.start c.lesser-e.result ≡ text_in a.rec.now a.start a.end)
 at_first c =
-    let a = c.before.before.args in
-    rw c.lesser.ensures
+    let a = c.args in
+    rw c.lesser-e.ensures
     (min-le_right a.end (length a.rec.now), text-within a.rec.now a.start a.end)
 
-returns : tie.Need-returns invariant-loop decreases-loop
+returns : tie.Need-returns-then-e-start invariant-loop decreases-loop
 returns c =
     let first = c.before.before in
-    let a = first.before.before.args in
-    sym (text-none a.rec.now a.start first.lesser.result (omega arith)) ∙ (at_first first).1
+    let a = first.args in
+    sym (text-none a.rec.now a.start first.lesser-e.result (omega arith)) ∙ (at_first first).1
 
-add-floor : tie.Need-overflow-add-floor invariant-loop decreases-loop
+add-floor : tie.Need-overflow_add-floor invariant-loop decreases-loop
 add-floor c = omega (arith, (at_first c.before).0)
 
-loop-holds : tie.Need-loop-init invariant-loop decreases-loop
+loop-holds : tie.Need-loop-e-init invariant-loop decreases-loop
 loop-holds c = let f = at_first c.before in (omega arith, f.0, f.1)
 
-padded-from-requires : tie.Need-padded-from-requires invariant-loop decreases-loop
+padded-from-requires : tie.Need-padded_from-from-requires invariant-loop decreases-loop
 padded-from-requires c κs =
-    let asked = c.before in
-    let l = asked.before.before in
-    let whole : l.loop.e - 8 + 8 ≡ l.loop.e = omega arith in
-    (omega arith, l.loop.invariant.1, rw whole at (sym asked.eight-blank.ensures ∙ not-true _ c.if2.true))
+    let asked = c in
+    let l = asked in
+    let whole : l.loop-e.e - 8 + 8 ≡ l.loop-e.e = omega arith in
+    (omega arith, l.loop-e.invariant.1, rw whole at (sym asked.eight_blank.ensures ∙ c.if-not-eight_blank.true))
 
-sub-result : tie.Need-overflow-sub-result invariant-loop decreases-loop
-sub-result c = omega (arith, c.padded-from.ensures.room)
+sub-result : tie.Need-slice_bounds-result-count invariant-loop decreases-loop
+sub-result c = omega (arith, c.padded_from-from.ensures.room)
 
-part-result-end : tie.Need-slice-bounds-result-end invariant-loop decreases-loop
-part-result-end c = omega (arith, c.padded-from.ensures.before, c.before.before.before.before.loop.invariant.1)
+part-result-end : tie.Need-slice_bounds-result-end invariant-loop decreases-loop
+part-result-end c = omega (arith, c.padded_from-from.ensures.before, c.loop-e.invariant.1)
 
-returns-2 : tie.Need-returns-2 invariant-loop decreases-loop
+returns-2 : tie.Need-returns-then-not-eight_blank invariant-loop decreases-loop
 returns-2 c =
-    let found = c.before in
-    let l = found.before.before.before.before in
-    let a = l.before.before.before.before.args in
+    let found = c in
+    let l = found in
+    let a = l.args in
     sym
-    (padded-text a.rec.now l.loop.e (omega arith) a.start found.padded-from.result (omega arith) l.loop.invariant.1
-    found.padded-from.ensures)
-    ∙ l.loop.invariant.2
+    (padded-text a.rec.now l.loop-e.e (omega arith) a.start found.padded_from-from.result (omega arith) l.loop-e.invariant.1
+    found.padded_from-from.ensures)
+    ∙ l.loop-e.invariant.2
 
-loop-again : tie.Need-loop-preserved invariant-loop decreases-loop
+loop-again : tie.Need-loop-e-preserved invariant-loop decreases-loop
 loop-again c =
-    let asked = c.before in
-    let l = asked.before.before in
-    let a = l.before.before.before.before.args in
-    let e = l.loop.e in
+    let asked = c in
+    let l = asked in
+    let a = l.args in
+    let e = l.loop-e.e in
     let whole : e - 8 + 8 ≡ e = omega arith in
-    let spaces = rw whole at (sym asked.eight-blank.ensures ∙ not-false _ c.if2.false) in (
+    let spaces = rw whole at (sym asked.eight_blank.ensures ∙ c.if-not-eight_blank.false) in (
       omega arith,
-      omega (arith, l.loop.invariant.1),
-      sym (text-spaces a.rec.now a.start (e - 8) e (omega arith) (omega arith) spaces) ∙ l.loop.invariant.2,
+      omega (arith, l.loop-e.invariant.1),
+      sym (text-spaces a.rec.now a.start (e - 8) e (omega arith) (omega arith) spaces) ∙ l.loop-e.invariant.2,
     )
 
-returns-3 : tie.Need-returns-3 invariant-loop decreases-loop
-returns-3 c = c.text-by-bytes.ensures ∙ c.before.before.loop.invariant.2
+returns-3 : tie.Need-returns invariant-loop decreases-loop
+returns-3 c = c.text_by_bytes.ensures ∙ c.loop-e.invariant.2
 
-pub read-text-spec : {M : Type 1} → statement M
-read-text-spec =
+pub read_text_spec : {M : Type 1} → statement M
+read_text_spec =
     tie.close
     (tie.spec
     invariant-loop

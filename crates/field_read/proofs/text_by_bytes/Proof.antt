@@ -10,39 +10,39 @@ use Rattle.field.proofs.Texts.{text-back, text-stop, text-none}
 use Rattle.field_read.proofs.text_by_bytes.Statement.{statement}
 use Rattle.field_read.proofs.text_by_bytes.Tie as tie
 
-abbrev invariant-loop : tie.invariant-loop
+abbrev invariant-loop : tie.invariant-loop-e
 invariant-loop rec start end e₀ e = (e ≤ length rec) × (text_in rec start e ≡ text_in rec start end)
 
-abbrev decreases-loop : tie.decreases-loop
+abbrev decreases-loop : tie.decreases-loop-e
 decreases-loop rec start end e₀ e = e
 
-loop-holds : tie.Need-loop-init invariant-loop decreases-loop
+loop-holds : tie.Need-loop-e-init invariant-loop decreases-loop
 loop-holds c = (c.requires, refl)
 
-returns : tie.Need-returns invariant-loop decreases-loop
+returns : tie.Need-returns-then-rec-e-ne32 invariant-loop decreases-loop
 returns c =
-    let l = c.before.before.before.before in
-    let a = l.before.args in
-    sym (text-stop a.rec.now a.start l.loop.e (omega arith) l.loop.invariant.0 c.before.if1.true)
-    ∙ l.loop.invariant.1
+    let l = c in
+    let a = l.args in
+    sym (text-stop a.rec.now a.start l.loop-e.e (omega arith) l.loop-e.invariant.0 c.if-rec-e-ne32.true)
+    ∙ l.loop-e.invariant.1
 
-loop-again : tie.Need-loop-preserved invariant-loop decreases-loop
+loop-again : tie.Need-loop-e-preserved invariant-loop decreases-loop
 loop-again c =
-    let l = c.before.before.before in
-    let a = l.before.args in (
+    let l = c in
+    let a = l.args in (
       omega arith,
-      sym (text-back a.rec.now a.start l.loop.e (omega arith) l.loop.invariant.0 c.if1.false)
-          ∙ l.loop.invariant.1,
+      sym (text-back a.rec.now a.start l.loop-e.e (omega arith) l.loop-e.invariant.0 c.if-rec-e-ne32.false)
+          ∙ l.loop-e.invariant.1,
     )
 
-returns-2 : tie.Need-returns-2 invariant-loop decreases-loop
+returns-2 : tie.Need-returns invariant-loop decreases-loop
 returns-2 c =
-    let l = c.before.before in
-    let a = l.before.args in
-    sym (text-none a.rec.now a.start l.loop.e (omega arith)) ∙ l.loop.invariant.1
+    let l = c in
+    let a = l.args in
+    sym (text-none a.rec.now a.start l.loop-e.e (omega arith)) ∙ l.loop-e.invariant.1
 
-pub text-by-bytes-spec : {M : Type 1} → statement M
-text-by-bytes-spec =
+pub text_by_bytes_spec : {M : Type 1} → statement M
+text_by_bytes_spec =
     tie.close
     (tie.spec invariant-loop decreases-loop loop-holds (search rules) (search rules) (search rules) (search rules)
     (search rules) returns (search rules) (search rules) loop-again (search rules) returns-2)

@@ -8,20 +8,20 @@ use Rattle.field.proofs.Values.{value-whole}
 use Rattle.field_read.proofs.value_by_digits.Statement.{statement}
 use Rattle.field_read.proofs.value_by_digits.Tie as tie
 
-slice-aggregate-nine-digits : tie.Need-slice-aggregate-nine-digits
-slice-aggregate-nine-digits c = sym (length-take-le 9 c.before.before.before.args.s.now (omega arith))
+slice-aggregate-nine-digits : tie.Need-slice_bounds-nine_digits-end
+slice-aggregate-nine-digits c = sym (length-take-le 9 c.args.s.now (omega arith))
 
-nine-digits-requires : tie.Need-nine-digits-requires
-nine-digits-requires c κs = omega (arith, length-take-le 9 c.before.before.before.args.s.now (omega arith))
+nine-digits-requires : tie.Need-nine_digits-requires
+nine-digits-requires c κs = omega (arith, length-take-le 9 c.args.s.now (omega arith))
 
-returns : tie.Need-returns
+returns : tie.Need-returns-then-s-gt9
 unfolding value
-returns c = c.nine-digits.ensures
+returns c = c.nine_digits.ensures
 
-returns-2 : tie.Need-returns-2
-returns-2 c = c.nine-digits2.ensures ∙ sym (value-whole c.before.before.before.args.s.now (omega arith))
+returns-2 : tie.Need-returns-else-s-gt9
+returns-2 c = c.nine_digits-else-s-gt9.ensures ∙ sym (value-whole c.args.s.now (omega arith))
 
-pub value-by-digits-spec : {M : Type 1} → statement M
-value-by-digits-spec =
+pub value_by_digits_spec : {M : Type 1} → statement M
+value_by_digits_spec =
     tie.close
     (tie.spec slice-aggregate-nine-digits nine-digits-requires (search rules) returns returns-2)

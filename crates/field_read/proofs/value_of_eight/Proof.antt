@@ -6,15 +6,15 @@ use native.Mathlib.Omega.{arith}
 use Rattle.field_read.proofs.value_of_eight.Statement.{statement}
 use Rattle.field_read.proofs.value_of_eight.Tie as tie
 
-value-at-requires : tie.Need-value-at-requires
-value-at-requires c κs = (omega arith, c.before.are-digits.ensures c.if1.true)
+value-at-requires : tie.Need-value_at-requires
+value-at-requires c κs = (omega arith, c.are_digits.ensures c.if-are_digits.true)
 
-returns : tie.Need-returns
+returns : tie.Need-returns-then-are_digits
 returns c =
-    let start = c.before.before.before.before in
-    c.value-at.ensures ∙ eight-says start.args.s.now start.requires
+    let start = c in
+    c.value_at.ensures ∙ eight-says start.args.s.now start.requires
 
-pub value-of-eight-spec : {M : Type 1} → statement M
-value-of-eight-spec =
+pub value_of_eight_spec : {M : Type 1} → statement M
+value_of_eight_spec =
     tie.close
     (tie.spec (search rules) value-at-requires (search rules) returns (search rules))

@@ -10,9 +10,9 @@ use Rattle.field_test.proofs.all_are.Tie as tie
 
 returns : tie.Need-returns
 returns c =
-    let a = c.before.before.args in
+    let a = c.args in
     c.all_in.ensures ∙ every-same (member a.b a.b 1 0) (λ x. eqb x a.b) (one_byte a.b) a.s.now
 
-pub all-are-spec : {M : Type 1} → statement M
-all-are-spec =
+pub all_are_spec : {M : Type 1} → statement M
+all_are_spec =
     tie.close (tie.spec (search rules) returns)

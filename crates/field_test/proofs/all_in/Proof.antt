@@ -11,36 +11,36 @@ use Rattle.field.proofs.Faults.{every-step, every-end}
 use Rattle.field_test.proofs.all_in.Statement.{statement}
 use Rattle.field_test.proofs.all_in.Tie as tie
 
-abbrev invariant-loop : tie.invariant-loop
+abbrev invariant-loop : tie.invariant-loop-i
 invariant-loop s low high from to bad₀ i₀ bad i = (i ≤ length s) × (every (member low high from to) s ≡ not bad && every (member low high from to) (drop i s))
 
-abbrev decreases-loop : tie.decreases-loop
+abbrev decreases-loop : tie.decreases-loop-i
 decreases-loop s low high from to bad₀ i₀ bad i = length s - i
 
-loop-holds : tie.Need-loop-init invariant-loop decreases-loop
+loop-holds : tie.Need-loop-i-init invariant-loop decreases-loop
 loop-holds c = (search rules, refl)
 
-loop-again : tie.Need-loop-preserved invariant-loop decreases-loop
+loop-again : tie.Need-loop-i-preserved invariant-loop decreases-loop
 loop-again c =
-    let l = c.before.before.before in
-    let a = l.before.before.args in
-    rw c.outside.ensures (
+    let l = c in
+    let a = l.args in
+    rw c.outside-bad.ensures (
       omega arith,
-      l.loop.invariant.1
-          ∙ every-step (member a.low a.high a.from a.to) a.s.now l.loop.i l.loop.bad
+      l.loop-i.invariant.1
+          ∙ every-step (member a.low a.high a.from a.to) a.s.now l.loop-i.i l.loop-i.bad
           (omega arith),
     )
 
 returns : tie.Need-returns invariant-loop decreases-loop
 returns c =
-    let l = c.before in
-    let a = l.before.before.args in
+    let l = c in
+    let a = l.args in
     sym
-    (l.loop.invariant.1
-    ∙ every-end (member a.low a.high a.from a.to) a.s.now l.loop.i l.loop.bad (omega arith))
+    (l.loop-i.invariant.1
+    ∙ every-end (member a.low a.high a.from a.to) a.s.now l.loop-i.i l.loop-i.bad (omega arith))
 
-pub all-in-spec : {M : Type 1} → statement M
-all-in-spec =
+pub all_in_spec : {M : Type 1} → statement M
+all_in_spec =
     tie.close
     (tie.spec invariant-loop decreases-loop loop-holds (search rules) (search rules) (search rules) (search rules) loop-again
     returns)

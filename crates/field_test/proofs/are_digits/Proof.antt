@@ -10,7 +10,7 @@ use Rattle.field_test.proofs.are_digits.Tie as tie
 
 returns : tie.Need-returns
 returns c =
-    c.all_in.ensures ∙ every-same (member 48 57 1 0) digit (one-range 48 57) c.before.before.args.s.now
+    c.all_in.ensures ∙ every-same (member 48 57 1 0) digit (one-range 48 57) c.args.s.now
 
-pub are-digits-spec : {M : Type 1} → statement M
-are-digits-spec = tie.close (tie.spec (search rules) returns)
+pub are_digits_spec : {M : Type 1} → statement M
+are_digits_spec = tie.close (tie.spec (search rules) returns)

@@ -6,6 +6,6 @@ use Rattle.field_test.proofs.are_text.Tie as tie
 returns : tie.Need-returns
 returns c = c.all_in.ensures
 
-pub are-text-spec : {M : Type 1} → statement M
-are-text-spec =
+pub are_text_spec : {M : Type 1} → statement M
+are_text_spec =
     tie.close (tie.spec (search rules) returns)

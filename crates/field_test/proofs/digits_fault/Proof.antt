@@ -11,9 +11,9 @@ use Rattle.field_test.proofs.digits_fault.Tie as tie
 returns : tie.Need-returns
 unfolding digits_fault
 returns c =
-    c.fault-of.ensures
-    ∙ fault-same (member 48 57 1 0) digit (one-range 48 57) c.before.before.args.s.now 1
+    c.fault_of.ensures
+    ∙ fault-same (member 48 57 1 0) digit (one-range 48 57) c.args.s.now 1
 
-pub digits-fault-spec : {M : Type 1} → statement M
-digits-fault-spec =
+pub digits_fault_spec : {M : Type 1} → statement M
+digits_fault_spec =
     tie.close (tie.spec (search rules) returns)

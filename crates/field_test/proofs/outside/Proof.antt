@@ -6,5 +6,5 @@ use Rattle.field_test.proofs.outside.Tie as tie
 returns : tie.Need-returns
 returns c = outside-member c.args.low c.args.high c.args.from c.args.to c.args.b
 
-pub outside-spec : {M : Type 1} → statement M
-outside-spec = tie.close (tie.spec returns)
+pub outside_spec : {M : Type 1} → statement M
+outside_spec = tie.close (tie.spec returns)

@@ -5,27 +5,27 @@ use Rattle.field.proofs.Texts.{text-blank, text-other}
 use Rattle.field_test.proofs.text_fault.Statement.{statement}
 use Rattle.field_test.proofs.text_fault.Tie as tie
 
-returns : tie.Need-returns
+returns : tie.Need-returns-then-all_are
 returns c =
-    let t = c.before.before in
-    let a = t.before.before.before.args in
-    rw (text-blank a.s.now (sym t.before.starts-blank.ensures ∙ t.if1.true))
-    (simp (sym c.before.all_are.ensures ∙ c.if2.true))
+    let t = c in
+    let a = t.args in
+    rw (text-blank a.s.now (sym t.starts_blank.ensures ∙ t.if-starts_blank.true))
+    (simp (sym c.all_are.ensures ∙ c.if-all_are.true))
 
-returns-2 : tie.Need-returns-2
+returns-2 : tie.Need-returns-else-all_are
 returns-2 c =
-    let t = c.before.before in
-    let a = t.before.before.before.args in
-    rw (text-blank a.s.now (sym t.before.starts-blank.ensures ∙ t.if1.true))
-    (simp (sym c.before.all_are.ensures ∙ c.if2.false))
+    let t = c in
+    let a = t.args in
+    rw (text-blank a.s.now (sym t.starts_blank.ensures ∙ t.if-starts_blank.true))
+    (simp (sym c.all_are.ensures ∙ c.if-all_are.false))
 
-returns-3 : tie.Need-returns-3
+returns-3 : tie.Need-returns-else-starts_blank
 returns-3 c =
-    let e = c.before in
-    let a = e.before.before.before.args in
-    c.text-bytes-fault.ensures
-    ∙ sym (text-other a.s.now (sym e.before.starts-blank.ensures ∙ e.if1.false))
+    let e = c in
+    let a = e.args in
+    c.text_bytes_fault.ensures
+    ∙ sym (text-other a.s.now (sym e.starts_blank.ensures ∙ e.if-starts_blank.false))
 
-pub text-fault-spec : {M : Type 1} → statement M
-text-fault-spec =
+pub text_fault_spec : {M : Type 1} → statement M
+text_fault_spec =
     tie.close (tie.spec (search rules) (search rules) (search rules) returns returns-2 returns-3)

@@ -6,24 +6,24 @@ use Rattle.file.specs.Formats.{format_of}
 use Rattle.file_check.proofs.check.Statement.{statement}
 use Rattle.file_check.proofs.check.Tie as tie
 
-returns : tie.Need-returns
+returns : tie.Need-returns-in-Fine
 unfolding checked
 returns c =
-    let v = c.before.before.before in
-    let a = v.before.before.before.args in
-    rw c.records-in.ensures
-    (ap (answered (format_of a.kind) a.file.now) (sym (sym v.verdict-of.ensures ∙ c.before.enum_told.given.1)))
+    let v = c in
+    let a = v.args in
+    rw c.records_in.ensures
+    (ap (answered (format_of a.kind) a.file.now) (sym (sym v.verdict_of.ensures ∙ c.in-Fine.is)))
 
-returns-2 : tie.Need-returns-2
+returns-2 : tie.Need-returns-in-Bad
 unfolding checked
 returns-2 c =
-    let v = c.before.before.before in
-    let n = v.before in
-    let a = n.before.before.args in
-    rw n.Numbers-of.ensures.0 (ap (answered (format_of a.kind) a.file.now) (sym (sym v.verdict-of.ensures ∙ c.before.reason.given.1)))
+    let v = c in
+    let n = v in
+    let a = n.args in
+    rw n.Numbers-of.ensures.0 (ap (answered (format_of a.kind) a.file.now) (sym (sym v.verdict_of.ensures ∙ c.in-Bad.is)))
 
-pub check-spec : {M : Type 1} → statement M
-check-spec =
+pub check_spec : {M : Type 1} → statement M
+check_spec =
     tie.close
     (tie.spec
     (λ c κs. search rules)

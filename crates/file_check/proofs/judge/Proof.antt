@@ -12,74 +12,74 @@ use Rattle.file.proofs.Laws.{judged-malformed, judged-falls, judged-stray, judge
 use Rattle.file_check.proofs.judge.Statement.{statement}
 use Rattle.file_check.proofs.judge.Tie as tie
 
-returns : tie.Need-returns
+returns : tie.Need-returns-then-fault-ne0
 returns c =
-    let t = c.before in
-    let f = t.before in
-    let r = f.before in
-    let a = r.before.before.args in
-    let byte = f.fault-in.ensures ∙ ap (format_of a.kind).fault r.record-in.ensures in
+    let t = c in
+    let f = t in
+    let r = f in
+    let a = r.args in
+    let byte = f.fault_in-fault.ensures ∙ ap (format_of a.kind).fault r.record_in-rec.ensures in
     rw c.malformed.ensures
     (ap (λ (b : ℕ). Bad (malformed_at (a.i + 1) b)) byte
-    ∙ sym (judged-malformed (format_of a.kind) a.file.now a.i (rw byte at t.if1.true)))
+    ∙ sym (judged-malformed (format_of a.kind) a.file.now a.i (rw byte at t.if-fault-ne0.true)))
 
-returns-2 : tie.Need-returns-2
+returns-2 : tie.Need-returns-then-not-is_above
 returns-2 c =
-    let u = c.before in
-    let p = u.before in
-    let t = p.before in
-    let f = t.before in
-    let r = f.before in
-    let a = r.before.before.args in
+    let u = c in
+    let p = u in
+    let t = p in
+    let f = t in
+    let r = f in
+    let a = r.args in
     sym
     (judged-falls (format_of a.kind) a.file.now a.i
-    (rw (f.fault-in.ensures, r.record-in.ensures) at t.if1.false)
-    (not-true _ (rw (u.is-above.ensures, p.record-in2.ensures, r.record-in.ensures) at c.if2.true)))
+    (rw (f.fault_in-fault.ensures, r.record_in-rec.ensures) at t.if-fault-ne0.false)
+    (not-true _ (rw (u.is_above.ensures, p.record_in-before.ensures, r.record_in-rec.ensures) at c.if-not-is_above.true)))
 
-returns-3 : tie.Need-returns-3
+returns-3 : tie.Need-returns-then-is_between
 returns-3 c =
-    let b = c.before in
-    let v = b.before in
-    let u = v.before in
-    let p = u.before in
-    let t = p.before in
-    let f = t.before in
-    let r = f.before in
-    let a = r.before.before.args in
+    let b = c in
+    let v = b in
+    let u = v in
+    let p = u in
+    let t = p in
+    let f = t in
+    let r = f in
+    let a = r.args in
     sym
     (judged-fine (format_of a.kind) a.file.now a.i
-    (rw (f.fault-in.ensures, r.record-in.ensures) at t.if1.false)
-    (not-false _ (rw (u.is-above.ensures, p.record-in2.ensures, r.record-in.ensures) at v.if2.false))
-    (rw b.is-between.ensures at c.if3.true))
+    (rw (f.fault_in-fault.ensures, r.record_in-rec.ensures) at t.if-fault-ne0.false)
+    (not-false _ (rw (u.is_above.ensures, p.record_in-before.ensures, r.record_in-rec.ensures) at v.if-not-is_above.false))
+    (rw b.is_between.ensures at c.if-is_between.true))
 
-returns-4 : tie.Need-returns-4
+returns-4 : tie.Need-returns-else-is_between
 returns-4 c =
-    let b = c.before in
-    let v = b.before in
-    let u = v.before in
-    let p = u.before in
-    let t = p.before in
-    let f = t.before in
-    let r = f.before in
-    let a = r.before.before.args in
+    let b = c in
+    let v = b in
+    let u = v in
+    let p = u in
+    let t = p in
+    let f = t in
+    let r = f in
+    let a = r.args in
     sym
     (judged-stray (format_of a.kind) a.file.now a.i
-    (rw (f.fault-in.ensures, r.record-in.ensures) at t.if1.false)
-    (not-false _ (rw (u.is-above.ensures, p.record-in2.ensures, r.record-in.ensures) at v.if2.false))
-    (rw b.is-between.ensures at c.if3.false))
+    (rw (f.fault_in-fault.ensures, r.record_in-rec.ensures) at t.if-fault-ne0.false)
+    (not-false _ (rw (u.is_above.ensures, p.record_in-before.ensures, r.record_in-rec.ensures) at v.if-not-is_above.false))
+    (rw b.is_between.ensures at c.if-is_between.false))
 
-is-above-requires : tie.Need-is-above-requires
+is-above-requires : tie.Need-is_above-requires
 is-above-requires c κs =
-    let r = c.before.before.before in
-    let start = r.before.before in
+    let r = c in
+    let start = r in
     let a = start.args in
     let wide = (format_of a.kind).width in (
-      rw c.record-in2.ensures (omega (arith, record-length wide a.file.now (a.i - 1) (omega (arith, start.requires.1)))),
-      rw r.record-in.ensures (omega (arith, record-length wide a.file.now a.i (omega (arith, start.requires.1)))),
+      rw c.record_in-before.ensures (omega (arith, record-length wide a.file.now (a.i - 1) (omega (arith, start.requires.1)))),
+      rw r.record_in-rec.ensures (omega (arith, record-length wide a.file.now a.i (omega (arith, start.requires.1)))),
     )
 
-pub judge-spec : {M : Type 1} → statement M
-judge-spec =
+pub judge_spec : {M : Type 1} → statement M
+judge_spec =
     tie.close
     (tie.spec
     (λ c κs. search rules)

@@ -22,14 +22,14 @@ use Rattle.file.proofs.Laws.{
 use Rattle.file_check.proofs.verdict_of.Statement.{statement}
 use Rattle.file_check.proofs.verdict_of.Tie as tie
 
-returns : tie.Need-returns
+returns : tie.Need-returns-then-not-is_whole
 returns c =
-    let w = c.before in
-    let a = w.before.before.args in
-    sym (verdict-length (format_of a.kind) a.file.now (sym w.is_whole.ensures ∙ not-true _ c.if1.true))
+    let w = c in
+    let a = w.args in
+    sym (verdict-length (format_of a.kind) a.file.now (sym w.is_whole.ensures ∙ c.if-not-is_whole.true))
 
 -- past 1
-module _ (c : tie.Else1) where
+module _ (c : tie.Else-not-is_whole) where
   abbrev start : tie.Start
   start = c.before.before.before
 
@@ -40,64 +40,64 @@ module _ (c : tie.Else1) where
   file = start.args.file.now
 
   all : whole f file ≡ true
-  all = sym c.before.is_whole.ensures ∙ not-false _ c.if1.false
+  all = sym c.is_whole.ensures ∙ c.if-not-is_whole.false
 
-record-in-requires : tie.Need-record-in-requires
+record-in-requires : tie.Need-record_in-first-requires
 record-in-requires c κs = omega (arith, at-least-two (f c.before) (file c.before) (all c.before))
 
 -- the first record is asked for its identifier
-module _ (c : tie.After-is-retired) where
-  abbrev past-1 : tie.Else1
+module _ (c : tie.After-is_retired) where
+  abbrev past-1 : tie.Else-not-is_whole
   past-1 = c.before.before.before
 
-  first-retired : c.is-retired.result ≡ (f past-1).retired (at (f past-1) (file past-1) 0)
-  first-retired = rw c.before.record-in.ensures at c.is-retired.ensures
+  first-retired : c.is_retired.result ≡ (f past-1).retired (at (f past-1) (file past-1) 0)
+  first-retired = rw c.record_in-first.ensures at c.is_retired.ensures
 
-returns-2 : tie.Need-returns-2
+returns-2 : tie.Need-returns-then-is_retired
 returns-2 c =
     let p = past-1 c.before in
-    sym (verdict-retired-head (f p) (file p) (all p) (sym (first-retired c.before) ∙ c.if2.true))
+    sym (verdict-retired-head (f p) (file p) (all p) (sym (first-retired c.before) ∙ c.if-is_retired.true))
 
 -- and whether it is the header
-module _ (c : tie.After-is-header) where
-  abbrev one : tie.Else1
+module _ (c : tie.After-is_header) where
+  abbrev one : tie.Else-not-is_whole
   one = past-1 c.before.before
 
   current : (f one).retired (at (f one) (file one) 0) ≡ false
-  current = sym (first-retired c.before.before) ∙ c.before.if2.false
+  current = sym (first-retired c.before.before) ∙ c.if-is_retired.false
 
-  first-headed : c.is-header.result ≡ (f one).headed (at (f one) (file one) 0)
-  first-headed = rw c.before.before.before.record-in.ensures at c.is-header.ensures
+  first-headed : c.is_header.result ≡ (f one).headed (at (f one) (file one) 0)
+  first-headed = rw c.record_in-first.ensures at c.is_header.ensures
 
-returns-3 : tie.Need-returns-3
+returns-3 : tie.Need-returns-then-not-is_header
 returns-3 c =
     let o = one c.before in
     sym
-    (verdict-header (f o) (file o) (all o) (current c.before) (sym (first-headed c.before) ∙ not-true _ c.if3.true))
+    (verdict-header (f o) (file o) (all o) (current c.before) (sym (first-headed c.before) ∙ c.if-not-is_header.true))
 
 -- past 2
-module _ (c : tie.Else3) where
-  abbrev whole-one : tie.Else1
+module _ (c : tie.Else-not-is_header) where
+  abbrev whole-one : tie.Else-not-is_whole
   whole-one = one c.before
 
-  abbrev counting : tie.After-records-in
+  abbrev counting : tie.After-records_in-n
   counting = c.before.before.before.before.before
 
   headed : (f whole-one).headed (at (f whole-one) (file whole-one) 0) ≡ true
-  headed = sym (first-headed c.before) ∙ not-false _ c.if3.false
+  headed = sym (first-headed c.before) ∙ c.if-not-is_header.false
 
-  two : 2 ≤ counting.records-in.result
-  two = omega (arith, counting.records-in.ensures, at-least-two (f whole-one) (file whole-one) (all whole-one))
+  two : 2 ≤ counting.records_in-n.result
+  two = omega (arith, counting.records_in-n.ensures, at-least-two (f whole-one) (file whole-one) (all whole-one))
 
-sub-record-in : tie.Need-overflow-sub-record-in
+sub-record-in : tie.Need-overflow_sub-n
 sub-record-in c = omega (arith, two c)
 
-record-in-requires-2 : tie.Need-record-in-requires-2
-record-in-requires-2 c κs = omega (arith, (counting c).records-in.ensures, two c)
+record-in-requires-2 : tie.Need-record_in-last-requires
+record-in-requires-2 c κs = omega (arith, (counting c).records_in-n.ensures, two c)
 
 -- the last record is asked for its identifier
-module _ (c : tie.After-is-retired2) where
-  abbrev past-2 : tie.Else3
+module _ (c : tie.After-is_retired-2) where
+  abbrev past-2 : tie.Else-not-is_header
   past-2 = c.before.before
 
   abbrev fmt : Format
@@ -106,63 +106,63 @@ module _ (c : tie.After-is-retired2) where
   abbrev bytes : List ℕ
   bytes = file (whole-one past-2)
 
-  many : (counting past-2).records-in.result ≡ records fmt bytes
-  many = (counting past-2).records-in.ensures
+  many : (counting past-2).records_in-n.result ≡ records fmt bytes
+  many = (counting past-2).records_in-n.ensures
 
-  last-retired : c.is-retired2.result ≡ fmt.retired (last fmt bytes)
-  last-retired = rw (c.before.record-in2.ensures, many) at c.is-retired2.ensures
+  last-retired : c.is_retired-2.result ≡ fmt.retired (last fmt bytes)
+  last-retired = rw (c.record_in-last.ensures, many) at c.is_retired-2.ensures
 
-returns-4 : tie.Need-returns-4
+returns-4 : tie.Need-returns-then-is_retired-2
 returns-4 c =
     let q = c.before in
     let p = past-2 q in
     rw (many q)
     (sym
     (verdict-retired-end (fmt q) (bytes q) (all (whole-one p)) (current p.before) (headed p)
-    (sym (last-retired q) ∙ c.if4.true)))
+    (sym (last-retired q) ∙ c.if-is_retired-2.true)))
 
 -- and whether it is the trailer
-module _ (c : tie.After-is-trailer) where
-  abbrev asked : tie.After-is-retired2
+module _ (c : tie.After-is_trailer) where
+  abbrev asked : tie.After-is_retired-2
   asked = c.before.before
 
   ending : (fmt asked).retired (last (fmt asked) (bytes asked)) ≡ false
-  ending = sym (last-retired asked) ∙ c.before.if4.false
+  ending = sym (last-retired asked) ∙ c.if-is_retired-2.false
 
-  last-ended : c.is-trailer.result ≡ (fmt asked).ended (records (fmt asked) (bytes asked)) (last (fmt asked) (bytes asked))
+  last-ended : c.is_trailer.result ≡ (fmt asked).ended (records (fmt asked) (bytes asked)) (last (fmt asked) (bytes asked))
   last-ended =
-      c.is-trailer.ensures
+      c.is_trailer.ensures
       ∙ ap₂ (fmt asked).ended (many asked)
-      (asked.before.record-in2.ensures ∙ ap (λ (n : ℕ). at (fmt asked) (bytes asked) (n - 1)) (many asked))
+      (asked.record_in-last.ensures ∙ ap (λ (n : ℕ). at (fmt asked) (bytes asked) (n - 1)) (many asked))
 
-returns-5 : tie.Need-returns-5
+returns-5 : tie.Need-returns-then-not-is_trailer
 returns-5 c =
     let q = asked c.before in
     let p = past-2 q in
     rw (many q)
     (sym
     (verdict-trailer (fmt q) (bytes q) (all (whole-one p)) (current p.before) (headed p) (ending c.before)
-    (sym (last-ended c.before) ∙ not-true _ c.if5.true)))
+    (sym (last-ended c.before) ∙ c.if-not-is_trailer.true)))
 
-scan-records-requires : tie.Need-scan-records-requires
+scan-records-requires : tie.Need-scan_records-requires
 scan-records-requires c κs =
     let q = asked c.before in
     let w = whole-one (past-2 q) in
     rw (many q)
     (at-least-two (fmt q) (bytes q) (all w), omega (arith, within-limit (fmt q) (bytes q) (all w), limit-few (start w).args.kind), refl)
 
-returns-6 : tie.Need-returns-6
+returns-6 : tie.Need-returns
 returns-6 c =
     let e = c.before.before in
     let q = asked e in
     let p = past-2 q in
-    rw (c.scan-records.ensures, many q)
+    rw (c.scan_records.ensures, many q)
     (sym
     (verdict-scan (fmt q) (bytes q) (all (whole-one p)) (current p.before) (headed p) (ending e)
-    (sym (last-ended e) ∙ not-false _ c.before.if5.false)))
+    (sym (last-ended e) ∙ c.if-not-is_trailer.false)))
 
-pub verdict-of-spec : {M : Type 1} → statement M
-verdict-of-spec =
+pub verdict_of_spec : {M : Type 1} → statement M
+verdict_of_spec =
     tie.close
     (tie.spec
     (λ c κs. search rules)

@@ -5,30 +5,30 @@ use native.Mathlib.Omega.{arith}
 use Rattle.file_compare.proofs.eight_order.Statement.{statement}
 use Rattle.file_compare.proofs.eight_order.Tie as tie
 
-returns : tie.Need-returns
+returns : tie.Need-returns-then-x-y
 returns c =
-    let y = c.before in
-    let x = y.before in
-    let start = x.before.before.before in
+    let y = c in
+    let x = y in
+    let start = x in
     eight-below start.args.a.now start.args.b.now start.args.i start.requires.0 start.requires.1 _ _
-    x.weight-at.ensures y.weight-at2.ensures c.if1.true
+    x.weight_at-x.ensures y.weight_at-y.ensures c.if-x-y.true
 
-returns-2 : tie.Need-returns-2
+returns-2 : tie.Need-returns-then-y-x
 returns-2 c =
-    let y = c.before.before in
-    let x = y.before in
-    let start = x.before.before.before in
+    let y = c in
+    let x = y in
+    let start = x in
     eight-above start.args.a.now start.args.b.now start.args.i start.requires.0 start.requires.1 _ _
-    x.weight-at.ensures y.weight-at2.ensures c.if2.true
+    x.weight_at-x.ensures y.weight_at-y.ensures c.if-y-x.true
 
-returns-3 : tie.Need-returns-3
+returns-3 : tie.Need-returns-else-y-x
 returns-3 c =
-    let y = c.before.before in
-    let x = y.before in
-    let start = x.before.before.before in
+    let y = c in
+    let x = y in
+    let start = x in
     eight-even start.args.a.now start.args.b.now start.args.i start.requires.0 start.requires.1 _ _
-    x.weight-at.ensures y.weight-at2.ensures (omega (arith, c.before.if1.false, c.if2.false))
+    x.weight_at-x.ensures y.weight_at-y.ensures (omega (arith, c.if-x-y.false, c.if-y-x.false))
 
-pub eight-order-spec : {M : Type 1} → statement M
-eight-order-spec =
+pub eight_order_spec : {M : Type 1} → statement M
+eight_order_spec =
     tie.close (tie.spec (search rules) (search rules) returns returns-2 returns-3)

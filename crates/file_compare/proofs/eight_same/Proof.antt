@@ -7,11 +7,11 @@ use Rattle.file_compare.proofs.eight_same.Tie as tie
 
 returns : tie.Need-returns
 returns c =
-    let other = c.before in
-    let start = other.before.before.before in
+    let other = c in
+    let start = other in
     λ e.
     eight-same-on start.args.a.now start.args.b.now start.args.i start.requires.0 start.requires.1 _ _
-    other.eight-at.ensures c.eight-at2.ensures (eqb-true _ _ e)
+    other.eight_at.ensures c.eight_at-2.ensures (eqb-true _ _ e)
 
-pub eight-same-spec : {M : Type 1} → statement M
-eight-same-spec = tie.close (tie.spec (search rules) (search rules) returns)
+pub eight_same_spec : {M : Type 1} → statement M
+eight_same_spec = tie.close (tie.spec (search rules) (search rules) returns)

@@ -9,63 +9,63 @@ use Rattle.file_compare.proofs.Laws.{order-short, order_below, order-above, orde
 use Rattle.file_compare.proofs.order_from.Statement.{statement}
 use Rattle.file_compare.proofs.order_from.Tie as tie
 
-abbrev invariant-loop : tie.invariant-loop
+abbrev invariant-loop : tie.invariant-loop-at
 invariant-loop a b i at₀ at = (at ≤ length a) × (at ≤ length b) × (order (drop i a) (drop i b) ≡ order (drop at a) (drop at b))
 
-abbrev decreases-loop : tie.decreases-loop
+abbrev decreases-loop : tie.decreases-loop-at
 decreases-loop a b i at₀ at = length a - at
 
-loop-holds : tie.Need-loop-init invariant-loop decreases-loop
+loop-holds : tie.Need-loop-at-init invariant-loop decreases-loop
 loop-holds c = (c.requires.0, c.requires.1, refl)
 
-returns : tie.Need-returns invariant-loop decreases-loop
+returns : tie.Need-returns-then-b-at invariant-loop decreases-loop
 returns c =
-    let l = c.before.before in
-    let a = l.before.args in
-    sym (l.loop.invariant.2 ∙ order-short a.a.now a.b.now l.loop.at (omega arith) (omega arith))
+    let l = c in
+    let a = l.args in
+    sym (l.loop-at.invariant.2 ∙ order-short a.a.now a.b.now l.loop-at.at (omega arith) (omega arith))
 
-returns-2 : tie.Need-returns-2 invariant-loop decreases-loop
+returns-2 : tie.Need-returns-then-a-at invariant-loop decreases-loop
 returns-2 c =
-    let l = c.before.before.before.before.before in
-    let a = l.before.args in
+    let l = c in
+    let a = l.args in
     sym
-    (l.loop.invariant.2
-    ∙ order_below a.a.now a.b.now l.loop.at (omega arith) (omega arith) c.if2.true)
+    (l.loop-at.invariant.2
+    ∙ order_below a.a.now a.b.now l.loop-at.at (omega arith) (omega arith) c.if-a-at.true)
 
-returns-3 : tie.Need-returns-3 invariant-loop decreases-loop
+returns-3 : tie.Need-returns-then-b-at-2 invariant-loop decreases-loop
 returns-3 c =
-    let t = c.before.before.before in
-    let l = t.before.before.before.before.before in
-    let a = l.before.args in
+    let t = c in
+    let l = t in
+    let a = l.args in
     sym
-    (l.loop.invariant.2
-    ∙ order-above a.a.now a.b.now l.loop.at (omega arith) (omega arith) t.if2.false c.if3.true)
+    (l.loop-at.invariant.2
+    ∙ order-above a.a.now a.b.now l.loop-at.at (omega arith) (omega arith) t.if-a-at.false c.if-b-at-2.true)
 
-loop-again : tie.Need-loop-preserved invariant-loop decreases-loop
+loop-again : tie.Need-loop-at-preserved invariant-loop decreases-loop
 loop-again c =
-    let t = c.before.before.before in
-    let l = t.before.before.before.before.before in
-    let a = l.before.args in (
+    let t = c in
+    let l = t in
+    let a = l.args in (
       omega arith,
       omega arith,
-      l.loop.invariant.2
-          ∙ order-step a.a.now a.b.now l.loop.at (omega arith) (omega arith) t.if2.false c.if3.false,
+      l.loop-at.invariant.2
+          ∙ order-step a.a.now a.b.now l.loop-at.at (omega arith) (omega arith) t.if-a-at.false c.if-b-at-2.false,
     )
 
-returns-4 : tie.Need-returns-4 invariant-loop decreases-loop
+returns-4 : tie.Need-returns-then-at-b invariant-loop decreases-loop
 returns-4 c =
-    let l = c.before.before in
-    let a = l.before.args in
-    sym (l.loop.invariant.2 ∙ order-end-below a.a.now a.b.now l.loop.at (omega arith) (omega arith))
+    let l = c in
+    let a = l.args in
+    sym (l.loop-at.invariant.2 ∙ order-end-below a.a.now a.b.now l.loop-at.at (omega arith) (omega arith))
 
-returns-5 : tie.Need-returns-5 invariant-loop decreases-loop
+returns-5 : tie.Need-returns-else-at-b invariant-loop decreases-loop
 returns-5 c =
-    let l = c.before.before in
-    let a = l.before.args in
-    sym (l.loop.invariant.2 ∙ order-end-same a.a.now a.b.now l.loop.at (omega arith) (omega arith))
+    let l = c in
+    let a = l.args in
+    sym (l.loop-at.invariant.2 ∙ order-end-same a.a.now a.b.now l.loop-at.at (omega arith) (omega arith))
 
-pub order-from-spec : {M : Type 1} → statement M
-order-from-spec =
+pub order_from_spec : {M : Type 1} → statement M
+order_from_spec =
     tie.close
     (tie.spec
     invariant-loop

@@ -10,18 +10,18 @@ use Rattle.file_compare.specs.Order.{order}
 use Rattle.file_compare.proofs.order_of.Statement.{statement}
 use Rattle.file_compare.proofs.order_of.Tie as tie
 
-abbrev invariant-loop : tie.invariant-loop
+abbrev invariant-loop : tie.invariant-loop-i
 invariant-loop a b n i₀ i = (i ≤ length a) × (i ≤ length b) × (n ≤ length a) × (n ≤ length b) × (order a b ≡ order (drop i a) (drop i b))
 
-abbrev decreases-loop : tie.decreases-loop
+abbrev decreases-loop : tie.decreases-loop-i
 decreases-loop a b n i₀ i = length a - i
 
-loop-holds : tie.Need-loop-init invariant-loop decreases-loop
+loop-holds : tie.Need-loop-i-init invariant-loop decreases-loop
 loop-holds c =
-    let f = c.front_of.ensures in
-    let n = c.before in
-    let a = n.before.before.before.args in
-    rw n.lesser.ensures (
+    let f = c.front_of-i.ensures in
+    let n = c in
+    let a = n.args in
+    rw n.lesser-n.ensures (
       f.in_a,
       f.in_b,
       min-le_left (length a.a.now) (length a.b.now),
@@ -29,30 +29,30 @@ loop-holds c =
       f.decided,
     )
 
-returns : tie.Need-returns invariant-loop decreases-loop
+returns : tie.Need-returns-then-here-ne0 invariant-loop decreases-loop
 returns c =
-    let f = c.before in
-    let l = f.before.before in
-    sym (l.loop.invariant.4 ∙ (f.eight-order.ensures ∙ simp (ne_eqb _ 0 c.if1.true)))
+    let f = c in
+    let l = f in
+    sym (l.loop-i.invariant.4 ∙ (f.eight_order-here.ensures ∙ simp (ne_eqb _ 0 c.if-here-ne0.true)))
 
-loop-again : tie.Need-loop-preserved invariant-loop decreases-loop
+loop-again : tie.Need-loop-i-preserved invariant-loop decreases-loop
 loop-again c =
-    let f = c.before in
-    let l = f.before.before in (
+    let f = c in
+    let l = f in (
       omega arith,
       omega arith,
-      l.loop.invariant.2,
-      l.loop.invariant.3,
-      l.loop.invariant.4 ∙ (f.eight-order.ensures ∙ simp (eq-eqb _ 0 c.if1.false)),
+      l.loop-i.invariant.2,
+      l.loop-i.invariant.3,
+      l.loop-i.invariant.4 ∙ (f.eight_order-here.ensures ∙ simp (eq-eqb _ 0 c.if-here-ne0.false)),
     )
 
-returns-2 : tie.Need-returns-2 invariant-loop decreases-loop
+returns-2 : tie.Need-returns invariant-loop decreases-loop
 returns-2 c =
-    let l = c.before.before in
-    c.order_from.ensures ∙ sym l.loop.invariant.4
+    let l = c in
+    c.order_from.ensures ∙ sym l.loop-i.invariant.4
 
-pub order-of-spec : {M : Type 1} → statement M
-order-of-spec =
+pub order_of_spec : {M : Type 1} → statement M
+order_of_spec =
     tie.close
     (tie.spec
     invariant-loop

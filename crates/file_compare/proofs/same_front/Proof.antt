@@ -11,16 +11,16 @@ use Rattle.file_compare.specs.Order.{order}
 use Rattle.file_compare.proofs.same_front.Statement.{statement}
 use Rattle.file_compare.proofs.same_front.Tie as tie
 
-abbrev invariant-loop : tie.invariant-loop
+abbrev invariant-loop : tie.invariant-loop-i
 invariant-loop a b n i₀ i = (i ≤ length a) × (i ≤ length b) × (n ≤ length a) × (n ≤ length b) × (order a b ≡ order (drop i a) (drop i b))
 
-abbrev decreases-loop : tie.decreases-loop
+abbrev decreases-loop : tie.decreases-loop-i
 decreases-loop a b n i₀ i = length a - i
 
-loop-holds : tie.Need-loop-init invariant-loop decreases-loop
+loop-holds : tie.Need-loop-i-init invariant-loop decreases-loop
 loop-holds c =
-    let a = c.before.before.before.args in
-    rw c.lesser.ensures (
+    let a = c.args in
+    rw c.lesser-n.ensures (
       omega arith,
       omega arith,
       min-le_left (length a.a.now) (length a.b.now),
@@ -28,29 +28,29 @@ loop-holds c =
       refl,
     )
 
-returns : tie.Need-returns invariant-loop decreases-loop
+returns : tie.Need-returns-then-not-eight_same invariant-loop decreases-loop
 returns c =
-    let l = c.before.before.before in
-    record { in_a = l.loop.invariant.0; in_b = l.loop.invariant.1; decided = l.loop.invariant.4 }
+    let l = c in
+    record { in_a = l.loop-i.invariant.0; in_b = l.loop-i.invariant.1; decided = l.loop-i.invariant.4 }
 
-loop-again : tie.Need-loop-preserved invariant-loop decreases-loop
+loop-again : tie.Need-loop-i-preserved invariant-loop decreases-loop
 loop-again c =
-    let e = c.before in
-    let l = e.before.before in (
+    let e = c in
+    let l = e in (
       omega arith,
       omega arith,
-      l.loop.invariant.2,
-      l.loop.invariant.3,
-      l.loop.invariant.4 ∙ e.eight-same.ensures (not-false _ c.if1.false),
+      l.loop-i.invariant.2,
+      l.loop-i.invariant.3,
+      l.loop-i.invariant.4 ∙ e.eight_same.ensures (c.if-not-eight_same.false),
     )
 
-returns-2 : tie.Need-returns-2 invariant-loop decreases-loop
+returns-2 : tie.Need-returns invariant-loop decreases-loop
 returns-2 c =
-    let l = c.before in
-    record { in_a = l.loop.invariant.0; in_b = l.loop.invariant.1; decided = l.loop.invariant.4 }
+    let l = c in
+    record { in_a = l.loop-i.invariant.0; in_b = l.loop-i.invariant.1; decided = l.loop-i.invariant.4 }
 
-pub same-front-spec : {M : Type 1} → statement M
-same-front-spec =
+pub same_front_spec : {M : Type 1} → statement M
+same_front_spec =
     tie.close
     (tie.spec
     invariant-loop

@@ -8,10 +8,10 @@ use Rattle.file_ends.proofs.header_ok.Tie as tie
 returns : tie.Need-returns
 unfolding header_ok
 returns c =
-    let behind-part-of2 = c.before in
-    let behind-identifier-of = behind-part-of2.before in
-    let behind-part-of = behind-identifier-of.before in
-    rw (c.order-of.ensures, behind-part-of2.part-of2.ensures, behind-identifier-of.identifier-of.ensures, behind-part-of.part_of.ensures)
+    let behind-part-of2 = c in
+    let behind-identifier-of = behind-part-of2 in
+    let behind-part-of = behind-identifier-of in
+    rw (c.order_of-order.ensures, behind-part-of2.part_of-2.ensures, behind-identifier-of.identifier_of-kind.ensures, behind-part-of.part_of.ensures)
 
-pub header-ok-spec : {M : Type 1} → statement M
-header-ok-spec = tie.close (tie.spec (search rules) (search rules) (search rules) (search rules) (search rules) returns)
+pub header_ok_spec : {M : Type 1} → statement M
+header_ok_spec = tie.close (tie.spec (search rules) (search rules) (search rules) (search rules) (search rules) returns)

@@ -5,21 +5,21 @@ use Rattle.file_ends.specs.Ends.{identifier}
 use Rattle.file_ends.proofs.identifier_of.Statement.{statement}
 use Rattle.file_ends.proofs.identifier_of.Tie as tie
 
-returns : tie.Need-returns
+returns : tie.Need-returns-then-all_are
 unfolding identifier
-returns c = simp (sym c.before.all_are.ensures ∙ c.if1.true)
+returns c = simp (sym c.all_are.ensures ∙ c.if-all_are.true)
 
-returns-2 : tie.Need-returns-2
+returns-2 : tie.Need-returns-then-all_are-2
 unfolding identifier
 returns-2 c =
-    let e = c.before.before in
-    simp (sym e.before.all_are.ensures ∙ e.if1.false, sym c.before.all-are2.ensures ∙ c.if2.true)
+    let e = c in
+    simp (sym e.all_are.ensures ∙ e.if-all_are.false, sym c.all_are-else-all_are.ensures ∙ c.if-all_are-2.true)
 
-returns-3 : tie.Need-returns-3
+returns-3 : tie.Need-returns-else-all_are-2
 unfolding identifier
 returns-3 c =
-    let e = c.before.before in
-    simp (sym e.before.all_are.ensures ∙ e.if1.false, sym c.before.all-are2.ensures ∙ c.if2.false)
+    let e = c in
+    simp (sym e.all_are.ensures ∙ e.if-all_are.false, sym c.all_are-else-all_are.ensures ∙ c.if-all_are-2.false)
 
-pub identifier-of-spec : {M : Type 1} → statement M
-identifier-of-spec = tie.close (tie.spec (search rules) (search rules) returns returns-2 returns-3)
+pub identifier_of_spec : {M : Type 1} → statement M
+identifier_of_spec = tie.close (tie.spec (search rules) (search rules) returns returns-2 returns-3)

@@ -6,7 +6,7 @@ use Rattle.file_ends.proofs.is_retired.Tie as tie
 
 returns : tie.Need-returns
 unfolding retired
-returns c = rw (c.all_are.ensures, c.before.part_of.ensures)
+returns c = rw (c.all_are.ensures, c.part_of.ensures)
 
-pub is-retired-spec : {M : Type 1} → statement M
-is-retired-spec = tie.close (tie.spec (search rules) (search rules) returns)
+pub is_retired_spec : {M : Type 1} → statement M
+is_retired_spec = tie.close (tie.spec (search rules) (search rules) returns)

@@ -8,13 +8,13 @@ use Rattle.file_ends.proofs.trailer_ok.Tie as tie
 returns : tie.Need-returns
 unfolding trailer_ok
 returns c =
-    let behind-digits-fault = c.before in
-    let behind-part-of2 = behind-digits-fault.before in
-    let behind-identifier-of = behind-part-of2.before in
-    let behind-part-of = behind-identifier-of.before in
-    rw (c.value_of_lem.ensures, behind-digits-fault.digits-fault.ensures, behind-part-of2.part-of2.ensures, behind-identifier-of.identifier-of.ensures, behind-part-of.part_of.ensures)
+    let behind-digits-fault = c in
+    let behind-part-of2 = behind-digits-fault in
+    let behind-identifier-of = behind-part-of2 in
+    let behind-part-of = behind-identifier-of in
+    rw (c.value_of-value.ensures, behind-digits-fault.digits_fault-fault.ensures, behind-part-of2.part_of-count.ensures, behind-identifier-of.identifier_of-kind.ensures, behind-part-of.part_of.ensures)
 
-pub trailer-ok-spec : {M : Type 1} → statement M
-trailer-ok-spec =
+pub trailer_ok_spec : {M : Type 1} → statement M
+trailer_ok_spec =
     tie.close
     (tie.spec (search rules) (search rules) (search rules) (search rules) (search rules) (search rules) returns)

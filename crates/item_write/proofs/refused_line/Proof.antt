@@ -8,30 +8,30 @@ use Rattle.item_write.proofs.Laws.{line-holds, holds_as}
 use Rattle.item_write.proofs.refused_line.Statement.{statement}
 use Rattle.item_write.proofs.refused_line.Tie as tie
 
-refused-at-requires : tie.Need-refused-at-requires
+refused-at-requires : tie.Need-refused_at-len-requires
 refused-at-requires c κs =
     let s = c.before in
     let d = s.before in
     omega (
       arith,
-      refused-short d.before.number_of_lem.result d.detail-of.result s.second-of.result (omega arith) (omega arith)
+      refused-short d.number_of-number.result d.detail_of-detail.result s.second_of-second.result (omega arith) (omega arith)
           (omega arith),
     )
 
 returns : tie.Need-returns
 returns c =
-    let s = c.before.before.before in
-    let d = s.before in
-    let n = d.before in
+    let s = c in
+    let d = s in
+    let n = d in
     let short =
-    refused-short n.number_of_lem.result d.detail-of.result s.second-of.result (omega arith) (omega arith)
+    refused-short n.number_of-number.result d.detail_of-detail.result s.second_of-second.result (omega arith) (omega arith)
     (omega arith) in
-    let same : refused_text n.number_of_lem.result d.detail-of.result s.second-of.result
-    ≡ refused_line n.before.args.reason =
-    rw (n.number_of_lem.ensures, d.detail-of.ensures, s.second-of.ensures) in
-    holds_as same (line-holds _ short c.before.refused-at.ensures)
+    let same : refused_text n.number_of-number.result d.detail_of-detail.result s.second_of-second.result
+    ≡ refused_line n.args.reason =
+    rw (n.number_of-number.ensures, d.detail_of-detail.ensures, s.second_of-second.ensures) in
+    holds_as same (line-holds _ short c.refused_at-len.ensures)
 
-pub refused-line-spec : {M : Type 1} → statement M
-refused-line-spec =
+pub refused_line_spec : {M : Type 1} → statement M
+refused_line_spec =
     tie.close
     (tie.spec (search rules) (search rules) (search rules) (search rules) refused-at-requires returns)

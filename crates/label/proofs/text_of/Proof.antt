@@ -3,12 +3,12 @@ use borrow.Author.Rules.{rules}
 use Rattle.label.proofs.text_of.Statement.{statement}
 use Rattle.label.proofs.text_of.Tie as tie
 
-returns : tie.Need-returns
-returns c = rw (c.bytes-at.ensures, c.before.if1.true)
+returns : tie.Need-returns-then-s
+returns c = rw (c.bytes_at.ensures, c.if-s.true)
 
-returns-2 : tie.Need-returns-2
-returns-2 c = rw (c.bytes-at2.ensures, c.before.if1.false)
+returns-2 : tie.Need-returns-else-s
+returns-2 c = rw (c.bytes_at-else-s.ensures, c.if-s.false)
 
-pub text-of-spec : {M : Type 1} → statement M
-text-of-spec =
+pub text_of_spec : {M : Type 1} → statement M
+text_of_spec =
     tie.close (tie.spec (search rules) (search rules) returns returns-2)

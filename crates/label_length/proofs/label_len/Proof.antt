@@ -8,21 +8,21 @@ use Rattle.label_length.proofs.label_len.Tie as tie
 
 returns : tie.Need-returns
 returns c =
-    let places = c.before in
-    let premises = places.before in
-    let head = premises.before in
-    let front = head.before.before.before in
-    let lines = front.before in
-    let shape = lines.before in
-    let g = shape.before.before.before.args in
+    let places = c in
+    let premises = places in
+    let head = premises in
+    let front = head in
+    let lines = front in
+    let shape = lines in
+    let g = shape.args in
     four-sized
-    (label-made g.a.now g.b.now g.e shape.shape_of.ensures lines.lines_of.ensures
-    front.front_of.ensures)
-    head.head-len.ensures.0 premises.premises-len.ensures.0 places.places-len.ensures.0
-    c.pair-len.ensures.0
+    (label-made g.a.now g.b.now g.e shape.shape_of-shape.ensures lines.lines_of-lines.ensures
+    front.front_of-front.ensures)
+    head.head_len-i.ensures.0 premises.premises_len-j.ensures.0 places.places_len-k.ensures.0
+    c.pair_len.ensures.0
 
-pub label-len-spec : {M : Type 1} → statement M
-label-len-spec =
+pub label_len_spec : {M : Type 1} → statement M
+label_len_spec =
     tie.close
     (tie.spec (search rules) (search rules) (search rules) (search rules) (search rules) (search rules)
     (search rules) (search rules) (search rules) (search rules) returns)

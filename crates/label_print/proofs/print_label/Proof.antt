@@ -10,15 +10,15 @@ use Rattle.label.proofs.Room.{counted-short, counted-written}
 use Rattle.label_print.proofs.print_label.Statement.{statement}
 use Rattle.label_print.proofs.print_label.Tie as tie
 
-returns : tie.Need-returns
+returns : tie.Need-returns-then-out-needed
 returns c =
-    let size = c.before in
-    let g = size.before.before.before.before.args in
+    let size = c in
+    let g = size.args in
     counted-short (label_of (elements_in g.a.now g.b.now g.e)) g.out.now
-    (size.needed_of.ensures.1 c.if1.true) c.if1.true
+    (size.needed_of-needed.ensures.1 c.if-out-needed.true) c.if-out-needed.true
 
 -- where there is room
-module _ (room : tie.Else1) where
+module _ (room : tie.Else-out-needed) where
   abbrev start : tie.Start
   start = room.before.before.before.before.before
 
@@ -26,15 +26,15 @@ module _ (room : tie.Else1) where
   text = label_of (elements_in start.args.a.now start.args.b.now start.args.e)
 
   fits : length text ≤ length start.args.out.now
-  fits = room.before.needed_of.ensures.0 (omega (arith, room.if1.left))
+  fits = room.needed_of-needed.ensures.0 (omega (arith, room.if-out-needed.left))
 
-returns-2 : tie.Need-returns-2
+returns-2 : tie.Need-returns
 returns-2 c =
-    let written = c.before.before in
+    let written = c in
     let room = written.before.before in
-    counted-written (text room) (start room).args.out.now (fits room) written.write-label.ensures.0
-    written.write-label.ensures.1
+    counted-written (text room) (start room).args.out.now (fits room) written.write_label.ensures.0
+    written.write_label.ensures.1
 
-pub print-label-spec : {M : Type 1} → statement M
-print-label-spec =
+pub print_label_spec : {M : Type 1} → statement M
+print_label_spec =
     tie.close (tie.spec (search rules) returns (λ c κs. fits c.before) (search rules) returns-2)

@@ -7,25 +7,25 @@ use Rattle.mainfile_addresses.proofs.address_fault.Tie as tie
 
 returns : tie.Need-returns
 returns c =
-    let outward = c.before in
-    let before-outward = outward.before in
-    let inward = before-outward.before in
-    let before-inward = inward.before in
-    let keys = before-inward.before in
-    let rest = keys.before in
+    let outward = c in
+    let before-outward = outward in
+    let inward = before-outward in
+    let before-inward = inward in
+    let keys = before-inward in
+    let rest = keys in
     rw (
-      c.first-of3.ensures,
-      outward.outward-at.ensures,
-      before-outward.first-of2.ensures,
-      inward.inward-at.ensures,
-      before-inward.first_of.ensures,
-      keys.digits-at.ensures,
-      rest.rest-fault.ensures,
+      c.first_of.ensures,
+      outward.outward_at.ensures,
+      before-outward.first_of-inward.ensures,
+      inward.inward_at.ensures,
+      before-inward.first_of-keys.ensures,
+      keys.digits_at.ensures,
+      rest.rest_fault-rest.ensures,
     )
-    (sym (address_is rest.before.before.args.rec.now))
+    (sym (address_is rest.args.rec.now))
 
-pub address-fault-spec : {M : Type 1} → statement M
-address-fault-spec =
+pub address_fault_spec : {M : Type 1} → statement M
+address_fault_spec =
     tie.close
     (tie.spec
     (search rules)

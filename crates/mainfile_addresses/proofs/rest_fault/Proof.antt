@@ -5,30 +5,30 @@ use Rattle.mainfile_addresses.proofs.rest_fault.Tie as tie
 
 returns : tie.Need-returns
 returns c =
-    let user = c.before in
-    let before-user = user.before in
-    let concatenation = before-user.before in
-    let before-concatenation = concatenation.before in
-    let suffix = before-concatenation.before in
-    let before-suffix = suffix.before in
-    let indicator = before-suffix.before in
-    let before-indicator = indicator.before in
-    let box = before-indicator.before in
+    let user = c in
+    let before-user = user in
+    let concatenation = before-user in
+    let before-concatenation = concatenation in
+    let suffix = before-concatenation in
+    let before-suffix = suffix in
+    let indicator = before-suffix in
+    let before-indicator = indicator in
+    let box = before-indicator in
     rw (
-      c.first-of5.ensures,
-      user.postcode-type-at.ensures,
-      before-user.first-of4.ensures,
-      concatenation.yes-at2.ensures,
-      before-concatenation.first-of3.ensures,
-      suffix.suffix-at.ensures,
-      before-suffix.first-of2.ensures,
-      indicator.yes-at.ensures,
-      before-indicator.first_of.ensures,
+      c.first_of.ensures,
+      user.postcode_type_at.ensures,
+      before-user.first_of-concatenation.ensures,
+      concatenation.yes_at-2.ensures,
+      before-concatenation.first_of-suffix.ensures,
+      suffix.suffix_at.ensures,
+      before-suffix.first_of-indicator.ensures,
+      indicator.yes_at.ensures,
+      before-indicator.first_of-po_box.ensures,
       box.text_at.ensures,
     )
 
-pub rest-fault-spec : {M : Type 1} → statement M
-rest-fault-spec =
+pub rest_fault_spec : {M : Type 1} → statement M
+rest_fault_spec =
     tie.close
     (tie.spec
     (search rules)

@@ -11,7 +11,7 @@ use Rattle.mainfile_build.proofs.build_pack.Statement.{statement}
 use Rattle.mainfile_build.proofs.build_pack.Tie as tie
 
 -- once the files are judged
-module _ (k : tie.After-check-set) where
+module _ (k : tie.After-check_set) where
   abbrev start : tie.Start
   start = k.before.before.before.before.before.before.before.before.before.before
 
@@ -21,52 +21,52 @@ module _ (k : tie.After-check-set) where
       set_of a.localities.now a.thoroughfares.now a.descriptors.now a.buildings.now a.subs.now
       a.organisations.now a.addresses.now
 
-returns : tie.Need-returns
+returns : tie.Need-returns-then-outward_fault-ne0
 unfolding pack_built
 returns c =
-    let f = c.before in
-    let t = f.before in
-    let k = t.before.before in
+    let f = c in
+    let t = f in
+    let k = t.before in
     let a = (start k).args in
     sym
     (by-bad-code Refused a.code.now a.out.now _ (main_of (files k))
-    (sym k.check-set.ensures ∙ t.enum_told.given.1) (rw f.outward-fault.ensures at c.if1.true))
+    (sym k.check_set.ensures ∙ t.in-Value.is) (rw f.outward_fault.ensures at c.if-outward_fault-ne0.true))
 
 cut-requires : tie.Need-cut-requires
 cut-requires c κs =
-    let f = c.before.before in
-    let t = f.before in
-    let k = t.before.before in
+    let f = c in
+    let t = f in
+    let k = t.before in
     record {
-      of_set = set-accepted (files k) (sym k.check-set.ensures ∙ t.enum_told.given.1);
-      of_code = rw f.outward-fault.ensures at c.before.if1.false;
+      of_set = set-accepted (files k) (sym k.check_set.ensures ∙ t.in-Value.is);
+      of_code = rw f.outward_fault.ensures at c.if-outward_fault-ne0.false;
     }
 
-returns-2 : tie.Need-returns-2
+returns-2 : tie.Need-returns-else-outward_fault-ne0
 unfolding pack_built
 returns-2 c =
-    let l = c.before.before in
-    let i = l.before.before in
-    let f = i.before in
-    let t = f.before in
-    let k = t.before.before in
+    let l = c in
+    let i = l in
+    let f = i in
+    let t = f in
+    let k = t.before in
     let a = (start k).args in
     l.cut.ensures
     ∙ sym
     (by-good-code Refused a.code.now a.out.now _ (main_of (files k))
-    (sym k.check-set.ensures ∙ t.enum_told.given.1) (rw f.outward-fault.ensures at i.if1.false))
+    (sym k.check_set.ensures ∙ t.in-Value.is) (rw f.outward_fault.ensures at i.if-outward_fault-ne0.false))
 
-returns-3 : tie.Need-returns-3
+returns-3 : tie.Need-returns-in-Refused
 unfolding pack_built
 returns-3 c =
-    let k = c.before.before.before in
+    let k = c.before in
     let a = (start k).args in
     sym
     (by-refused Refused a.code.now a.out.now _ (main_of (files k))
-    (sym k.check-set.ensures ∙ c.before.file.given.1))
+    (sym k.check_set.ensures ∙ c.in-Refused.is))
 
-pub build-pack-spec : {M : Type 1} → statement M
-build-pack-spec =
+pub build_pack_spec : {M : Type 1} → statement M
+build_pack_spec =
     tie.close
     (tie.spec (search rules) (search rules) (search rules) returns cut-requires (search rules) (search rules) returns-2
     returns-3)

@@ -17,7 +17,7 @@ use Rattle.mainfile_build.proofs.cut.Statement.{statement}
 use Rattle.mainfile_build.proofs.cut.Tie as tie
 
 -- once the records of the code are found
-module _ (f : tie.After-stretch-in) where
+module _ (f : tie.After-stretch_in-found) where
   abbrev start : tie.Start
   start = f.before.before.before.before.before.before.before.before.before.before
 
@@ -30,13 +30,13 @@ module _ (f : tie.After-stretch-in) where
   abbrev code : List ℕ
   code = start.args.code.now
 
-  stretched : Stretched files code f.stretch-in.result.first f.stretch-in.result.many
-  stretched = record { first_is = f.stretch-in.ensures.0; many_is = f.stretch-in.ensures.1 }
+  stretched : Stretched files code f.stretch_in-found.result.first f.stretch_in-found.result.many
+  stretched = record { first_is = f.stretch_in-found.ensures.0; many_is = f.stretch_in-found.ensures.1 }
 
-  packed-is : packed_in files code ≡ packed_from files f.stretch-in.result.first f.stretch-in.result.many
+  packed-is : packed_in files code ≡ packed_from files f.stretch_in-found.result.first f.stretch_in-found.result.many
   packed-is = stretch-packed files start.pre.of_set stretched
 
-mark-addresses-requires : tie.Need-mark-addresses-requires
+mark-addresses-requires : tie.Need-mark_addresses-requires
 mark-addresses-requires c κs =
     let f = c.before.before.before.before.before in
     let ok = (start f).requires.of_set in (
@@ -45,47 +45,47 @@ mark-addresses-requires c κs =
     )
 
 -- and their rows are marked
-module _ (m : tie.After-mark-addresses) where
-  abbrev found : tie.After-stretch-in
+module _ (m : tie.After-mark_addresses) where
+  abbrev found : tie.After-stretch_in-found
   found = m.before.before.before.before.before.before
 
-  verdict-is : m.mark-addresses.result ≡ first_refused (set_stock (files found)) (packed_in (files found) (code found))
+  verdict-is : m.mark_addresses.result ≡ first_refused (set_stock (files found)) (packed_in (files found) (code found))
   verdict-is =
-      m.mark-addresses.ensures.said
+      m.mark_addresses.ensures.said
       ∙ sym (ap (first_refused (set_stock (files found))) (packed-is found))
 
-write-if-room-requires : tie.Need-write-if-room-requires
+write-if-room-requires : tie.Need-write_if_room-requires
 write-if-room-requires c κs =
     let t = c.before.before.before.before.before.before in
     let m = t.before.before.before.before.before.before.before in
     let f = found m in
-    let told = t.enum_told.given.1 in
+    let told = t.in-Fine.is in
     let zeros : List ℕ = replicate 31_250 0 in
     let none = set_marks (files f) zeros zeros zeros zeros zeros in (
       fresh-marked (files f) (code f) zeros _ _ _ _ _ (start f).pre (fresh_unmarked 31_250) (sym (verdict-is m) ∙ told)
-          (m.mark-addresses.ensures.marks_all told
+          (m.mark_addresses.ensures.marks_all told
           ∙ sym (ap (λ (ds : List Packed). mark_all (set_stock (files f)) ds none) (packed-is f))),
       stretched f,
     )
 
-returns : tie.Need-returns
+returns : tie.Need-returns-in-Fine
 returns c =
-    let w = c.before.before in
-    let t = w.before.before.before.before.before.before.before in
-    let m = t.before.before.before.before.before.before.before in
+    let w = c in
+    let t = w in
+    let m = t.before.before.before.before.before.before in
     let f = found m in
-    w.write-if-room.ensures
+    w.write_if_room.ensures
     ∙ sym
-    (cut_as (files f) (code f) (start f).args.out.now (start f).pre Fine (sym (verdict-is m) ∙ t.enum_told.given.1))
+    (cut_as (files f) (code f) (start f).args.out.now (start f).pre Fine (sym (verdict-is m) ∙ t.in-Fine.is))
 
-returns-2 : tie.Need-returns-2
+returns-2 : tie.Need-returns-in-Bad
 returns-2 c =
-    let k = c.before in
-    let m = k.before.before.before.before.before.before.before in
+    let k = c in
+    let m = k.before.before.before.before.before in
     let f = found m in
     sym
-    (cut_as (files f) (code f) (start f).args.out.now (start f).pre (Bad k.reason.given.0.0)
-    (sym (verdict-is m) ∙ k.reason.given.1))
+    (cut_as (files f) (code f) (start f).args.out.now (start f).pre (Bad k.in-Bad.reason)
+    (sym (verdict-is m) ∙ k.in-Bad.is))
 
 pub cut_spec : {M : Type 1} → statement M
 cut_spec =

@@ -22,7 +22,7 @@ use Rattle.mainfile_build.proofs.write_if_room.Statement.{statement}
 use Rattle.mainfile_build.proofs.write_if_room.Tie as tie
 
 -- what is handed in
-module _ (k : tie.After-slice-known) where
+module _ (k : tie.After-slice_known-1) where
   abbrev start : tie.Start
   start = k.before.before.before.before.before.before.before.before.before.before.before.before.before.before
 
@@ -57,43 +57,43 @@ module _ (k : tie.After-slice-known) where
   pack = set_pack files code
 
   marked : Marked files code l t d b s
-  marked = start.pre.0
+  marked = start.requires.marked
 
   stretched : Stretched files code start.args.first start.args.many
-  stretched = start.pre.1
+  stretched = start.requires.stretched
 
-place-set-requires : tie.Need-place-set-requires
+place-set-requires : tie.Need-place_set-of_rows-requires
 place-set-requires c κs =
     let k = c.before.before.before.before.before in
     let ok = (marked k).judged.of_set.rows in
     (rows-only (files k) ok, fresh-blocks (files k) ok 15_625 _ refl refl)
 
 -- once the blocks have their starts
-module _ (r : tie.After-place-set) where
-  abbrev r-start : tie.After-slice-known
+module _ (r : tie.After-place_set-of_rows) where
+  abbrev r-start : tie.After-slice_known-1
   r-start = r.before.before.before.before.before.before
 
-  rows_of : r.place_set.result.rows ≡ all_count (set_stock (files r-start)) (marks r-start)
+  rows_of : r.place_set-of_rows.result.rows ≡ all_count (set_stock (files r-start)) (marks r-start)
   rows_of =
-      r.place_set.ensures.0
+      r.place_set-of_rows.ensures.0
       ∙ sym (ap₂ all_count (same_rows (files r-start)) (marks-only (files r-start) (l r-start) (t r-start) (d r-start) (b r-start) (s r-start)))
 
-  bytes_of : r.place_set.result.bytes ≡ all_bytes (set_stock (files r-start)) (marks r-start)
+  bytes_of : r.place_set-of_rows.result.bytes ≡ all_bytes (set_stock (files r-start)) (marks r-start)
   bytes_of =
-      r.place_set.ensures.1.0
+      r.place_set-of_rows.ensures.1.0
       ∙ sym (ap₂ all_bytes (same_rows (files r-start)) (marks-only (files r-start) (l r-start) (t r-start) (d r-start) (b r-start) (s r-start)))
 
-organisations-in-requires : tie.Need-organisations-in-requires
+organisations-in-requires : tie.Need-organisations_in-of_own-requires
 organisations-in-requires c κs =
     let k = r-start c.before.before.before.before.before in
     stretch-standing (files k) (marked k).judged.of_set (stretched k)
 
 -- and the organisations are counted
-module _ (o : tie.After-organisations-in) where
-  abbrev placed : tie.After-place-set
+module _ (o : tie.After-organisations_in-of_own) where
+  abbrev placed : tie.After-place_set-of_rows
   placed = o.before.before.before.before.before.before
 
-  abbrev k : tie.After-slice-known
+  abbrev k : tie.After-slice_known-1
   k = r-start placed
 
   abbrev many : ℕ
@@ -106,54 +106,54 @@ module _ (o : tie.After-organisations-in) where
   packed-is = stretch-packed (files k) (marked k).judged.of_set (stretched k)
 
   whole : length (pack k)
-      ≡ placed.place_set.result.bytes + o.organisations-in.result.bytes + point_width newest * many + trailer_width newest
+      ≡ placed.place_set-of_rows.result.bytes + o.organisations_in-of_own.result.bytes + point_width newest * many + trailer_width newest
   whole =
       omega (
         arith,
         counted (files k) (code k) (l k) (t k) (d k) (b k) (s k) (marked k),
         stretch-long (files k) (marked k).judged.of_set (stretched k),
         bytes_of placed,
-        o.organisations-in.ensures.1,
+        o.organisations_in-of_own.ensures.1,
         ap (λ (ds : List Packed). length (organisation_rows others ds)) packed-is,
       )
 
   few : length (pack k) < 4_294_967_295
   few = small (files k) (code k) (l k) (t k) (d k) (b k) (s k) (marked k)
 
-  rows_all : placed.place_set.result.rows + o.organisations-in.result.rows
+  rows_all : placed.place_set-of_rows.result.rows + o.organisations_in-of_own.result.rows
       ≡ all_count (set_stock (files k)) (marks k) + organisation_count (packed_in (files k) (code k))
   rows_all =
-      omega (arith, rows_of placed, o.organisations-in.ensures.0, ap organisation_count packed-is)
+      omega (arith, rows_of placed, o.organisations_in-of_own.ensures.0, ap organisation_count packed-is)
 
-add-needed : tie.Need-overflow-add-needed
+add-needed : tie.Need-overflow_add-needed
 add-needed c = omega (arith, whole c.before.before, few c.before.before)
 
-mul-needed : tie.Need-overflow-mul-needed
+mul-needed : tie.Need-overflow_mul-needed
 mul-needed c = omega (arith, whole c.before.before, few c.before.before)
 
-add-needed-2 : tie.Need-overflow-add-needed-2
+add-needed-2 : tie.Need-overflow_add-needed-2
 add-needed-2 c = omega (arith, whole c.before.before, few c.before.before)
 
-add-needed-3 : tie.Need-overflow-add-needed-3
+add-needed-3 : tie.Need-overflow_add-needed-3
 add-needed-3 c = omega (arith, whole c.before.before, few c.before.before)
 
-returns : tie.Need-returns
+returns : tie.Need-returns-then-out-needed
 returns c =
     let o = c.before.before.before in
     let out = (start (k o)).args.out.now in
     counted-short (pack (k o)) out (sym (whole o)) (omega (arith, whole o))
 
-add-rows : tie.Need-overflow-add-rows
+add-rows : tie.Need-overflow_add-rows
 add-rows c =
     let o = c.before.before.before.before.before in
     omega (arith, rows-small (files (k o)) (code (k o)) (l (k o)) (t (k o)) (d (k o)) (b (k o)) (s (k o)) (marked (k o)), rows_all o)
 
-write-pack-requires : tie.Need-write-pack-requires
+write-pack-requires : tie.Need-write_pack-requires
 write-pack-requires c κs =
     let o = c.before.before.before.before.before.before.before.before.before.before.before in
     let f = k o in
     let is = written (files f) (code f) (l f) (t f) (d f) (b f) (s f) (marked f) in (
-      record { marks = marked f; blocks = (placed o).place_set.ensures.1.1; stretch = stretched f },
+      record { marks = marked f; blocks = (placed o).place_set-of_rows.ensures.1.1; stretch = stretched f },
       record {
         of_rows =
             omega (arith, rows-counted (files f) (code f) (l f) (t f) (d f) (b f) (s f) (marked f), rows_all o);
@@ -162,20 +162,20 @@ write-pack-requires c κs =
       },
     )
 
-returns-2 : tie.Need-returns-2
+returns-2 : tie.Need-returns
 returns-2 c =
-    let p = c.before.before in
+    let p = c in
     let o = p.before.before.before.before.before.before.before.before.before.before.before.before in
     let f = k o in
     let out = (start f).args.out.now in
     let is = written (files f) (code f) (l f) (t f) (d f) (b f) (s f) (marked f) in
-    let there = p.before.before.before.before.before.before.before.before.before in
-    let fits : length (pack f) ≤ length out = omega (arith, whole o, there.if1.false) in
-    let wrote = wrote_as is p.write-pack.ensures in
+    let there = p in
+    let fits : length (pack f) ≤ length out = omega (arith, whole o, there.if-out-needed.false) in
+    let wrote = wrote_as is p.write_pack.ensures in
     counted-written (pack f) out fits wrote.size wrote.is
 
-pub write-if-room-spec : {M : Type 1} → statement M
-write-if-room-spec =
+pub write_if_room_spec : {M : Type 1} → statement M
+write_if_room_spec =
     tie.close
     (tie.spec (search rules) (search rules) (search rules) (search rules) (search rules) place-set-requires
     organisations-in-requires add-needed mul-needed add-needed-2 add-needed-3 returns add-rows (search rules) (search rules)

@@ -6,27 +6,27 @@ use Rattle.mainfile_check.proofs.check_set.Tie as tie
 
 returns : tie.Need-returns
 returns c =
-    let sixth = c.before in
-    let fifth = sixth.before in
-    let fourth = fifth.before in
-    let third = fourth.before in
-    let second = third.before in
-    let first = second.before in
-    let a = first.before.before.before.before.before.before.before.before.args in
+    let sixth = c in
+    let fifth = sixth in
+    let fourth = fifth in
+    let third = fourth in
+    let second = third in
+    let first = second in
+    let a = first.args in
     rw (
-      c.then-file6.ensures,
-      sixth.then-file5.ensures,
-      fifth.then-file4.ensures,
-      fourth.then-file3.ensures,
-      third.then-file2.ensures,
-      second.then-file.ensures,
-      first.check-main.ensures,
+      c.then_file.ensures,
+      sixth.then_file-sixth.ensures,
+      fifth.then_file-fifth.ensures,
+      fourth.then_file-fourth.ensures,
+      third.then_file-third.ensures,
+      second.then_file-second.ensures,
+      first.check_main-first.ensures,
     )
     (set-in-turn a.localities.now a.thoroughfares.now a.descriptors.now a.buildings.now a.subs.now
     a.organisations.now a.addresses.now)
 
-pub check-set-spec : {M : Type 1} → statement M
-check-set-spec =
+pub check_set_spec : {M : Type 1} → statement M
+check_set_spec =
     tie.close
     (tie.spec
     (search rules)

@@ -4,11 +4,11 @@ use mathlib.Core.Path.{refl}
 use Rattle.mainfile_check.proofs.then_file.Statement.{statement}
 use Rattle.mainfile_check.proofs.then_file.Tie as tie
 
-returns : tie.Need-returns
-returns c = rw c.before.enum_told.given.1 c.check-main.ensures
+returns : tie.Need-returns-in-Value
+returns c = rw c.in-Value.is c.check_main.ensures
 
-returns-2 : tie.Need-returns-2
-returns-2 c = rw c.before.found.given.1 refl
+returns-2 : tie.Need-returns-in-Refused
+returns-2 c = rw c.in-Refused.is refl
 
-pub then-file-spec : {M : Type 1} → statement M
-then-file-spec = tie.close (tie.spec (search rules) (search rules) (search rules) returns returns-2)
+pub then_file_spec : {M : Type 1} → statement M
+then_file_spec = tie.close (tie.spec (search rules) (search rules) (search rules) returns returns-2)

@@ -16,7 +16,7 @@ use Rattle.mainfile_codes.proofs.list_codes.Statement.{statement}
 use Rattle.mainfile_codes.proofs.list_codes.Tie as tie
 
 -- once the codes are counted
-module _ (k : tie.After-count-codes) where
+module _ (k : tie.After-count_codes-n) where
   abbrev s : tie.Start
   s = k.before.before.before
 
@@ -26,33 +26,33 @@ module _ (k : tie.After-count-codes) where
   abbrev es : List Entry
   es = codes_in s.args.addresses.now
 
-  needed : 8 * k.count-codes.result ≡ length (entry_bytes es)
-  needed = omega (arith, k.count-codes.ensures.0, entries-long es)
+  needed : 8 * k.count_codes-n.result ≡ length (entry_bytes es)
+  needed = omega (arith, k.count_codes-n.ensures.0, entries-long es)
 
-count-codes-requires : tie.Need-count-codes-requires
-count-codes-requires c κs = c.before.before.requires
+count-codes-requires : tie.Need-count_codes-n-requires
+count-codes-requires c κs = c.requires
 
-returns : tie.Need-returns
+returns : tie.Need-returns-then-out-needed
 returns c =
     let k = c.before in
     said-as (ap (λ (n : ℕ). Refused 0 (Room n)) (needed k)) refl
-    ∙ sym (falls-short (length (es k)) (entry_bytes (es k)) (out k) (omega (arith, needed k, c.if1.true)))
+    ∙ sym (falls-short (length (es k)) (entry_bytes (es k)) (out k) (omega (arith, needed k, c.if-out-needed.true)))
 
-write-codes-requires : tie.Need-write-codes-requires
+write-codes-requires : tie.Need-write_codes-requires
 write-codes-requires c κs =
-    let e = c.before in
+    let e = c in
     let k = e.before in
-    ((s k).requires, omega (arith, needed k, e.if1.false))
+    ((s k).requires, omega (arith, needed k, e.if-out-needed.false))
 
-returns-2 : tie.Need-returns-2
+returns-2 : tie.Need-returns
 returns-2 c =
-    let w = c.before.before in
-    let e = w.before.before in
+    let w = c in
+    let e = w in
     let k = e.before in
-    said-as (ap Value k.count-codes.ensures.0) w.write-codes.ensures.is
-    ∙ sym (fits (length (es k)) (entry_bytes (es k)) (out k) (omega (arith, needed k, e.if1.false)))
+    said-as (ap Value k.count_codes-n.ensures.0) w.write_codes.ensures.is
+    ∙ sym (fits (length (es k)) (entry_bytes (es k)) (out k) (omega (arith, needed k, e.if-out-needed.false)))
 
-pub list-codes-spec : {M : Type 1} → statement M
-list-codes-spec =
+pub list_codes_spec : {M : Type 1} → statement M
+list_codes_spec =
     tie.close
     (tie.spec count-codes-requires (search rules) returns write-codes-requires (search rules) returns-2)

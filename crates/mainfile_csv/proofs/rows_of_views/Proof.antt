@@ -15,7 +15,7 @@ use Rattle.mainfile_csv.proofs.rows_of_views.Statement.{statement}
 use Rattle.mainfile_csv.proofs.rows_of_views.Tie as tie
 
 -- once the files are judged
-module _ (k : tie.After-check-set) where
+module _ (k : tie.After-check_set) where
   abbrev start : tie.Start
   start = k.before.before.before.before.before.before.before.before.before
 
@@ -31,29 +31,29 @@ walk-requires c κs =
     let t = all.before in
     let k = t.before.before in
     rw (all.all_in.ensures.0, all.all_in.ensures.1)
-    (all-between (files k) (set-accepted (files k) (sym k.check-set.ensures ∙ t.enum_told.given.1)))
+    (all-between (files k) (set-accepted (files k) (sym k.check_set.ensures ∙ t.in-Value.is)))
 
-returns : tie.Need-returns
+returns : tie.Need-returns-in-Value
 returns c =
-    let w = c.before.before in
-    let all = w.before.before in
-    let t = all.before in
-    let k = t.before.before in
+    let w = c in
+    let all = w in
+    let t = all in
+    let k = t.before in
     let a = (start k).args in
     w.walk.ensures
     ∙ (ap₂ (λ (n m : ℕ). run_from (rows_among (files k) n m) a.first a.count a.out.now)
     all.all_in.ensures.0 all.all_in.ensures.1
-    ∙ rows-by-place (files k) (sym k.check-set.ensures ∙ t.enum_told.given.1) a.first a.count a.out.now)
+    ∙ rows-by-place (files k) (sym k.check_set.ensures ∙ t.in-Value.is) a.first a.count a.out.now)
 
-returns-2 : tie.Need-returns-2
+returns-2 : tie.Need-returns-in-Refused
 unfolding view_rows
 returns-2 c =
-    let k = c.before.before.before in
+    let k = c.before in
     sym
-    (afterwards-refused Unasked (start k).args.out.now _ (sym k.check-set.ensures ∙ c.before.file.given.1))
+    (afterwards-refused Unasked (start k).args.out.now _ (sym k.check_set.ensures ∙ c.in-Refused.is))
 
-pub rows-of-views-spec : {M : Type 1} → statement M
-rows-of-views-spec =
+pub rows_of_views_spec : {M : Type 1} → statement M
+rows_of_views_spec =
     tie.close
     (tie.spec (search rules) (search rules) (search rules) walk-requires (search rules) (search rules) returns
     returns-2)

@@ -7,11 +7,11 @@ use Rattle.mainfile_ends.proofs.address_header_ok.Tie as tie
 returns : tie.Need-returns
 unfolding address_header_ok
 returns c =
-    let at-kind = c.before in
-    let at_part = at-kind.before in
-    rw (c.zeros-named.ensures, at-kind.identifier-of.ensures, at_part.part_of.ensures)
+    let at-kind = c in
+    let at_part = at-kind in
+    rw (c.zeros_named-named.ensures, at-kind.identifier_of-kind.ensures, at_part.part_of.ensures)
 
-pub address-header-ok-spec : {M : Type 1} → statement M
-address-header-ok-spec =
+pub address_header_ok_spec : {M : Type 1} → statement M
+address_header_ok_spec =
     tie.close
     (tie.spec (λ c κs. search rules) (λ c κs. search rules) (λ c κs. search rules) returns)

@@ -7,11 +7,11 @@ use Rattle.mainfile_ends.proofs.nines_counted.Tie as tie
 returns : tie.Need-returns
 unfolding nines_counted
 returns c =
-    let at-nines = c.before in
-    let at_part = at-nines.before in
-    rw (c.counted-at.ensures, at-nines.all_are.ensures, at_part.part_of.ensures)
+    let at-nines = c in
+    let at_part = at-nines in
+    rw (c.counted_at-counted.ensures, at-nines.all_are-nines.ensures, at_part.part_of.ensures)
 
-pub nines-counted-spec : {M : Type 1} → statement M
-nines-counted-spec =
+pub nines_counted_spec : {M : Type 1} → statement M
+nines_counted_spec =
     tie.close
     (tie.spec (λ c. search rules) (λ c κs. search rules) (λ c κs. search rules) (λ c. search rules) (λ c κs. search rules) returns)

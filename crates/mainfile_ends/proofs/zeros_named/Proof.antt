@@ -7,11 +7,11 @@ use Rattle.mainfile_ends.proofs.zeros_named.Tie as tie
 returns : tie.Need-returns
 unfolding zeros_named
 returns c =
-    let at-zeros = c.before in
-    let at_part = at-zeros.before in
-    rw (c.named-at.ensures, at-zeros.all_are.ensures, at_part.part_of.ensures)
+    let at-zeros = c in
+    let at_part = at-zeros in
+    rw (c.named_at-named.ensures, at-zeros.all_are-zeros.ensures, at_part.part_of.ensures)
 
-pub zeros-named-spec : {M : Type 1} → statement M
-zeros-named-spec =
+pub zeros_named_spec : {M : Type 1} → statement M
+zeros_named_spec =
     tie.close
     (tie.spec (λ c. search rules) (λ c κs. search rules) (λ c κs. search rules) (λ c. search rules) (λ c κs. search rules) returns)

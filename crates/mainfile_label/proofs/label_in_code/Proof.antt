@@ -16,7 +16,7 @@ use Rattle.mainfile_label.proofs.label_in_code.Statement.{statement}
 use Rattle.mainfile_label.proofs.label_in_code.Tie as tie
 
 -- once the files are judged
-module _ (k : tie.After-check-set) where
+module _ (k : tie.After-check_set) where
   abbrev start : tie.Start
   start = k.before.before.before.before.before.before.before.before.before.before
 
@@ -27,9 +27,9 @@ module _ (k : tie.After-check-set) where
       a.organisations.now a.addresses.now
 
 -- and accepted
-module _ (t : tie.After-enum-told) where
-  abbrev judged : tie.After-check-set
-  judged = t.before.before
+module _ (t : tie.In-Value) where
+  abbrev judged : tie.After-check_set
+  judged = t.before
 
   abbrev code : List ℕ
   code = (start judged).args.code.now
@@ -37,69 +37,69 @@ module _ (t : tie.After-enum-told) where
   between : Between (files judged) (first_in (files judged).addresses code) (many_in (files judged).addresses code)
   between =
       code-between (files judged)
-      (set-accepted (files judged) (sym judged.check-set.ensures ∙ t.enum_told.given.1)) code
+      (set-accepted (files judged) (sym judged.check_set.ensures ∙ t.in-Value.is)) code
 
 -- the record of the k-th
-module _ (p : tie.After-place-among) where
-  abbrev good : tie.Else1
+module _ (p : tie.After-place_among-place) where
+  abbrev good : tie.Else-outward_fault-ne0
   good = p.before.before
 
-  abbrev told : tie.After-enum-told
+  abbrev told : tie.In-Value
   told = good.before.before
 
   place_is : let file = (files (judged told)).addresses in
-      p.place-among.result
+      p.place_among-place.result
       ≡ place_among (first_in file (code told)) (many_in file (code told)) (start (judged told)).args.k
   place_is =
       let v = (start (judged told)).args.k in
-      p.place-among.ensures
-      ∙ ap₂ (λ (n m : ℕ). place_among n m v) p.before.stretch-in.ensures.0 p.before.stretch-in.ensures.1
+      p.place_among-place.ensures
+      ∙ ap₂ (λ (n m : ℕ). place_among n m v) p.stretch_in.ensures.0 p.stretch_in.ensures.1
 
-returns : tie.Need-returns
+returns : tie.Need-returns-then-outward_fault-ne0
 unfolding code_label
 returns c =
-    let f = c.before in
+    let f = c in
     let t = f.before in
     let k = judged t in
     let a = (start k).args in
     sym
     (by-bad-code Refused a.code.now a.out.now _ (main_of (files k))
-    (sym k.check-set.ensures ∙ t.enum_told.given.1) (rw f.outward-fault.ensures at c.if1.true))
+    (sym k.check_set.ensures ∙ t.in-Value.is) (rw f.outward_fault.ensures at c.if-outward_fault-ne0.true))
 
-place-among-requires : tie.Need-place-among-requires
+place-among-requires : tie.Need-place_among-place-requires
 place-among-requires c κs =
-    let t = c.before.before.before in
-    rw (c.stretch-in.ensures.0, c.stretch-in.ensures.1) (between-few (files (judged t)) _ _ (between t))
+    let t = c.before.before in
+    rw (c.stretch_in.ensures.0, c.stretch_in.ensures.1) (between-few (files (judged t)) _ _ (between t))
 
-label-at-requires : tie.Need-label-at-requires
+label-at-requires : tie.Need-label_at-requires
 label-at-requires c κs =
     let p = c.before in
     let k = judged (told p) in
     rw (place_is p) (among-place (files k) _ _ (between (told p)) (start k).args.k)
 
-returns-2 : tie.Need-returns-2
+returns-2 : tie.Need-returns-else-outward_fault-ne0
 returns-2 c =
-    let l = c.before.before in
+    let l = c in
     let p = l.before.before in
     let f = (good p).before in
     let t = told p in
     let k = judged t in
     let a = (start k).args in
     rw (place_is p) at l.label_at.ensures
-    ∙ code-by-place (files k) (sym k.check-set.ensures ∙ t.enum_told.given.1) a.code.now
-    (rw f.outward-fault.ensures at (good p).if1.false) a.k a.out.now
+    ∙ code-by-place (files k) (sym k.check_set.ensures ∙ t.in-Value.is) a.code.now
+    (rw f.outward_fault.ensures at (good p).if-outward_fault-ne0.false) a.k a.out.now
 
-returns-3 : tie.Need-returns-3
+returns-3 : tie.Need-returns-in-Refused
 unfolding code_label
 returns-3 c =
-    let k = c.before.before.before in
+    let k = c.before in
     let a = (start k).args in
     sym
     (by-refused Refused a.code.now a.out.now _ (main_of (files k))
-    (sym k.check-set.ensures ∙ c.before.file.given.1))
+    (sym k.check_set.ensures ∙ c.in-Refused.is))
 
-pub label-in-code-spec : {M : Type 1} → statement M
-label-in-code-spec =
+pub label_in_code_spec : {M : Type 1} → statement M
+label_in_code_spec =
     tie.close
     (tie.spec (search rules) (search rules) (search rules) returns (search rules) place-among-requires label-at-requires
     (search rules) (search rules) returns-2 returns-3)

@@ -7,26 +7,26 @@ use Rattle.mainfile_rows.proofs.locality_fault.Tie as tie
 returns : tie.Need-returns
 unfolding main_locality_fault
 returns c =
-    let key = c.before in
-    let before-town = key.before in
-    let town = before-town.before in
-    let before-dependent = town.before in
-    let last = before-dependent.before in
-    let dependent = last.before in
-    let double = dependent.before in
+    let key = c in
+    let before-town = key in
+    let town = before-town in
+    let before-dependent = town in
+    let last = before-dependent in
+    let dependent = last in
+    let double = dependent in
     rw (
-      c.first-of4.ensures,
-      key.key-at.ensures,
-      before-town.first-of3.ensures,
+      c.first_of-2.ensures,
+      key.key_at.ensures,
+      before-town.first_of-town.ensures,
       town.filled_at.ensures,
-      before-dependent.first-of2.ensures,
+      before-dependent.first_of-dependent.ensures,
       last.first_of.ensures,
       dependent.text_at.ensures,
-      double.double-at.ensures,
+      double.double_at-double.ensures,
     )
 
-pub locality-fault-spec : {M : Type 1} → statement M
-locality-fault-spec =
+pub locality_fault_spec : {M : Type 1} → statement M
+locality_fault_spec =
     tie.close
     (tie.spec
     (search rules)

@@ -7,26 +7,26 @@ use Rattle.mainfile_rows.proofs.organisation_fault.Tie as tie
 returns : tie.Need-returns
 unfolding main_organisation_fault
 returns c =
-    let key = c.before in
-    let before-kind = key.before in
-    let kind = before-kind.before in
-    let before-name = kind.before in
-    let last = before-name.before in
-    let name = last.before in
-    let department = name.before in
+    let key = c in
+    let before-kind = key in
+    let kind = before-kind in
+    let before-name = kind in
+    let last = before-name in
+    let name = last in
+    let department = name in
     rw (
-      c.first-of4.ensures,
-      key.key-at.ensures,
-      before-kind.first-of3.ensures,
-      kind.postcode-type-at.ensures,
-      before-name.first-of2.ensures,
+      c.first_of-2.ensures,
+      key.key_at.ensures,
+      before-kind.first_of-kind.ensures,
+      kind.postcode_type_at.ensures,
+      before-name.first_of-name.ensures,
       last.first_of.ensures,
-      name.name-at.ensures,
-      department.text_at.ensures,
+      name.name_at.ensures,
+      department.text_at-department.ensures,
     )
 
-pub organisation-fault-spec : {M : Type 1} → statement M
-organisation-fault-spec =
+pub organisation_fault_spec : {M : Type 1} → statement M
+organisation_fault_spec =
     tie.close
     (tie.spec
     (search rules)

@@ -9,13 +9,13 @@ use Rattle.mainfile_rows.proofs.text_fault.Tie as tie
 returns : tie.Need-returns
 unfolding main_text_fault
 returns c =
-    let key = c.before in
-    let text = key.before in
-    let filled = text.before in
-    rw (c.first-of2.ensures, key.key-at.ensures, text.first_of.ensures, filled.filled_at.ensures, zero-add) refl
+    let key = c in
+    let text = key in
+    let filled = text in
+    rw (c.first_of.ensures, key.key_at.ensures, text.first_of-text.ensures, filled.filled_at.ensures, zero-add) refl
 
-pub text-fault-spec : {M : Type 1} → statement M
-text-fault-spec =
+pub text_fault_spec : {M : Type 1} → statement M
+text_fault_spec =
     tie.close
     (tie.spec
     (search rules)

@@ -4,8 +4,8 @@ use native.Mathlib.Omega.{arith}
 use Rattle.mainfile_views.proofs.above.Statement.{statement}
 use Rattle.mainfile_views.proofs.above.Tie as tie
 
-returns-2 : tie.Need-returns-2
-returns-2 c = omega (arith, c.if1.false)
+returns-2 : tie.Need-returns-else-m-n
+returns-2 c = omega (arith, c.if-m-n.false)
 
-pub above-spec : {M : Type 1} → statement M
-above-spec = tie.close (tie.spec (search rules) (search rules) returns-2)
+pub above_spec : {M : Type 1} → statement M
+above_spec = tie.close (tie.spec (search rules) (search rules) returns-2)

@@ -7,5 +7,5 @@ use Rattle.mainfile_views.proofs.all_in.Tie as tie
 returns : tie.Need-returns
 returns c = (refl, c.above.ensures)
 
-pub all-in-spec : {M : Type 1} → statement M
-all-in-spec = tie.close (tie.spec (search rules) returns)
+pub all_in_spec : {M : Type 1} → statement M
+all_in_spec = tie.close (tie.spec (search rules) returns)

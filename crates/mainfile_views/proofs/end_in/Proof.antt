@@ -6,7 +6,7 @@ use Rattle.mainfile_views.proofs.end_in.Tie as tie
 
 returns : tie.Need-returns
 unfolding end_in
-returns c = c.bound-in.ensures
+returns c = c.bound_in.ensures
 
-pub end-in-spec : {M : Type 1} → statement M
-end-in-spec = tie.close (tie.spec (search rules) returns)
+pub end_in_spec : {M : Type 1} → statement M
+end_in_spec = tie.close (tie.spec (search rules) returns)

@@ -6,7 +6,7 @@ use Rattle.mainfile_views.proofs.first_in.Tie as tie
 
 returns : tie.Need-returns
 unfolding first_in
-returns c = c.bound-in.ensures
+returns c = c.bound_in.ensures
 
-pub first-in-spec : {M : Type 1} → statement M
-first-in-spec = tie.close (tie.spec (search rules) returns)
+pub first_in_spec : {M : Type 1} → statement M
+first_in_spec = tie.close (tie.spec (search rules) returns)

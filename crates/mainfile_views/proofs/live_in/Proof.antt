@@ -6,17 +6,17 @@ use Rattle.mainfile_views.specs.Range.{live_answer}
 use Rattle.mainfile_views.proofs.live_in.Statement.{statement}
 use Rattle.mainfile_views.proofs.live_in.Tie as tie
 
-returns : tie.Need-returns
+returns : tie.Need-returns-in-Value
 unfolding live_answer
 returns c =
-    let k = c.before.before.before in
-    rw c.Live-at.ensures (after-value _ _ _ k.check-main.ensures _ c.before.enum_told.given.1)
+    let k = c in
+    rw c.Live-at.ensures (after-value _ _ _ k.check_main.ensures _ c.in-Value.is)
 
-returns-2 : tie.Need-returns-2
+returns-2 : tie.Need-returns-in-Refused
 unfolding live_answer
 returns-2 c =
-    let k = c.before.before.before in
-    after-refused _ _ _ k.check-main.ensures _ _ c.before.file.given.1
+    let k = c in
+    after-refused _ _ _ k.check_main.ensures _ _ c.in-Refused.is
 
-pub live-in-spec : {M : Type 1} → statement M
-live-in-spec = tie.close (tie.spec (search rules) (search rules) (search rules) (search rules) returns returns-2)
+pub live_in_spec : {M : Type 1} → statement M
+live_in_spec = tie.close (tie.spec (search rules) (search rules) (search rules) (search rules) returns returns-2)

@@ -5,9 +5,9 @@ use Rattle.mainfile_views.proofs.stretch_in.Tie as tie
 
 returns : tie.Need-returns
 returns c =
-    let at-end = c.before in
-    let at_first = at-end.before in
-    (at_first.first-in.ensures, rw (c.above.ensures, at-end.end-in.ensures, at_first.first-in.ensures))
+    let at-end = c in
+    let at_first = at-end in
+    (at_first.first_in-first.ensures, rw (c.above.ensures, at-end.end_in-end.ensures, at_first.first_in-first.ensures))
 
-pub stretch-in-spec : {M : Type 1} → statement M
-stretch-in-spec = tie.close (tie.spec (search rules) (search rules) (search rules) returns)
+pub stretch_in_spec : {M : Type 1} → statement M
+stretch_in_spec = tie.close (tie.spec (search rules) (search rules) (search rules) returns)

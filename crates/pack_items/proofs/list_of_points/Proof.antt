@@ -9,44 +9,44 @@ use Rattle.pack_items.proofs.Laws.{points-listed}
 use Rattle.pack_items.proofs.list_of_points.Statement.{statement}
 use Rattle.pack_items.proofs.list_of_points.Tie as tie
 
-open-pack-requires : tie.Need-open-pack-requires
+open-pack-requires : tie.Need-open_pack-requires
 open-pack-requires c κs = search rules
 
-enum-known-points : tie.Need-enum-known-points
+enum-known-points : tie.Need-enum_known-points
 enum-known-points c = search rules
 
-list-points-requires : tie.Need-list-points-requires
+list-points-requires : tie.Need-list_points-requires
 list-points-requires c κs =
-    let n = c.before.before in
-    let o = n.before.before in
-    sym o.open-pack.ensures ∙ n.points.given.1
+    let n = c in
+    let o = n in
+    sym o.open_pack.ensures ∙ n.in-Value.is
 
-enum-known-file : tie.Need-enum-known-file
+enum-known-file : tie.Need-enum_known-file
 enum-known-file c = search rules
 
-same_length : tie.Need-same-length
+same_length : tie.Need-shape_of-out
 same_length c = search rules
 
-returns : tie.Need-returns
+returns : tie.Need-returns-in-Value
 unfolding pack_list
 returns c =
-    let l = c.before.before in
-    let n = l.before.before.before in
-    let o = n.before.before in
-    let a = o.before.before.before.args in
-    l.list-points.ensures
-    ∙ sym (points-listed point_line a.pack.now a.first a.count a.out.now (sym o.open-pack.ensures ∙ n.points.given.1))
+    let l = c in
+    let n = l in
+    let o = n in
+    let a = o.args in
+    l.list_points.ensures
+    ∙ sym (points-listed point_line a.pack.now a.first a.count a.out.now (sym o.open_pack.ensures ∙ n.in-Value.is))
 
-returns-2 : tie.Need-returns-2
+returns-2 : tie.Need-returns-in-Refused
 unfolding pack_list pack_listed
 returns-2 c =
-    let f = c.before in
-    let o = f.before.before in
-    let a = o.before.before.before.args in
-    sym (afterwards-refused Unasked a.out.now _ (sym o.open-pack.ensures ∙ f.file.given.1))
+    let f = c in
+    let o = f in
+    let a = o.args in
+    sym (afterwards-refused Unasked a.out.now _ (sym o.open_pack.ensures ∙ f.in-Refused.is))
 
-pub list-of-points-spec : {M : Type 1} → statement M
-list-of-points-spec =
+pub list_of_points_spec : {M : Type 1} → statement M
+list_of_points_spec =
     tie.close
     (tie.spec
     open-pack-requires

@@ -8,34 +8,34 @@ use Rattle.pack_open.proofs.Opened.{opened-all, opened-sized}
 use Rattle.pack_label.proofs.label_of_point.Statement.{statement}
 use Rattle.pack_label.proofs.label_of_point.Tie as tie
 
-label-at-requires : tie.Need-label-at-requires
+label-at-requires : tie.Need-label_at-requires
 label-at-requires c κs =
     let n = c.before.before in
     let o = n.before.before in
-    let a = o.before.before.before.args in
-    let value = sym o.open-pack.ensures ∙ n.count.given.1 in
+    let a = o.args in
+    let value = sym o.open_pack.ensures ∙ n.in-Value.is in
     (opened-sized a.pack.now _ value, (opened-all a.pack.now _ value).counted)
 
-returns : tie.Need-returns
+returns : tie.Need-returns-in-Value
 unfolding pack_label
 returns c =
-    let l = c.before.before in
-    let n = l.before.before.before in
-    let o = n.before.before in
-    let a = o.before.before.before.args in
+    let l = c in
+    let n = l in
+    let o = n in
+    let a = o.args in
     l.label_at.ensures
-    ∙ sym (afterwards-value Refused a.out.now _ (sym o.open-pack.ensures ∙ n.count.given.1))
+    ∙ sym (afterwards-value Refused a.out.now _ (sym o.open_pack.ensures ∙ n.in-Value.is))
 
-returns-2 : tie.Need-returns-2
+returns-2 : tie.Need-returns-in-Refused
 unfolding pack_label
 returns-2 c =
-    let f = c.before in
-    let o = f.before.before in
-    let a = o.before.before.before.args in
-    sym (afterwards-refused Refused a.out.now _ (sym o.open-pack.ensures ∙ f.file.given.1))
+    let f = c in
+    let o = f in
+    let a = o.args in
+    sym (afterwards-refused Refused a.out.now _ (sym o.open_pack.ensures ∙ f.in-Refused.is))
 
-pub label-of-point-spec : {M : Type 1} → statement M
-label-of-point-spec =
+pub label_of_point_spec : {M : Type 1} → statement M
+label_of_point_spec =
     tie.close
     (tie.spec
     (λ c κs. search rules)

@@ -11,58 +11,58 @@ use Rattle.pack_open.proofs.all_points_good.Statement.{statement}
 use Rattle.pack_open.proofs.all_points_good.Tie as tie
 
 -- the fields of all points were found good, so that their offsets decide
-offsets-decide : (c : tie.Else1)
-    → let pack = c.before.before.before.before.before.args.pack.now in
+offsets-decide : (c : tie.Else-not-fields_good)
+    → let pack = c.args.pack.now in
     all_points pack (offsets_fine pack) ≡ all_points_good pack
 offsets-decide c =
-    let f = c.before in
-    let pack = f.before.before.before.before.args.pack.now in
+    let f = c in
+    let pack = f.args.pack.now in
     rw (all_split pack)
-    (sym (simp (sym f.fields-good.ensures ∙ not-false _ c.if1.false) (and-true (all_points pack (offsets_fine pack)))))
+    (sym (simp (sym f.fields_good.ensures ∙ c.if-not-fields_good.false) (and-true (all_points pack (offsets_fine pack)))))
 
-fields-good-requires : tie.Need-fields-good-requires
+fields-good-requires : tie.Need-fields_good-requires
 fields-good-requires c κs =
     let s = c.before.before.before in
     (s.requires.0, (s.requires.1.0, s.requires.1.1.area.area))
 
-returns : tie.Need-returns
+returns : tie.Need-returns-then-not-fields_good
 returns c =
-    let f = c.before in
-    let pack = f.before.before.before.before.args.pack.now in
+    let f = c in
+    let pack = f.args.pack.now in
     rw (all_split pack)
-    (sym (simp (sym f.fields-good.ensures ∙ not-true _ c.if1.true) (and-false (all_points pack (offsets_fine pack)))))
+    (sym (simp (sym f.fields_good.ensures ∙ c.if-not-fields_good.true) (and-false (all_points pack (offsets_fine pack)))))
 
-offsets-marked-requires : tie.Need-offsets-marked-requires
+offsets-marked-requires : tie.Need-offsets_marked-requires
 offsets-marked-requires c κs =
-    let i = c.before in
-    let s = i.before.before.before.before.before.before in
+    let i = c in
+    let s = i in
     let a = s.args in
-    let short = leb-true _ 524_288 (and_right a.fine _ i.if2.true) in
-    (s.requires.0, (s.requires.1.0, covered a.pack.now a.rows.now a.fine a.kept.now s.requires.1.1 (and_left _ _ i.if2.true) short))
+    let short = leb-true _ 524_288 (and_right a.fine _ i.if-fine-n.true) in
+    (s.requires.0, (s.requires.1.0, covered a.pack.now a.rows.now a.fine a.kept.now s.requires.1.1 (and_left _ _ i.if-fine-n.true) short))
 
-returns-2 : tie.Need-returns-2
-returns-2 c = c.offsets-marked.ensures ∙ offsets-decide c.before.before.before
+returns-2 : tie.Need-returns-then-fine-n
+returns-2 c = c.offsets_marked.ensures ∙ offsets-decide c.before.before.before
 
-keep-starts-requires : tie.Need-keep-starts-requires
+keep-starts-requires : tie.Need-keep_starts-requires
 keep-starts-requires c κs =
     let s = c.before.before.before.before.before.before.before in
     let a = s.args in
     fresh a.pack.now a.rows.now a.fine a.kept.now s.requires.1.1
 
-offsets-told-requires : tie.Need-offsets-told-requires
+offsets-told-requires : tie.Need-offsets_told-requires
 offsets-told-requires c κs =
-    let k = c.before.before.before in
-    let s = k.before.before.before.before.before.before.before.before in
+    let k = c in
+    let s = k in
     let a = s.args in
     let pack = a.pack.now in
-    (s.requires.0, (s.requires.1.0, told pack a.rows.now a.fine a.kept.now s.requires.1.1 _ k.keep-starts.auto.1.1.0 (k.keep-starts.ensures (row_count pack) s.requires.1.1.area.good)))
+    (s.requires.0, (s.requires.1.0, told pack a.rows.now a.fine a.kept.now s.requires.1.1 _ k.keep_starts.auto.1.1.0 (k.keep_starts.ensures (row_count pack) s.requires.1.1.area.good)))
 
-returns-3 : tie.Need-returns-3
+returns-3 : tie.Need-returns
 returns-3 c =
-    c.offsets-told.ensures ∙ offsets-decide c.before.before.before.before.before.before.before
+    c.offsets_told.ensures ∙ offsets-decide c.before.before.before.before.before.before.before
 
-pub all-points-good-spec : {M : Type 1} → statement M
-all-points-good-spec =
+pub all_points_good_spec : {M : Type 1} → statement M
+all_points_good_spec =
     tie.close
     (tie.spec
     fields-good-requires

@@ -4,11 +4,11 @@ use mathlib.Core.Path.{sym}
 use Rattle.pack_open.proofs.all_rows_good.Statement.{statement}
 use Rattle.pack_open.proofs.all_rows_good.Tie as tie
 
-returns : tie.Need-returns
-returns c = sym (c.before.before.requires c.if1.true)
+returns : tie.Need-returns-then-fine
+returns c = sym (c.requires c.if-fine.true)
 
-returns-2 : tie.Need-returns-2
-returns-2 c = c.rows-good.ensures
+returns-2 : tie.Need-returns
+returns-2 c = c.rows_good.ensures
 
-pub all-rows-good-spec : {M : Type 1} → statement M
-all-rows-good-spec = tie.close (tie.spec returns (search rules) returns-2)
+pub all_rows_good_spec : {M : Type 1} → statement M
+all_rows_good_spec = tie.close (tie.spec returns (search rules) returns-2)

@@ -9,45 +9,45 @@ use Rattle.pack_runs.proofs.Laws.{points-run}
 use Rattle.pack_runs.proofs.labels_of_points.Statement.{statement}
 use Rattle.pack_runs.proofs.labels_of_points.Tie as tie
 
-open-pack-requires : tie.Need-open-pack-requires
+open-pack-requires : tie.Need-open_pack-requires
 open-pack-requires c κs = search rules
 
-enum-known-points : tie.Need-enum-known-points
+enum-known-points : tie.Need-enum_known-points
 enum-known-points c = search rules
 
-run-points-requires : tie.Need-run-points-requires
+run-points-requires : tie.Need-run_points-requires
 run-points-requires c κs =
-    let n = c.before.before in
-    let o = n.before.before in
-    let a = o.before.before.before.args in
-    let value = sym o.open-pack.ensures ∙ n.points.given.1 in
+    let n = c in
+    let o = n in
+    let a = o.args in
+    let value = sym o.open_pack.ensures ∙ n.in-Value.is in
     (opened-sized a.pack.now _ value, (opened-all a.pack.now _ value).counted)
 
-enum-known-file : tie.Need-enum-known-file
+enum-known-file : tie.Need-enum_known-file
 enum-known-file c = search rules
 
-same_length : tie.Need-same-length
+same_length : tie.Need-shape_of-out
 same_length c = search rules
 
-returns : tie.Need-returns
+returns : tie.Need-returns-in-Value
 returns c =
-    let l = c.before.before in
-    let n = l.before.before.before in
-    let o = n.before.before in
-    let a = o.before.before.before.args in
-    l.run-points.ensures
-    ∙ sym (points-run a.pack.now a.first a.count a.out.now (sym o.open-pack.ensures ∙ n.points.given.1))
+    let l = c in
+    let n = l in
+    let o = n in
+    let a = o.args in
+    l.run_points.ensures
+    ∙ sym (points-run a.pack.now a.first a.count a.out.now (sym o.open_pack.ensures ∙ n.in-Value.is))
 
-returns-2 : tie.Need-returns-2
+returns-2 : tie.Need-returns-in-Refused
 unfolding pack_run
 returns-2 c =
-    let f = c.before in
-    let o = f.before.before in
-    let a = o.before.before.before.args in
-    sym (afterwards-refused Unasked a.out.now _ (sym o.open-pack.ensures ∙ f.file.given.1))
+    let f = c in
+    let o = f in
+    let a = o.args in
+    sym (afterwards-refused Unasked a.out.now _ (sym o.open_pack.ensures ∙ f.in-Refused.is))
 
-pub labels-of-points-spec : {M : Type 1} → statement M
-labels-of-points-spec =
+pub labels_of_points_spec : {M : Type 1} → statement M
+labels_of_points_spec =
     tie.close
     (tie.spec
     open-pack-requires

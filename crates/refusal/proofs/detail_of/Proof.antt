@@ -5,20 +5,20 @@ use Rattle.refusal.specs.Refusal.{detail}
 use Rattle.refusal.proofs.detail_of.Statement.{statement}
 use Rattle.refusal.proofs.detail_of.Tie as tie
 
-returns-4 : tie.Need-returns-4
-returns-4 c = ap detail (sym c.before.reason2.given.1)
+returns-4 : tie.Need-returns-in-Malformed
+returns-4 c = ap detail (sym c.in-Malformed.is)
 
-returns-8 : tie.Need-returns-8
-returns-8 c = ap detail (sym c.before.reason5.given.1)
+returns-8 : tie.Need-returns-in-Combination
+returns-8 c = ap detail (sym c.in-Combination.is)
 
-returns-9 : tie.Need-returns-9
-returns-9 c = ap detail (sym c.before.reason6.given.1)
+returns-9 : tie.Need-returns-in-MissingKey
+returns-9 c = ap detail (sym c.in-MissingKey.is)
 
-returns-14 : tie.Need-returns-14
-returns-14 c = ap detail (sym c.before.reason9.given.1)
+returns-14 : tie.Need-returns-in-BadRow
+returns-14 c = ap detail (sym c.in-BadRow.is)
 
-pub detail-of-spec : {M : Type 1} → statement M
-detail-of-spec =
+pub detail_of_spec : {M : Type 1} → statement M
+detail_of_spec =
     tie.close
     (tie.spec
     (λ c. search rules)

@@ -5,11 +5,11 @@ use Rattle.refusal.specs.Refusal.{number}
 use Rattle.refusal.proofs.number_of.Statement.{statement}
 use Rattle.refusal.proofs.number_of.Tie as tie
 
-returns-17 : tie.Need-returns-17
-returns-17 c = c.«later-number».ensures ∙ ap number (sym c.before.before.reason.given.1)
+returns-17 : tie.Need-returns-in-Later
+returns-17 c = c.«later-number».ensures ∙ ap number (sym c.in-Later.is)
 
-pub number-of-spec : {M : Type 1} → statement M
-number-of-spec =
+pub number_of_spec : {M : Type 1} → statement M
+number_of_spec =
     tie.close
     (tie.spec
     (λ c. search rules)

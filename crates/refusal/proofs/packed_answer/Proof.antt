@@ -23,20 +23,20 @@ use Rattle.refusal.proofs.word_of.Reads as word-of-reads
 -- src/lib.rt:112:13
 
 -- src/lib.rt:106:1
-returns : tie.Need-returns
-returns c = ap packed (sym c.before.answer.given.1)
+returns : tie.Need-returns-in-Value
+returns c = ap packed (sym c.in-Value.is)
 
 -- src/lib.rt:106:1
-returns-2 : tie.Need-returns-2
+returns-2 : tie.Need-returns-in-Refused
 returns-2 c =
-    let d = c.before in
-    let s = d.before in
-    let n = s.before in
-    rw (c.word_of.ensures, d.detail-of.ensures, s.second-of.ensures, n.number_of_lem.ensures)
-    (ap packed (sym n.before.before.answer2.given.1))
+    let d = c in
+    let s = d in
+    let n = s in
+    rw (c.word_of.ensures, d.detail_of.ensures, s.second_of.ensures, n.number_of.ensures)
+    (ap packed (sym n.in-Refused.is))
 
-pub packed-answer-spec : {M : Type 1} → statement M
-packed-answer-spec =
+pub packed_answer_spec : {M : Type 1} → statement M
+packed_answer_spec =
     tie.close
     (tie.spec (search rules) (search rules) (search rules) (search rules) (search rules) (search rules) returns
     returns-2)

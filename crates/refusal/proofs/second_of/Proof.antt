@@ -5,20 +5,20 @@ use Rattle.refusal.specs.Refusal.{second}
 use Rattle.refusal.proofs.second_of.Statement.{statement}
 use Rattle.refusal.proofs.second_of.Tie as tie
 
-returns-4 : tie.Need-returns-4
-returns-4 c = ap second (sym c.before.reason.given.1)
+returns-4 : tie.Need-returns-in-Malformed
+returns-4 c = ap second (sym c.in-Malformed.is)
 
-returns-8 : tie.Need-returns-8
-returns-8 c = ap second (sym c.before.reason2.given.1)
+returns-8 : tie.Need-returns-in-Combination
+returns-8 c = ap second (sym c.in-Combination.is)
 
-returns-9 : tie.Need-returns-9
-returns-9 c = ap second (sym c.before.reason3.given.1)
+returns-9 : tie.Need-returns-in-MissingKey
+returns-9 c = ap second (sym c.in-MissingKey.is)
 
-returns-14 : tie.Need-returns-14
-returns-14 c = ap second (sym c.before.reason4.given.1)
+returns-14 : tie.Need-returns-in-BadRow
+returns-14 c = ap second (sym c.in-BadRow.is)
 
-pub second-of-spec : {M : Type 1} → statement M
-second-of-spec =
+pub second_of_spec : {M : Type 1} → statement M
+second_of_spec =
     tie.close
     (tie.spec
     (λ c. search rules)

@@ -22,7 +22,7 @@ returns : tie.Need-returns
 unfolding word
 returns c = search rules
 
-pub word-of-spec : {M : Type 1} → statement M
-word-of-spec =
+pub word_of_spec : {M : Type 1} → statement M
+word_of_spec =
     tie.close
     (tie.spec (search rules) (search rules) (search rules) (search rules) (search rules) (search rules) returns)

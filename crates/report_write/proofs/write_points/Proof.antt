@@ -8,35 +8,35 @@ use Rattle.report_write.proofs.Runs.{points-long, points-taken, points-refused}
 use Rattle.report_write.proofs.write_points.Statement.{statement}
 use Rattle.report_write.proofs.write_points.Tie as tie
 
-returns : tie.Need-returns
+returns : tie.Need-returns-then-points-gt-POINTS_MOST
 returns c =
-    let t = c.before.before in
-    let i = t.before.before.before in
-    let a = i.before.before.before.before.args in
-    fed-as (points-long a.table.now a.points.now a.t i.if1.true) t.text_at.ensures
+    let t = c in
+    let i = t in
+    let a = i.args in
+    fed-as (points-long a.table.now a.points.now a.t i.if-points-gt-POINTS_MOST.true) t.text_at.ensures
 
-write-pair-requires : tie.Need-write-pair-requires
+write-pair-requires : tie.Need-write_pair-requires
 write-pair-requires c κs =
-    let k = c.before.before.before.before in
+    let k = c in
     let s = k.before.before.before.before.before in
-    (accepted table_format s.args.table.now s.args.t s.requires, accepted point_format s.args.points.now _ (sym k.check-points.ensures ∙ c.before.before.p.given.1))
+    (accepted table_format s.args.table.now s.args.t s.requires, accepted point_format s.args.points.now _ (sym k.check_points.ensures ∙ c.in-Value.is))
 
-returns-2 : tie.Need-returns-2
+returns-2 : tie.Need-returns-in-Value
 returns-2 c =
-    let k = c.before.before.before.before.before.before.before in
-    let a = k.before.before.before.before.before.args in
-    let same = sym k.check-points.ensures ∙ c.before.before.before.before.before.p.given.1 in
-    fed-as (points-taken a.table.now a.points.now a.t k.before.if1.false _ same) c.before.before.write-pair.ensures
+    let k = c in
+    let a = k.args in
+    let same = sym k.check_points.ensures ∙ c.in-Value.is in
+    fed-as (points-taken a.table.now a.points.now a.t k.if-points-gt-POINTS_MOST.false _ same) c.write_pair.ensures
 
-returns-3 : tie.Need-returns-3
+returns-3 : tie.Need-returns-in-Refused
 returns-3 c =
-    let k = c.before.before.before.before.before.before.before.before in
-    let a = k.before.before.before.before.before.args in
-    let same = sym k.check-points.ensures ∙ c.before.before.before.before.before.before.reason.given.1 in
-    fed-as (points-refused a.table.now a.points.now a.t k.before.if1.false _ _ same) c.before.before.write-refused.ensures
+    let k = c in
+    let a = k.args in
+    let same = sym k.check_points.ensures ∙ c.in-Refused.is in
+    fed-as (points-refused a.table.now a.points.now a.t k.if-points-gt-POINTS_MOST.false _ _ same) c.write_refused.ensures
 
-pub write-points-spec : {M : Type 1} → statement M
-write-points-spec =
+pub write_points_spec : {M : Type 1} → statement M
+write_points_spec =
     tie.close
     (tie.spec (search rules) (search rules) (search rules) returns (search rules) (search rules)
     write-pair-requires (search rules) (search rules) (search rules) (search rules) returns-2 (search rules)

@@ -6,12 +6,12 @@ use Rattle.report_write.proofs.write_refused.Tie as tie
 
 returns : tie.Need-returns
 returns c =
-    let r = c.before.before in
-    let t = r.before.before.before.before in
-    let w = t.before.before.before.before.before in
-    fed_then w.text_at.ensures (fed_then t.text-at2.ensures r.refused-at.ensures)
+    let r = c in
+    let t = r in
+    let w = t in
+    fed_then w.text_at-i.ensures (fed_then t.text_at-j.ensures r.refused_at.ensures)
 
-pub write-refused-spec : {M : Type 1} → statement M
-write-refused-spec =
+pub write_refused_spec : {M : Type 1} → statement M
+write_refused_spec =
     tie.close
     (tie.spec (search rules) (search rules) (search rules) (search rules) (search rules) returns)

@@ -5,10 +5,10 @@ use Rattle.run.specs.Packed.{series_bytes}
 use Rattle.run.proofs.bytes_of.Statement.{statement}
 use Rattle.run.proofs.bytes_of.Tie as tie
 
-returns-2 : tie.Need-returns-2
-returns-2 c = ap (λ s. series_bytes s c.before.before.before.args.before) (sym c.before.series.given.1)
+returns-2 : tie.Need-returns-in-Stopped
+returns-2 c = ap (λ s. series_bytes s c.args.before) (sym c.in-Stopped.is)
 
-pub bytes-of-spec : {M : Type 1} → statement M
-bytes-of-spec =
+pub bytes_of_spec : {M : Type 1} → statement M
+bytes_of_spec =
     tie.close
     (tie.spec (search rules) (search rules) (search rules) (λ c. search rules) returns-2 (λ c. search rules))

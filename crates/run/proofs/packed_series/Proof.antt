@@ -5,21 +5,21 @@ use Rattle.run.specs.Packed.{packed_series}
 use Rattle.run.proofs.packed_series.Statement.{statement}
 use Rattle.run.proofs.packed_series.Tie as tie
 
-returns : tie.Need-returns
-returns c = c.packed-answer.ensures ∙ ap packed_series (sym c.before.before.series.given.1)
+returns : tie.Need-returns-in-Unasked
+returns c = c.packed_answer.ensures ∙ ap packed_series (sym c.in-Unasked.is)
 
-returns-2 : tie.Need-returns-2
+returns-2 : tie.Need-returns-in-Stopped
 returns-2 c =
-    let d = c.before in
-    let n = d.before in
-    rw (c.word_of.ensures, d.detail-of.ensures, n.number_of_lem.ensures)
-    (ap packed_series (sym n.before.before.series2.given.1))
+    let d = c in
+    let n = d in
+    rw (c.word_of.ensures, d.detail_of.ensures, n.number_of.ensures)
+    (ap packed_series (sym n.in-Stopped.is))
 
-returns-3 : tie.Need-returns-3
-returns-3 c = c.packed-answer2.ensures ∙ ap packed_series (sym c.before.before.series3.given.1)
+returns-3 : tie.Need-returns-in-Done
+returns-3 c = c.packed_answer-in-Done.ensures ∙ ap packed_series (sym c.in-Done.is)
 
-pub packed-series-spec : {M : Type 1} → statement M
-packed-series-spec =
+pub packed_series_spec : {M : Type 1} → statement M
+packed_series_spec =
     tie.close
     (tie.spec (search rules) (search rules) (search rules) (search rules) (search rules) (search rules)
     (search rules) (search rules) returns returns-2 returns-3)

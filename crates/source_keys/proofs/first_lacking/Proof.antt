@@ -22,46 +22,46 @@ here : (keys rows : List ℕ) (i : ℕ) → i < length keys → i < length rows
     (lacking_from (suc (suc i)) (drop (suc i) keys) (drop (suc i) rows))
 here keys rows i h k = rw (drop-cons keys i 0 h, drop-cons rows i 0 k)
 
-abbrev invariant-loop : tie.invariant-loop
+abbrev invariant-loop : tie.invariant-loop-i
 invariant-loop keys rows i₀ i =
     (i ≤ 7) × (lacking_from 1 keys rows ≡ lacking_from (suc i) (drop i keys) (drop i rows))
 
-abbrev decreases-loop : tie.decreases-loop
+abbrev decreases-loop : tie.decreases-loop-i
 decreases-loop keys rows i₀ i = 7 - i
 
-returns : tie.Need-returns invariant-loop decreases-loop
+returns : tie.Need-returns-then-keys-i invariant-loop decreases-loop
 returns c =
-    let l = c.before.before in
-    let e = l.before in
+    let l = c in
+    let e = l in
     let a = e.args in
     let k : length a.t1 ≡ 7 = e.well_formed.0.1.0.1 in
     let r : length a.t2 ≡ 7 = e.well_formed.1.0.1.0.1 in
-    let n = here a.t1 a.t2 l.loop.i (omega arith) (omega arith) in
-    rw (add-one, l.loop.invariant.1, n) (simp c.if1.true)
+    let n = here a.t1 a.t2 l.loop-i.i (omega arith) (omega arith) in
+    rw (add-one, l.loop-i.invariant.1, n) (simp c.if-keys-i.true)
 
-loop-less : tie.Need-loop-smaller invariant-loop decreases-loop
+loop-less : tie.Need-loop-i-smaller invariant-loop decreases-loop
 loop-less c = omega arith
 
-loop-again : tie.Need-loop-preserved invariant-loop decreases-loop
+loop-again : tie.Need-loop-i-preserved invariant-loop decreases-loop
 loop-again c =
-    let l = c.before.before in
-    let e = l.before in
+    let l = c in
+    let e = l in
     let a = e.args in
     let k : length a.t1 ≡ 7 = e.well_formed.0.1.0.1 in
     let r : length a.t2 ≡ 7 = e.well_formed.1.0.1.0.1 in
-    let n = here a.t1 a.t2 l.loop.i (omega arith) (omega arith) in
-    (omega arith, rw (add-one, l.loop.invariant.1, n) (simp c.if1.false))
+    let n = here a.t1 a.t2 l.loop-i.i (omega arith) (omega arith) in
+    (omega arith, rw (add-one, l.loop-i.invariant.1, n) (simp c.if-keys-i.false))
 
-returns-2 : tie.Need-returns-2 invariant-loop decreases-loop
+returns-2 : tie.Need-returns invariant-loop decreases-loop
 returns-2 c =
-    let l = c.before in
-    let a = l.before.args in
-    let k : length a.t1 ≡ 7 = l.before.well_formed.0.1.0.1 in
-    let e : c.before.loop.i ≡ length a.t1 = omega arith in
-    rw (l.loop.invariant.1, e, drop-length a.t1)
+    let l = c in
+    let a = l.args in
+    let k : length a.t1 ≡ 7 = l.well_formed.0.1.0.1 in
+    let e : c.loop-i.i ≡ length a.t1 = omega arith in
+    rw (l.loop-i.invariant.1, e, drop-length a.t1)
 
-pub first-lacking-spec : {M : Type 1} → statement M
-first-lacking-spec =
+pub first_lacking_spec : {M : Type 1} → statement M
+first_lacking_spec =
     tie.close
     (tie.spec invariant-loop decreases-loop (search rules) (search rules) (search rules) (search rules) (search rules)
     (search rules) returns (search rules) loop-less loop-again returns-2)

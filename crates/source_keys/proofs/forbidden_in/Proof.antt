@@ -8,12 +8,12 @@ use Rattle.source_keys.proofs.forbidden_in.Tie as tie
 returns : tie.Need-returns
 unfolding forbidden_in
 returns c =
-    let behind-first-rule2 = c.before in
-    let behind-first-rule = behind-first-rule2.before in
-    rw (c.first-rule3.ensures, behind-first-rule2.first-rule2.ensures, behind-first-rule.first-rule.ensures)
+    let behind-first-rule2 = c in
+    let behind-first-rule = behind-first-rule2 in
+    rw (c.first_rule-2.ensures, behind-first-rule2.first_rule.ensures, behind-first-rule.first_rule-third.ensures)
 
-pub forbidden-in-spec : {M : Type 1} → statement M
-forbidden-in-spec =
+pub forbidden_in_spec : {M : Type 1} → statement M
+forbidden_in_spec =
     tie.close
     (tie.spec (search rules) (search rules) (search rules) (search rules) (search rules) (search rules)
     (search rules) (search rules) (search rules) returns)

@@ -6,17 +6,17 @@ use Rattle.source.specs.Delivery.{missing_in}
 use Rattle.source_keys.proofs.missing_in.Statement.{statement}
 use Rattle.source_keys.proofs.missing_in.Tie as tie
 
-returns : tie.Need-returns
+returns : tie.Need-returns-then-keys-eq0
 unfolding missing_in
-returns c = simp (eq-eqb _ 0 c.if1.true)
+returns c = simp (eq-eqb _ 0 c.if-keys-eq0.true)
 
-returns-2 : tie.Need-returns-2
+returns-2 : tie.Need-returns
 unfolding missing_in
 returns-2 c =
-    let behind-first-rule = c.before in
-    let behind-first-lacking = behind-first-rule.before in
-    rw (c.first-rule2.ensures, behind-first-rule.first-rule.ensures, behind-first-lacking.first-lacking.ensures)
-    (simp (ne_eqb _ 0 behind-first-lacking.before.if1.false))
+    let behind-first-rule = c in
+    let behind-first-lacking = behind-first-rule in
+    rw (c.first_rule-2.ensures, behind-first-rule.first_rule.ensures, behind-first-lacking.first_lacking-field.ensures)
+    (simp (ne_eqb _ 0 behind-first-lacking.if-keys-eq0.false))
 
-pub missing-in-spec : {M : Type 1} → statement M
-missing-in-spec = tie.close (tie.spec (search rules) returns (search rules) (search rules) (search rules) returns-2)
+pub missing_in_spec : {M : Type 1} → statement M
+missing_in_spec = tie.close (tie.spec (search rules) returns (search rules) (search rules) (search rules) returns-2)

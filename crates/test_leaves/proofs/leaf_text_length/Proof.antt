@@ -6,7 +6,7 @@ use Rattle.test_leaves.proofs.leaf_text_length.Statement.{statement}
 use Rattle.test_leaves.proofs.leaf_text_length.Tie as tie
 
 returns : tie.Need-returns
-returns c = ap length c.read-text.ensures
+returns c = ap length c.read_text.ensures
 
-pub leaf-text-length-spec : {M : Type 1} → statement M
-leaf-text-length-spec = tie.close (tie.spec (λ c κs. search rules) returns)
+pub leaf_text_length_spec : {M : Type 1} → statement M
+leaf_text_length_spec = tie.close (tie.spec (λ c κs. search rules) returns)

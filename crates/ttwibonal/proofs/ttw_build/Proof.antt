@@ -5,7 +5,7 @@ use Rattle.ttwibonal.proofs.ttw_build.Statement.{statement}
 use Rattle.ttwibonal.proofs.ttw_build.Tie as tie
 
 returns : tie.Need-returns
-returns c = told-writing c.packed-answer.ensures c.before.before.before.build-pack.ensures
+returns c = told-writing c.packed_answer.ensures c.build_pack.ensures
 
-pub ttw-build-spec : {M : Type 1} → statement M
-ttw-build-spec = tie.close (tie.spec (search rules) (search rules) (search rules) returns)
+pub ttw_build_spec : {M : Type 1} → statement M
+ttw_build_spec = tie.close (tie.spec (search rules) (search rules) (search rules) returns)

@@ -5,7 +5,7 @@ use Rattle.ttwibonal.proofs.ttw_code_label.Statement.{statement}
 use Rattle.ttwibonal.proofs.ttw_code_label.Tie as tie
 
 returns : tie.Need-returns
-returns c = told-writing c.packed-answer.ensures c.before.before.before.label-in-code.ensures
+returns c = told-writing c.packed_answer.ensures c.label_in_code.ensures
 
-pub ttw-code-label-spec : {M : Type 1} → statement M
-ttw-code-label-spec = tie.close (tie.spec (search rules) (search rules) (search rules) returns)
+pub ttw_code_label_spec : {M : Type 1} → statement M
+ttw_code_label_spec = tie.close (tie.spec (search rules) (search rules) (search rules) returns)

@@ -6,10 +6,10 @@ use Rattle.ttwibonal.proofs.ttw_code_list.Tie as tie
 
 returns : tie.Need-returns
 returns c =
-    let b = c.before in
-    let l = b.before.before.before.before in
-    let a = l.before.before.before.before.before.before.args in
-    told-running a.bytes.now c.packed-series.ensures b.bytes_of.ensures l.list-in-code.ensures
+    let b = c in
+    let l = b in
+    let a = l.args in
+    told-running a.bytes.now c.packed_series.ensures b.bytes_of.ensures l.list_in_code-list.ensures
 
-pub ttw-code-list-spec : {M : Type 1} → statement M
-ttw-code-list-spec = tie.close (tie.spec (search rules) (search rules) (search rules) (search rules) returns)
+pub ttw_code_list_spec : {M : Type 1} → statement M
+ttw_code_list_spec = tie.close (tie.spec (search rules) (search rules) (search rules) (search rules) returns)

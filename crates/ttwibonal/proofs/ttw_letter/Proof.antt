@@ -5,7 +5,7 @@ use Rattle.ttwibonal.proofs.ttw_letter.Statement.{statement}
 use Rattle.ttwibonal.proofs.ttw_letter.Tie as tie
 
 returns : tie.Need-returns
-returns c = told-reading c.packed-answer.ensures c.before.letter-of.ensures
+returns c = told-reading c.packed_answer.ensures c.letter_of.ensures
 
-pub ttw-letter-spec : {M : Type 1} → statement M
-ttw-letter-spec = tie.close (tie.spec (search rules) (search rules) returns)
+pub ttw_letter_spec : {M : Type 1} → statement M
+ttw_letter_spec = tie.close (tie.spec (search rules) (search rules) returns)

@@ -5,7 +5,7 @@ use Rattle.ttwibonal.proofs.ttw_live.Statement.{statement}
 use Rattle.ttwibonal.proofs.ttw_live.Tie as tie
 
 returns : tie.Need-returns
-returns c = told-reading c.packed-answer.ensures c.before.live_in.ensures
+returns c = told-reading c.packed_answer.ensures c.live_in.ensures
 
-pub ttw-live-spec : {M : Type 1} → statement M
-ttw-live-spec = tie.close (tie.spec (search rules) (search rules) returns)
+pub ttw_live_spec : {M : Type 1} → statement M
+ttw_live_spec = tie.close (tie.spec (search rules) (search rules) returns)

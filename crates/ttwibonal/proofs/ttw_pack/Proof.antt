@@ -5,7 +5,7 @@ use Rattle.ttwibonal.proofs.ttw_pack.Statement.{statement}
 use Rattle.ttwibonal.proofs.ttw_pack.Tie as tie
 
 returns : tie.Need-returns
-returns c = told-reading c.packed-answer.ensures c.before.open-pack.ensures
+returns c = told-reading c.packed_answer.ensures c.open_pack.ensures
 
-pub ttw-pack-spec : {M : Type 1} → statement M
-ttw-pack-spec = tie.close (tie.spec (search rules) (search rules) returns)
+pub ttw_pack_spec : {M : Type 1} → statement M
+ttw_pack_spec = tie.close (tie.spec (search rules) (search rules) returns)

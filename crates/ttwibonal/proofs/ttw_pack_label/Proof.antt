@@ -5,7 +5,7 @@ use Rattle.ttwibonal.proofs.ttw_pack_label.Statement.{statement}
 use Rattle.ttwibonal.proofs.ttw_pack_label.Tie as tie
 
 returns : tie.Need-returns
-returns c = told-writing c.packed-answer.ensures c.before.before.before.label-of-point.ensures
+returns c = told-writing c.packed_answer.ensures c.label_of_point.ensures
 
-pub ttw-pack-label-spec : {M : Type 1} → statement M
-ttw-pack-label-spec = tie.close (tie.spec (search rules) (search rules) (search rules) returns)
+pub ttw_pack_label_spec : {M : Type 1} → statement M
+ttw_pack_label_spec = tie.close (tie.spec (search rules) (search rules) (search rules) returns)

@@ -5,7 +5,7 @@ use Rattle.ttwibonal.proofs.ttw_pack_suffix.Statement.{statement}
 use Rattle.ttwibonal.proofs.ttw_pack_suffix.Tie as tie
 
 returns : tie.Need-returns
-returns c = told-reading c.packed-answer.ensures c.before.suffix-of-point.ensures
+returns c = told-reading c.packed_answer.ensures c.suffix_of_point.ensures
 
-pub ttw-pack-suffix-spec : {M : Type 1} → statement M
-ttw-pack-suffix-spec = tie.close (tie.spec (search rules) (search rules) returns)
+pub ttw_pack_suffix_spec : {M : Type 1} → statement M
+ttw_pack_suffix_spec = tie.close (tie.spec (search rules) (search rules) returns)

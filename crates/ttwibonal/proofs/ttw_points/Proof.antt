@@ -5,7 +5,7 @@ use Rattle.ttwibonal.proofs.ttw_points.Statement.{statement}
 use Rattle.ttwibonal.proofs.ttw_points.Tie as tie
 
 returns : tie.Need-returns
-returns c = told-reading c.packed-answer.ensures c.before.check-points.ensures
+returns c = told-reading c.packed_answer.ensures c.check_points.ensures
 
-pub ttw-points-spec : {M : Type 1} → statement M
-ttw-points-spec = tie.close (tie.spec (search rules) (search rules) returns)
+pub ttw_points_spec : {M : Type 1} → statement M
+ttw_points_spec = tie.close (tie.spec (search rules) (search rules) returns)

@@ -5,7 +5,7 @@ use Rattle.ttwibonal.proofs.ttw_sector.Statement.{statement}
 use Rattle.ttwibonal.proofs.ttw_sector.Tie as tie
 
 returns : tie.Need-returns
-returns c = told-reading c.packed-answer.ensures c.before.points-in-sector.ensures
+returns c = told-reading c.packed_answer.ensures c.points_in_sector.ensures
 
-pub ttw-sector-spec : {M : Type 1} → statement M
-ttw-sector-spec = tie.close (tie.spec (search rules) (search rules) returns)
+pub ttw_sector_spec : {M : Type 1} → statement M
+ttw_sector_spec = tie.close (tie.spec (search rules) (search rules) returns)

@@ -5,7 +5,7 @@ use Rattle.ttwibonal.proofs.ttw_table.Statement.{statement}
 use Rattle.ttwibonal.proofs.ttw_table.Tie as tie
 
 returns : tie.Need-returns
-returns c = told-reading c.packed-answer.ensures c.before.check-table.ensures
+returns c = told-reading c.packed_answer.ensures c.check_table.ensures
 
-pub ttw-table-spec : {M : Type 1} → statement M
-ttw-table-spec = tie.close (tie.spec (search rules) (search rules) returns)
+pub ttw_table_spec : {M : Type 1} → statement M
+ttw_table_spec = tie.close (tie.spec (search rules) (search rules) returns)

@@ -9,8 +9,8 @@ use Rattle.ttwibonal.proofs.ttw_unspace_points.Tie as tie
 
 returns : tie.Need-returns
 returns c =
-    let u = c.before.before.before in
-    told-writing c.packed-answer.ensures (said-as (ap Value u.unspace-points.ensures.0) u.unspace-points.ensures.1)
+    let u = c in
+    told-writing c.packed_answer.ensures (said-as (ap Value u.unspace_points.ensures.0) u.unspace_points.ensures.1)
 
-pub ttw-unspace-points-spec : {M : Type 1} → statement M
-ttw-unspace-points-spec = tie.close (tie.spec (search rules) (search rules) (search rules) returns)
+pub ttw_unspace_points_spec : {M : Type 1} → statement M
+ttw_unspace_points_spec = tie.close (tie.spec (search rules) (search rules) (search rules) returns)

@@ -9,8 +9,8 @@ use Rattle.ttwibonal.proofs.ttw_unspace_table.Tie as tie
 
 returns : tie.Need-returns
 returns c =
-    let u = c.before.before.before in
-    told-writing c.packed-answer.ensures (said-as (ap Value u.unspace-table.ensures.0) u.unspace-table.ensures.1)
+    let u = c in
+    told-writing c.packed_answer.ensures (said-as (ap Value u.unspace_table.ensures.0) u.unspace_table.ensures.1)
 
-pub ttw-unspace-table-spec : {M : Type 1} → statement M
-ttw-unspace-table-spec = tie.close (tie.spec (search rules) (search rules) (search rules) returns)
+pub ttw_unspace_table_spec : {M : Type 1} → statement M
+ttw_unspace_table_spec = tie.close (tie.spec (search rules) (search rules) (search rules) returns)

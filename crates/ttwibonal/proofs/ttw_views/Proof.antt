@@ -5,7 +5,7 @@ use Rattle.ttwibonal.proofs.ttw_views.Statement.{statement}
 use Rattle.ttwibonal.proofs.ttw_views.Tie as tie
 
 returns : tie.Need-returns
-returns c = told-reading c.packed-answer.ensures c.before.views-in.ensures
+returns c = told-reading c.packed_answer.ensures c.views_in.ensures
 
-pub ttw-views-spec : {M : Type 1} → statement M
-ttw-views-spec = tie.close (tie.spec (search rules) (search rules) returns)
+pub ttw_views_spec : {M : Type 1} → statement M
+ttw_views_spec = tie.close (tie.spec (search rules) (search rules) returns)

@@ -5,7 +5,7 @@ use Rattle.ttwvan.proofs.ttwvan_code_label.Statement.{statement}
 use Rattle.ttwvan.proofs.ttwvan_code_label.Tie as tie
 
 returns : tie.Need-returns
-returns c = told-as c.packed-answer.ensures c.before.before.before.label-in-code.ensures
+returns c = told-as c.packed_answer.ensures c.label_in_code.ensures
 
-pub ttwvan-code-label-spec : {M : Type 1} → statement M
-ttwvan-code-label-spec = tie.close (tie.spec (search rules) (search rules) (search rules) returns)
+pub ttwvan_code_label_spec : {M : Type 1} → statement M
+ttwvan_code_label_spec = tie.close (tie.spec (search rules) (search rules) (search rules) returns)

@@ -5,7 +5,7 @@ use Rattle.ttwvan.proofs.ttwvan_fold.Statement.{statement}
 use Rattle.ttwvan.proofs.ttwvan_fold.Tie as tie
 
 returns : tie.Need-returns
-returns c = told-as c.packed-answer.ensures c.before.before.before.fold.ensures
+returns c = told-as c.packed_answer.ensures c.fold.ensures
 
-pub ttwvan-fold-spec : {M : Type 1} → statement M
-ttwvan-fold-spec = tie.close (tie.spec (search rules) (search rules) (search rules) returns)
+pub ttwvan_fold_spec : {M : Type 1} → statement M
+ttwvan_fold_spec = tie.close (tie.spec (search rules) (search rules) (search rules) returns)

@@ -5,7 +5,7 @@ use Rattle.ttwvan.proofs.ttwvan_label.Statement.{statement}
 use Rattle.ttwvan.proofs.ttwvan_label.Tie as tie
 
 returns : tie.Need-returns
-returns c = told-as c.packed-answer.ensures c.before.before.before.label-view.ensures
+returns c = told-as c.packed_answer.ensures c.label_view.ensures
 
-pub ttwvan-label-spec : {M : Type 1} → statement M
-ttwvan-label-spec = tie.close (tie.spec (search rules) (search rules) (search rules) returns)
+pub ttwvan_label_spec : {M : Type 1} → statement M
+ttwvan_label_spec = tie.close (tie.spec (search rules) (search rules) (search rules) returns)

@@ -5,7 +5,7 @@ use Rattle.ttwvan.proofs.ttwvan_pack_label.Statement.{statement}
 use Rattle.ttwvan.proofs.ttwvan_pack_label.Tie as tie
 
 returns : tie.Need-returns
-returns c = told-as c.packed-answer.ensures c.before.before.before.label-of-point.ensures
+returns c = told-as c.packed_answer.ensures c.label_of_point.ensures
 
-pub ttwvan-pack-label-spec : {M : Type 1} → statement M
-ttwvan-pack-label-spec = tie.close (tie.spec (search rules) (search rules) (search rules) returns)
+pub ttwvan_pack_label_spec : {M : Type 1} → statement M
+ttwvan_pack_label_spec = tie.close (tie.spec (search rules) (search rules) (search rules) returns)

@@ -5,9 +5,9 @@ use Rattle.van.specs.Said.{packed}
 use Rattle.van.proofs.packed_answer.Statement.{statement}
 use Rattle.van.proofs.packed_answer.Tie as tie
 
-returns-2 : tie.Need-returns-2
-returns-2 c = c.word_of.ensures ∙ ap packed (sym c.before.enum_told.given.1)
+returns-2 : tie.Need-returns-in-TooManyLines
+returns-2 c = c.word_of.ensures ∙ ap packed (sym c.in-TooManyLines.is)
 
-pub packed-answer-spec : {M : Type 1} → statement M
-packed-answer-spec =
+pub packed_answer_spec : {M : Type 1} → statement M
+packed_answer_spec =
     tie.close (tie.spec (search rules) (search rules) (search rules) (search rules) (λ c. search rules) returns-2)

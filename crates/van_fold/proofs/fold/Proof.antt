@@ -13,7 +13,7 @@ use Rattle.van_fold.proofs.fold.Statement.{statement}
 use Rattle.van_fold.proofs.fold.Tie as tie
 
 -- the rows are counted
-module _ (c : tie.After-text-size) where
+module _ (c : tie.After-text_size-size) where
   abbrev start : tie.Start
   start = c.before.before.before
 
@@ -23,34 +23,34 @@ module _ (c : tie.After-text-size) where
   abbrev out : List ℕ
   out = start.args.out.now
 
-  rows_are : c.text-size.result.rows ≡ length (text_rows text)
-  rows_are = ap (λ (s : Size). s.rows) c.text-size.ensures
+  rows_are : c.text_size-size.result.rows ≡ length (text_rows text)
+  rows_are = ap (λ (s : Size). s.rows) c.text_size-size.ensures
 
-  bytes-are : c.text-size.result.bytes ≡ length (ended (text_rows text))
-  bytes-are = ap (λ (s : Size). s.bytes) c.text-size.ensures
+  bytes-are : c.text_size-size.result.bytes ≡ length (ended (text_rows text))
+  bytes-are = ap (λ (s : Size). s.bytes) c.text_size-size.ensures
 
-returns : tie.Need-returns
+returns : tie.Need-returns-then-size-gt-ROWS
 returns c =
     let n = c.before.before in
-    counted-many (text n) (out n) (rows_are n) c.if1.true
+    counted-many (text n) (out n) (rows_are n) c.if-size-gt-ROWS.true
 
-returns-2 : tie.Need-returns-2
+returns-2 : tie.Need-returns-then-out-needed
 returns-2 c =
     let n = c.before.before.before in
-    counted-room (text n) (out n) (rows_are n) c.before.if1.false (bytes-are n) c.if2.true
+    counted-room (text n) (out n) (rows_are n) c.if-size-gt-ROWS.false (bytes-are n) c.if-out-needed.true
 
-fits : (c : tie.Else2) → let n = c.before.before.before in length (ended (text_rows (text n))) ≤ length (out n)
+fits : (c : tie.Else-out-needed) → let n = c.before.before.before in length (ended (text_rows (text n))) ≤ length (out n)
 fits c =
     let n = c.before.before.before in
-    omega (arith, bytes-are n, c.if2.false)
+    omega (arith, bytes-are n, c.if-out-needed.false)
 
-returns-3 : tie.Need-returns-3
+returns-3 : tie.Need-returns
 returns-3 c =
-    let w = c.before.before in
+    let w = c in
     let e = w.before.before in
     let n = e.before.before.before in
-    counted-folded (text n) (out n) (rows_are n) e.before.if1.false (fits e) w.write-text.ensures
+    counted-folded (text n) (out n) (rows_are n) e.if-size-gt-ROWS.false (fits e) w.write_text.ensures
 
-pub fold-spec : {M : Type 1} → statement M
-fold-spec =
+pub fold_spec : {M : Type 1} → statement M
+fold_spec =
     tie.close (tie.spec (search rules) returns returns-2 (λ c κs. fits c.before) (search rules) returns-3)

@@ -22,21 +22,21 @@ front-folded {n = n} label out is front folded =
     ∙ (ap (λ (t : List ℕ). fold_outcome t out) (front ∙ ap (λ (m : ℕ). take m label) (sub-zero n))
     ∙ ap (λ (a : Lower.Answer). label_folded a label out) (sym is))
 
-returns : tie.Need-returns
+returns : tie.Need-returns-in-Value
 returns c =
-    let f = c.before.before in
-    let p = f.before.before in
-    let a = p.before.before in
-    let g = a.before.before.before.before.args in
-    front-folded g.label.now g.out.now a.answer.given.1 p.part_of.ensures f.fold.ensures
+    let f = c in
+    let p = f in
+    let a = p in
+    let g = a.args in
+    front-folded g.label.now g.out.now a.in-Value.is p.part_of.ensures f.fold.ensures
 
-returns-2 : tie.Need-returns-2
+returns-2 : tie.Need-returns-in-Refused
 returns-2 c =
-    let a = c.before in
-    let g = a.before.before.before.before.args in
-    ap (λ (x : Lower.Answer). label_folded x g.label.now g.out.now) (sym a.answer2.given.1)
+    let a = c in
+    let g = a.args in
+    ap (λ (x : Lower.Answer). label_folded x g.label.now g.out.now) (sym a.in-Refused.is)
 
-pub fold-label-spec : {M : Type 1} → statement M
-fold-label-spec =
+pub fold_label_spec : {M : Type 1} → statement M
+fold_label_spec =
     tie.close
     (tie.spec (search rules) (search rules) (search rules) (search rules) (search rules) returns returns-2)

@@ -7,10 +7,10 @@ use Rattle.van_label.proofs.label_of_point.Tie as tie
 
 returns : tie.Need-returns
 returns c =
-    let folded = c.before.before in
-    let printed = folded.before.before.before.before in
-    let g = printed.before.before.before.before.args in
-    folding-as (pack_label g.pack.now g.k) g.out.now printed.label-of-point.ensures folded.fold-label.ensures
+    let folded = c in
+    let printed = folded in
+    let g = printed.args in
+    folding-as (pack_label g.pack.now g.k) g.out.now printed.label_of_point-answer.ensures folded.fold_label.ensures
 
-pub label-of-point-spec : {M : Type 1} → statement M
-label-of-point-spec = tie.close (tie.spec (search rules) (search rules) (search rules) (search rules) (search rules) returns)
+pub label_of_point_spec : {M : Type 1} → statement M
+label_of_point_spec = tie.close (tie.spec (search rules) (search rules) (search rules) (search rules) (search rules) returns)

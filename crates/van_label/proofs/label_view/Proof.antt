@@ -8,10 +8,10 @@ use Rattle.van_label.proofs.label_view.Tie as tie
 
 returns : tie.Need-returns
 returns c =
-    let folded = c.before.before in
-    let printed = folded.before.before.before.before in
-    let g = printed.before.before.before.before.before.args in
-    folding-as (view_label (pair_of g.table.now g.points.now) g.view) g.out.now printed.label-view.ensures folded.fold-label.ensures
+    let folded = c in
+    let printed = folded in
+    let g = printed.args in
+    folding-as (view_label (pair_of g.table.now g.points.now) g.view) g.out.now printed.label_view-answer.ensures folded.fold_label.ensures
 
-pub label-view-spec : {M : Type 1} → statement M
-label-view-spec = tie.close (tie.spec (search rules) (search rules) (search rules) (search rules) (search rules) returns)
+pub label_view_spec : {M : Type 1} → statement M
+label_view_spec = tie.close (tie.spec (search rules) (search rules) (search rules) (search rules) (search rules) returns)

@@ -9,6 +9,6 @@ returns : tie.Need-returns
 unfolding marked
 returns c = refl
 
-pub is-marked-spec : {M : Type 1} → statement M
-is-marked-spec =
+pub is_marked_spec : {M : Type 1} → statement M
+is_marked_spec =
     tie.close (tie.spec (search rules) (search rules) (search rules) (search rules) returns)

@@ -4,13 +4,13 @@ use Rattle.bits.proofs.Laws.{mark_set, mark-none}
 use Rattle.bits.proofs.inner.mark.Statement.{statement}
 use Rattle.bits.proofs.inner.mark.Tie as tie
 
-returns : tie.Need-returns
+returns : tie.Need-returns-then-j-bits
 returns c =
-    let a = c.before.before.args in
-    λ o l. mark_set a.bits.now a.at c.before.if1.true o
+    let a = c.args in
+    λ o l. mark_set a.bits.now a.at c.if-j-bits.true o
 
-returns-2 : tie.Need-returns-2
-returns-2 c = mark-none c.before.args.bits.now c.before.args.at c.if1.false
+returns-2 : tie.Need-returns-else-j-bits
+returns-2 c = mark-none c.args.bits.now c.args.at c.if-j-bits.false
 
 pub mark_spec : {M : Type 1} → statement M
 mark_spec =

@@ -18,43 +18,43 @@ use Rattle.book_build.proofs.Packed.{packed_rest, packed_step, packed-end}
 use Rattle.book_build.proofs.walks.mark_chosen.Statement.{statement}
 use Rattle.book_build.proofs.walks.mark_chosen.Tie as tie
 
-abbrev invariant-loop : tie.invariant-loop
+abbrev invariant-loop : tie.invariant-loop-i
 invariant-loop table refs book chosen marks₀ s i₀ marks i =
     (length marks ≡ length marks₀)
     × (i ≤ length chosen)
     × Marking (table_stock table) (packed_all book chosen) marks₀ (packed_rest book chosen i) marks
 
-abbrev decreases-loop : tie.decreases-loop
+abbrev decreases-loop : tie.decreases-loop-i
 decreases-loop table refs book chosen marks₀ s i₀ marks i = length chosen - i
 
-loop-holds : tie.Need-loop-init invariant-loop decreases-loop
+loop-holds : tie.Need-loop-i-init invariant-loop decreases-loop
 loop-holds c =
-    let a = c.before.before.before.before.before.before.args in (
+    let a = c.args in (
       refl,
       omega arith,
       marking-start (table_stock a.table.now) (packed_all a.book.now a.chosen.now) a.marks.now,
     )
 
-delivery-of-requires : tie.Need-delivery-of-requires invariant-loop decreases-loop
+delivery-of-requires : tie.Need-delivery_of-p-requires invariant-loop decreases-loop
 delivery-of-requires c κs =
-    let s = c.before.before.before.before.before.before.before.before in
+    let s = c in
     (s.requires.0.of_chosen, omega arith)
 
-rows-by-requires : tie.Need-rows-by-requires invariant-loop decreases-loop
+rows-by-requires : tie.Need-rows_by-found-requires invariant-loop decreases-loop
 rows-by-requires c κs =
-    let t = c.before.before.before.before in
-    let s = t.before.before.before.before.before.before in
-    rw t.table-shelf.ensures (table_fits, s.requires.0.filled)
+    let t = c in
+    let s = t in
+    rw t.table_shelf-s.ensures (table_fits, s.requires.0.filled)
 
 -- once the rows of the i-th are found
-module _ (r : tie.After-rows-by invariant-loop decreases-loop) where
-  abbrev d : tie.After-delivery-of invariant-loop decreases-loop
+module _ (r : tie.After-rows_by-found invariant-loop decreases-loop) where
+  abbrev d : tie.After-delivery_of-p invariant-loop decreases-loop
   d = r.before.before
 
-  abbrev l : tie.At-loop invariant-loop decreases-loop
+  abbrev l : tie.At-loop-i invariant-loop decreases-loop
   l = d.before.before
 
-  abbrev t : tie.After-table-shelf invariant-loop decreases-loop
+  abbrev t : tie.After-table_shelf-s invariant-loop decreases-loop
   t = l.before
 
   abbrev s : tie.Start invariant-loop decreases-loop
@@ -70,75 +70,75 @@ module _ (r : tie.After-rows-by invariant-loop decreases-loop) where
   chosen = s.args.chosen.now
 
   abbrev next : Packed
-  next = packed_from book (get_or chosen l.loop.i 0)
+  next = packed_from book (get_or chosen l.loop-i.i 0)
 
-  high : l.loop.i < length chosen
+  high : l.loop-i.i < length chosen
   high = omega arith
 
   left : Marking (table_stock table) (packed_all book chosen) s.args.marks.now
-      (next ∷ packed_rest book chosen (l.loop.i + 1)) l.loop.marks
-  left = marking-as (packed_step book chosen l.loop.i high) l.loop.inv.2
+      (next ∷ packed_rest book chosen (l.loop-i.i + 1)) l.loop-i.marks
+  left = marking-as (packed_step book chosen l.loop-i.i high) l.loop-i.invariant.2
 
-  rows_are : r.rows-by.result.rows ≡ rows_of (table_stock table) next.point
+  rows_are : r.rows_by-found.result.rows ≡ rows_of (table_stock table) next.point
   rows_are =
-      rows-found table s.pre.0.of_table next.point t.table-shelf.ensures d.delivery-of.ensures
-      r.rows-by.ensures
+      rows-found table s.requires.known.of_table next.point t.table_shelf-s.ensures d.delivery_of-p.ensures
+      r.rows_by-found.ensures
 
-  refusal_is : refusal_in d.delivery-of.result r.rows-by.result.rows
+  refusal_is : refusal_in d.delivery_of-p.result r.rows_by-found.result.rows
       ≡ refusal_in next.point (rows_of (table_stock table) next.point)
-  refusal_is = ap₂ refusal_in d.delivery-of.ensures rows_are
+  refusal_is = ap₂ refusal_in d.delivery_of-p.ensures rows_are
 
-mark-point-requires : tie.Need-mark-point-requires invariant-loop decreases-loop
+mark-point-requires : tie.Need-mark_point-requires invariant-loop decreases-loop
 mark-point-requires c κs =
     let r = c.before in
-    found_below (table r) (s r).requires.0.of_table (length (l r).loop.marks) (asked_of (d r).delivery-of.result)
-    (omega (arith, (s r).requires.1, (l r).loop.invariant.0)) (t r).table-shelf.ensures r.rows-by.ensures
+    found_below (table r) (s r).requires.0.of_table (length (l r).loop-i.marks) (asked_of (d r).delivery_of-p.result)
+    (omega (arith, (s r).requires.1, (l r).loop-i.invariant.0)) (t r).table_shelf-s.ensures r.rows_by-found.ensures
 
-place-of-requires : tie.Need-place-of-requires invariant-loop decreases-loop
+place-of-requires : tie.Need-place_of-place-requires invariant-loop decreases-loop
 place-of-requires c κs =
-    let r = c.before.before.before.before.before.before.before in
+    let r = c in
     ((s r).requires.0.of_chosen, high r)
 
-returns : tie.Need-returns invariant-loop decreases-loop
+returns : tie.Need-returns-in-Bad invariant-loop decreases-loop
 returns c =
-    let w = c.before.before.before in
-    let m = w.before.before.before.before in
+    let w = c in
+    let m = w in
     let r = m.before.before in
-    let bad = sym (m.mark-point.ensures.0 ∙ refusal_is r) ∙ w.why.given.1 in
+    let bad = sym (m.mark_point.ensures.0 ∙ refusal_is r) ∙ w.in-Bad.is in
     record {
       said =
-          rw (c.with-view.ensures, c.before.place_of.ensures)
-          (sym (marking-stop (left r) w.why.given.0.0 bad));
+          rw (c.with_view.ensures, c.place_of-place.ensures)
+          (sym (marking-stop (left r) w.in-Bad.why bad));
       marks_all = λ e. absurd (bad-fine _ e);
     }
 
 -- there are few
-add-i : tie.Need-overflow-add-i invariant-loop decreases-loop
+add-i : tie.Need-overflow_add-i invariant-loop decreases-loop
 add-i c =
-    let r = c.before.before.before.before.before.before in
+    let r = c.before.before.before.before.before in
     omega (arith, high r, (s r).requires.0.of_chosen.few)
 
-loop-again : tie.Need-loop-preserved invariant-loop decreases-loop
+loop-again : tie.Need-loop-i-preserved invariant-loop decreases-loop
 loop-again c =
-    let m = c.before.before.before.before in
+    let m = c in
     let r = m.before.before in
-    let told = c.enum_told.given.1 in (
-      m.mark-point.auto.1.1.0 ∙ (l r).loop.invariant.0,
+    let told = c.in-Fine.is in (
+      m.mark_point.auto.1.1.0 ∙ (l r).loop-i.invariant.0,
       omega (arith, high r),
-      marking-on (left r) (sym (m.mark-point.ensures.0 ∙ refusal_is r) ∙ told)
-          (m.mark-point.ensures.1 told ∙ ap (λ (rows : List ℕ). mark_rows rows (l r).loop.marks) (rows_are r)),
+      marking-on (left r) (sym (m.mark_point.ensures.0 ∙ refusal_is r) ∙ told)
+          (m.mark_point.ensures.1 told ∙ ap (λ (rows : List ℕ). mark_rows rows (l r).loop-i.marks) (rows_are r)),
     )
 
-returns-2 : tie.Need-returns-2 invariant-loop decreases-loop
+returns-2 : tie.Need-returns invariant-loop decreases-loop
 returns-2 c =
-    let l = c.before in
-    let a = l.before.before.before.before.before.before.before.args in
-    let end = packed-end a.book.now a.chosen.now l.loop.i (omega arith) in
-    let done = marking-end (marking-as end l.loop.invariant.2) in
+    let l = c in
+    let a = l.args in
+    let end = packed-end a.book.now a.chosen.now l.loop-i.i (omega arith) in
+    let done = marking-end (marking-as end l.loop-i.invariant.2) in
     record { said = done.0; marks_all = λ e. done.1 }
 
-pub mark-chosen-spec : {M : Type 1} → statement M
-mark-chosen-spec =
+pub mark_chosen_spec : {M : Type 1} → statement M
+mark_chosen_spec =
     tie.close
     (tie.spec invariant-loop decreases-loop (search rules) loop-holds delivery-of-requires rows-by-requires mark-point-requires
     (search rules) (search rules) place-of-requires (search rules) (search rules) returns add-i (search rules) loop-again

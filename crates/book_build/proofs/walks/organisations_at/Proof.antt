@@ -16,27 +16,27 @@ use Rattle.book_build.proofs.Packed.{packed_rest, packed_step, packed-end, withi
 use Rattle.book_build.proofs.walks.organisations_at.Statement.{statement}
 use Rattle.book_build.proofs.walks.organisations_at.Tie as tie
 
-abbrev invariant-loop : tie.invariant-loop
+abbrev invariant-loop : tie.invariant-loop-i
 invariant-loop book chosen at out₀ end₀ i₀ out end i =
     (length out ≡ length out₀)
     × (i ≤ length chosen)
     × Going (organisation_rows book (packed_all book chosen)) (organisation_rows book (packed_rest book chosen i)) out₀ at end
     out
 
-abbrev decreases-loop : tie.decreases-loop
+abbrev decreases-loop : tie.decreases-loop-i
 decreases-loop book chosen at out₀ end₀ i₀ out end i = length chosen - i
 
-loop-holds : tie.Need-loop-init invariant-loop decreases-loop
+loop-holds : tie.Need-loop-i-init invariant-loop decreases-loop
 loop-holds c =
-    let a = c.before.before.before.args in
+    let a = c.args in
     (refl, omega arith, going_start (organisation_rows a.book.now (packed_all a.book.now a.chosen.now)) a.out.now a.at)
 
-delivery-of-requires : tie.Need-delivery-of-requires invariant-loop decreases-loop
-delivery-of-requires c κs = (c.before.before.before.before.before.requires.0, omega arith)
+delivery-of-requires : tie.Need-delivery_of-p-requires invariant-loop decreases-loop
+delivery-of-requires c κs = (c.requires.0, omega arith)
 
 -- once the i-th is read
-module _ (d : tie.After-delivery-of invariant-loop decreases-loop) where
-  abbrev l : tie.At-loop invariant-loop decreases-loop
+module _ (d : tie.After-delivery_of-p invariant-loop decreases-loop) where
+  abbrev l : tie.At-loop-i invariant-loop decreases-loop
   l = d.before.before
 
   abbrev s : tie.Start invariant-loop decreases-loop
@@ -49,51 +49,51 @@ module _ (d : tie.After-delivery-of invariant-loop decreases-loop) where
   chosen = s.args.chosen.now
 
   abbrev next : Packed
-  next = packed_from book (get_or chosen l.loop.i 0)
+  next = packed_from book (get_or chosen l.loop-i.i 0)
 
   abbrev rest : List Packed
-  rest = packed_rest book chosen (l.loop.i + 1)
+  rest = packed_rest book chosen (l.loop-i.i + 1)
 
-  high : l.loop.i < length chosen
+  high : l.loop-i.i < length chosen
   high = omega arith
 
   left : Going (organisation_rows book (packed_all book chosen)) (organisation_rows book (next ∷ rest)) s.args.out.now
-      s.args.at l.loop.end l.loop.out
-  left = going-as (ap (organisation_rows book) (packed_step book chosen l.loop.i high)) l.loop.inv.2
+      s.args.at l.loop-i.end l.loop-i.out
+  left = going-as (ap (organisation_rows book) (packed_step book chosen l.loop-i.i high)) l.loop-i.invariant.2
 
-organisation-at-requires : tie.Need-organisation-at-requires invariant-loop decreases-loop
+organisation-at-requires : tie.Need-organisation_at-end-requires invariant-loop decreases-loop
 organisation-at-requires c κs =
     let d = c.before in
-    rw d.delivery-of.ensures (
-      (within-at (book d) (chosen d) (s d).requires.0.inside (l d).loop.i (high d)).organisation,
+    rw d.delivery_of-p.ensures (
+      (within-at (book d) (chosen d) (s d).requires.0.inside (l d).loop-i.i (high d)).organisation,
       organisation-room (next d) (rest d) (s d).requires.1 (book d) (left d),
     )
 
 -- there are few
-add-i : tie.Need-overflow-add-i invariant-loop decreases-loop
+add-i : tie.Need-overflow_add-i invariant-loop decreases-loop
 add-i c =
     let d = c.before.before.before.before in
     omega (arith, high d, (s d).requires.0.few)
 
-loop-again : tie.Need-loop-preserved invariant-loop decreases-loop
+loop-again : tie.Need-loop-i-preserved invariant-loop decreases-loop
 loop-again c =
-    let w = c.before.before in
+    let w = c in
     let d = w.before.before in (
-      w.organisation-at.auto.1.1.1.1.0 ∙ (l d).loop.invariant.0,
+      w.organisation_at-end.auto.1.1.1.1.0 ∙ (l d).loop-i.invariant.0,
       omega (arith, high d),
       organisation-on (next d) (rest d) (s d).requires.1 (book d) (left d)
-          (put_as (ap (λ (p : DeliveryPoint). organisation_row (book d) p) d.delivery-of.ensures) w.organisation-at.ensures),
+          (put_as (ap (λ (p : DeliveryPoint). organisation_row (book d) p) d.delivery_of-p.ensures) w.organisation_at-end.ensures),
     )
 
 returns : tie.Need-returns invariant-loop decreases-loop
 returns c =
-    let l = c.before in
-    let a = l.before.before.before.before.args in
-    let end = packed-end a.book.now a.chosen.now l.loop.i (omega arith) in
-    going_end (going-as (ap (organisation_rows a.book.now) end) l.loop.invariant.2)
+    let l = c in
+    let a = l.args in
+    let end = packed-end a.book.now a.chosen.now l.loop-i.i (omega arith) in
+    going_end (going-as (ap (organisation_rows a.book.now) end) l.loop-i.invariant.2)
 
-pub organisations-at-spec : {M : Type 1} → statement M
-organisations-at-spec =
+pub organisations_at_spec : {M : Type 1} → statement M
+organisations_at_spec =
     tie.close
     (tie.spec invariant-loop decreases-loop loop-holds delivery-of-requires organisation-at-requires add-i (search rules) loop-again
     (search rules) returns)

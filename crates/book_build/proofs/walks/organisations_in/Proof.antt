@@ -15,27 +15,27 @@ use Rattle.book_build.proofs.Packed.{packed_rest, packed_step, packed-end, withi
 use Rattle.book_build.proofs.walks.organisations_in.Statement.{statement}
 use Rattle.book_build.proofs.walks.organisations_in.Tie as tie
 
-abbrev invariant-loop : tie.invariant-loop
+abbrev invariant-loop : tie.invariant-loop-i
 invariant-loop book chosen rows₀ bytes₀ i₀ rows bytes i =
     (i ≤ length chosen)
     × (rows ≤ i)
     × (bytes ≤ 123 * i)
     × Summing book (packed_all book chosen) (packed_rest book chosen i) rows bytes
 
-abbrev decreases-loop : tie.decreases-loop
+abbrev decreases-loop : tie.decreases-loop-i
 decreases-loop book chosen rows₀ bytes₀ i₀ rows bytes i = length chosen - i
 
-loop-holds : tie.Need-loop-init invariant-loop decreases-loop
+loop-holds : tie.Need-loop-i-init invariant-loop decreases-loop
 loop-holds c =
-    let a = c.before.before.args in
+    let a = c.args in
     (omega arith, omega arith, omega arith, summing_start a.book.now (packed_all a.book.now a.chosen.now))
 
-delivery-of-requires : tie.Need-delivery-of-requires invariant-loop decreases-loop
-delivery-of-requires c κs = (c.before.before.before.before.requires, omega arith)
+delivery-of-requires : tie.Need-delivery_of-p-requires invariant-loop decreases-loop
+delivery-of-requires c κs = (c.requires, omega arith)
 
 -- once the i-th is read
-module _ (d : tie.After-delivery-of invariant-loop decreases-loop) where
-  abbrev l : tie.At-loop invariant-loop decreases-loop
+module _ (d : tie.After-delivery_of-p invariant-loop decreases-loop) where
+  abbrev l : tie.At-loop-i invariant-loop decreases-loop
   l = d.before.before
 
   abbrev s : tie.Start invariant-loop decreases-loop
@@ -47,53 +47,53 @@ module _ (d : tie.After-delivery-of invariant-loop decreases-loop) where
   abbrev chosen : List ℕ
   chosen = s.args.chosen.now
 
-  high : l.loop.i < length chosen
+  high : l.loop-i.i < length chosen
   high = omega arith
 
-organisation-len-requires : tie.Need-organisation-len-requires invariant-loop decreases-loop
+organisation-len-requires : tie.Need-organisation_len-bytes-requires invariant-loop decreases-loop
 organisation-len-requires c κs =
     let d = c.before in
-    rw d.delivery-of.ensures (within-at (book d) (chosen d) (s d).requires.inside (l d).loop.i (high d)).organisation
+    rw d.delivery_of-p.ensures (within-at (book d) (chosen d) (s d).requires.inside (l d).loop-i.i (high d)).organisation
 
 -- there are few
-add-rows : tie.Need-overflow-add-rows invariant-loop decreases-loop
+add-rows : tie.Need-overflow_add-rows invariant-loop decreases-loop
 add-rows c =
     let d = c.before in
-    omega (arith, high d, (s d).requires.few, (l d).loop.invariant.1, c.one-if.ensures.1)
+    omega (arith, high d, (s d).requires.few, (l d).loop-i.invariant.1, c.one_if-rows.ensures.1)
 
-add-bytes : tie.Need-overflow-add-bytes invariant-loop decreases-loop
+add-bytes : tie.Need-overflow_add-bytes invariant-loop decreases-loop
 add-bytes c =
     let d = c.before.before in
-    omega (arith, high d, (s d).requires.few, (l d).loop.invariant.2, c.organisation-len.ensures.1)
+    omega (arith, high d, (s d).requires.few, (l d).loop-i.invariant.2, c.organisation_len-bytes.ensures.1)
 
-add-i : tie.Need-overflow-add-i invariant-loop decreases-loop
+add-i : tie.Need-overflow_add-i invariant-loop decreases-loop
 add-i c =
     let d = c.before.before in
     omega (arith, high d, (s d).requires.few)
 
-loop-again : tie.Need-loop-preserved invariant-loop decreases-loop
+loop-again : tie.Need-loop-i-preserved invariant-loop decreases-loop
 loop-again c =
-    let o = c.before in
+    let o = c in
     let d = o.before in
-    let i = (l d).loop.i in
-    let same = d.delivery-of.ensures in
-    let len = c.organisation-len.ensures.0 ∙ ap (λ (p : DeliveryPoint). length (organisation_row (book d) p)) same in
-    let one = o.one-if.ensures.0 ∙ ap (λ (p : DeliveryPoint). cond p.organised 1 0) same in (
+    let i = (l d).loop-i.i in
+    let same = d.delivery_of-p.ensures in
+    let len = c.organisation_len-bytes.ensures.0 ∙ ap (λ (p : DeliveryPoint). length (organisation_row (book d) p)) same in
+    let one = o.one_if-rows.ensures.0 ∙ ap (λ (p : DeliveryPoint). cond p.organised 1 0) same in (
       omega (arith, high d),
-      omega (arith, (l d).loop.invariant.1, o.one-if.ensures.1),
-      omega (arith, (l d).loop.invariant.2, c.organisation-len.ensures.1),
-      summing_on (summing-as (packed_step (book d) (chosen d) i (high d)) (l d).loop.invariant.3) one len,
+      omega (arith, (l d).loop-i.invariant.1, o.one_if-rows.ensures.1),
+      omega (arith, (l d).loop-i.invariant.2, c.organisation_len-bytes.ensures.1),
+      summing_on (summing-as (packed_step (book d) (chosen d) i (high d)) (l d).loop-i.invariant.3) one len,
     )
 
 returns : tie.Need-returns invariant-loop decreases-loop
 returns c =
-    let l = c.before in
-    let a = l.before.before.before.args in
+    let l = c in
+    let a = l.args in
     summing-end
-    (summing-as (packed-end a.book.now a.chosen.now l.loop.i (omega arith)) l.loop.invariant.3)
+    (summing-as (packed-end a.book.now a.chosen.now l.loop-i.i (omega arith)) l.loop-i.invariant.3)
 
-pub organisations-in-spec : {M : Type 1} → statement M
-organisations-in-spec =
+pub organisations_in_spec : {M : Type 1} → statement M
+organisations_in_spec =
     tie.close
     (tie.spec invariant-loop decreases-loop loop-holds delivery-of-requires (search rules) add-rows organisation-len-requires add-bytes
     add-i (search rules) loop-again returns)

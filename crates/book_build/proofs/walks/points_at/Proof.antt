@@ -21,7 +21,7 @@ use Rattle.book_build.proofs.Packed.{packed_rest, packed_step, packed-end, withi
 use Rattle.book_build.proofs.walks.points_at.Statement.{statement}
 use Rattle.book_build.proofs.walks.points_at.Tie as tie
 
-abbrev invariant-loop : tie.invariant-loop
+abbrev invariant-loop : tie.invariant-loop-i
 invariant-loop table refs book chosen starts start at out₀ s row₀ end₀ i₀ out row end i =
     (length out ≡ length out₀)
     × (i ≤ length chosen)
@@ -29,40 +29,40 @@ invariant-loop table refs book chosen starts start at out₀ s row₀ end₀ i�
     × Going (points_in (table_stock table) book book starts start (packed_all book chosen))
     (points_in (table_stock table) book book starts row (packed_rest book chosen i)) out₀ at end out
 
-abbrev decreases-loop : tie.decreases-loop
+abbrev decreases-loop : tie.decreases-loop-i
 decreases-loop table refs book chosen starts start at out₀ s row₀ end₀ i₀ out row end i = length chosen - i
 
-loop-holds : tie.Need-loop-init invariant-loop decreases-loop
+loop-holds : tie.Need-loop-i-init invariant-loop decreases-loop
 loop-holds c =
-    let s = c.before.before.before.before.before.before.before in
+    let s = c in
     let a = s.args in
     let book = a.book.now in
     let whole = points_in (table_stock a.table.now) book book a.starts.now a.start in
     (refl, omega arith, s.requires.1.0, going_start (whole (packed_all book a.chosen.now)) a.out.now a.at)
 
-delivery-of-requires : tie.Need-delivery-of-requires invariant-loop decreases-loop
+delivery-of-requires : tie.Need-delivery_of-p-requires invariant-loop decreases-loop
 delivery-of-requires c κs =
-    let s = c.before.before.before.before.before.before.before.before.before in
+    let s = c in
     (s.requires.0.of_chosen, omega arith)
 
-rows-by-requires : tie.Need-rows-by-requires invariant-loop decreases-loop
+rows-by-requires : tie.Need-rows_by-found-requires invariant-loop decreases-loop
 rows-by-requires c κs =
-    let t = c.before.before.before.before in
-    let s = t.before.before.before.before.before.before.before in
-    rw t.table-shelf.ensures (table_fits, s.requires.0.filled)
+    let t = c in
+    let s = t in
+    rw t.table_shelf-s.ensures (table_fits, s.requires.0.filled)
 
 -- once the offsets of the i-th are found
-module _ (k : tie.After-key-offsets invariant-loop decreases-loop) where
-  abbrev r : tie.After-rows-by invariant-loop decreases-loop
+module _ (k : tie.After-key_offsets-offsets invariant-loop decreases-loop) where
+  abbrev r : tie.After-rows_by-found invariant-loop decreases-loop
   r = k.before.before
 
-  abbrev d : tie.After-delivery-of invariant-loop decreases-loop
+  abbrev d : tie.After-delivery_of-p invariant-loop decreases-loop
   d = r.before.before
 
-  abbrev l : tie.At-loop invariant-loop decreases-loop
+  abbrev l : tie.At-loop-i invariant-loop decreases-loop
   l = d.before.before
 
-  abbrev t : tie.After-table-shelf invariant-loop decreases-loop
+  abbrev t : tie.After-table_shelf-s invariant-loop decreases-loop
   t = l.before
 
   abbrev s : tie.Start invariant-loop decreases-loop
@@ -81,95 +81,95 @@ module _ (k : tie.After-key-offsets invariant-loop decreases-loop) where
   starts = s.args.starts.now
 
   abbrev next : Packed
-  next = packed_from book (get_or chosen l.loop.i 0)
+  next = packed_from book (get_or chosen l.loop-i.i 0)
 
   abbrev rest : List Packed
-  rest = packed_rest book chosen (l.loop.i + 1)
+  rest = packed_rest book chosen (l.loop-i.i + 1)
 
-  high : l.loop.i < length chosen
+  high : l.loop-i.i < length chosen
   high = omega arith
 
-  step : packed_rest book chosen l.loop.i ≡ next ∷ rest
-  step = packed_step book chosen l.loop.i high
+  step : packed_rest book chosen l.loop-i.i ≡ next ∷ rest
+  step = packed_step book chosen l.loop-i.i high
 
   within : Within book next.point
-  within = within-at book chosen s.pre.0.of_chosen.inside l.loop.i high
+  within = within-at book chosen s.requires.known.of_chosen.inside l.loop-i.i high
 
   left : Going (points_in (table_stock table) book book starts s.args.start (packed_all book chosen))
-      (points_in (table_stock table) book book starts l.loop.row (next ∷ rest)) s.args.out.now s.args.at
-      l.loop.end l.loop.out
-  left = going-as (ap (points_in (table_stock table) book book starts l.loop.row) step) l.loop.inv.3
+      (points_in (table_stock table) book book starts l.loop-i.row (next ∷ rest)) s.args.out.now s.args.at
+      l.loop-i.end l.loop-i.out
+  left = going-as (ap (points_in (table_stock table) book book starts l.loop-i.row) step) l.loop-i.invariant.3
 
-  same : point_with book d.delivery-of.result k.key-offsets.result.of_keys l.loop.row
-      ≡ point_in book starts next.point (rows_of (table_stock table) next.point) l.loop.row
+  same : point_with book d.delivery_of-p.result k.key_offsets-offsets.result.of_keys l.loop-i.row
+      ≡ point_in book starts next.point (rows_of (table_stock table) next.point) l.loop-i.row
   same =
-      ap (λ (os : List ℕ). point_with book d.delivery-of.result os l.loop.row) k.key-offsets.ensures
-      ∙ ap₂ (λ (p : DeliveryPoint) (rows : List ℕ). point_in book starts p rows l.loop.row) d.delivery-of.ensures
-      (rows-found table s.pre.0.of_table next.point t.table-shelf.ensures d.delivery-of.ensures
-      r.rows-by.ensures)
+      ap (λ (os : List ℕ). point_with book d.delivery_of-p.result os l.loop-i.row) k.key_offsets-offsets.ensures
+      ∙ ap₂ (λ (p : DeliveryPoint) (rows : List ℕ). point_in book starts p rows l.loop-i.row) d.delivery_of-p.ensures
+      (rows-found table s.requires.known.of_table next.point t.table_shelf-s.ensures d.delivery_of-p.ensures
+      r.rows_by-found.ensures)
 
-  more : length (organisation_rows book (packed_rest book chosen l.loop.i))
+  more : length (organisation_rows book (packed_rest book chosen l.loop-i.i))
       ≡ length (organisation_row book next.point) + length (organisation_rows book rest)
   more = organisations-length book next rest step
 
-point-at-requires : tie.Need-point-at-requires invariant-loop decreases-loop
+point-at-requires : tie.Need-point_at-end-requires invariant-loop decreases-loop
 point-at-requires c κs =
     let k = c.before in
     let here = within k in (
-      rw (d k).delivery-of.ensures (record { postcode = here.postcode; suffix = here.suffix; box = here.box }),
-      room_as (l k).loop.out (l k).loop.end (same k)
-          (point-room (next k) (rest k) (s k).requires.1.1 (table_stock (table k)) (book k) (book k) (starts k) (l k).loop.row
+      rw (d k).delivery_of-p.ensures (record { postcode = here.postcode; suffix = here.suffix; box = here.box }),
+      room_as (l k).loop-i.out (l k).loop-i.end (same k)
+          (point-room (next k) (rest k) (s k).requires.1.1 (table_stock (table k)) (book k) (book k) (starts k) (l k).loop-i.row
           (left k)),
     )
 
-organisation-len-requires : tie.Need-organisation-len-requires invariant-loop decreases-loop
+organisation-len-requires : tie.Need-organisation_len-row-requires invariant-loop decreases-loop
 organisation-len-requires c κs =
     let k = c.before.before.before.before in
-    rw (d k).delivery-of.ensures (within k).organisation
+    rw (d k).delivery_of-p.ensures (within k).organisation
 
 -- how long its organisation's row is
-len : (c : tie.After-organisation-len invariant-loop decreases-loop)
-    → c.organisation-len.result
+len : (c : tie.After-organisation_len-row invariant-loop decreases-loop)
+    → c.organisation_len-row.result
     ≡ length (organisation_row (book c.before.before.before.before.before)
     (next c.before.before.before.before.before).point)
 len c =
     let k = c.before.before.before.before.before in
-    c.organisation-len.ensures.0
-    ∙ ap (λ (p : DeliveryPoint). length (organisation_row (book k) p)) (d k).delivery-of.ensures
+    c.organisation_len-row.ensures.0
+    ∙ ap (λ (p : DeliveryPoint). length (organisation_row (book k) p)) (d k).delivery_of-p.ensures
 
-add_row : tie.Need-overflow-add-row invariant-loop decreases-loop
+add_row : tie.Need-overflow_add-row invariant-loop decreases-loop
 add_row c =
     let k = c.before.before.before.before.before in
-    omega (arith, more k, len c, (l k).loop.invariant.2, (s k).well_formed.1.1.1.1.1.1.0)
+    omega (arith, more k, len c, (l k).loop-i.invariant.2, (s k).well_formed.1.1.1.1.1.1.0)
 
 -- there are few
-add-i : tie.Need-overflow-add-i invariant-loop decreases-loop
+add-i : tie.Need-overflow_add-i invariant-loop decreases-loop
 add-i c =
     let k = c.before.before.before.before.before in
     omega (arith, high k, (s k).requires.0.of_chosen.few)
 
-loop-again : tie.Need-loop-preserved invariant-loop decreases-loop
+loop-again : tie.Need-loop-i-preserved invariant-loop decreases-loop
 loop-again c =
-    let w = c.before.before.before in
+    let w = c in
     let k = w.before.before in (
-      w.point_at.auto.1.1.1.1.1.0 ∙ (l k).loop.invariant.0,
+      w.point_at-end.auto.1.1.1.1.1.0 ∙ (l k).loop-i.invariant.0,
       omega (arith, high k),
-      omega (arith, more k, len c, (l k).loop.invariant.2),
-      point-on (next k) (rest k) (s k).requires.1.1 (table_stock (table k)) (book k) (book k) (starts k) (l k).loop.row
-          (left k) (len c) (put_as (same k) w.point_at.ensures),
+      omega (arith, more k, len c, (l k).loop-i.invariant.2),
+      point-on (next k) (rest k) (s k).requires.1.1 (table_stock (table k)) (book k) (book k) (starts k) (l k).loop-i.row
+          (left k) (len c) (put_as (same k) w.point_at-end.ensures),
     )
 
 returns : tie.Need-returns invariant-loop decreases-loop
 returns c =
-    let l = c.before in
-    let a = l.before.before.before.before.before.before.before.before.args in
-    let end = packed-end a.book.now a.chosen.now l.loop.i (omega arith) in
+    let l = c in
+    let a = l.args in
+    let end = packed-end a.book.now a.chosen.now l.loop-i.i (omega arith) in
     going_end
-    (going-as (ap (points_in (table_stock a.table.now) a.book.now a.book.now a.starts.now l.loop.row) end)
-    l.loop.invariant.3)
+    (going-as (ap (points_in (table_stock a.table.now) a.book.now a.book.now a.starts.now l.loop-i.row) end)
+    l.loop-i.invariant.3)
 
-pub points-at-spec : {M : Type 1} → statement M
-points-at-spec =
+pub points_at_spec : {M : Type 1} → statement M
+points_at_spec =
     tie.close
     (tie.spec invariant-loop decreases-loop (search rules) loop-holds delivery-of-requires rows-by-requires (search rules)
     point-at-requires organisation-len-requires add_row add-i (search rules) loop-again (search rules)

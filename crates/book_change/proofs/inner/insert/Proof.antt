@@ -11,51 +11,51 @@ use Rattle.book_change.proofs.Changes.{insertion-twice, insertion-full, insertio
 use Rattle.book_change.proofs.inner.insert.Statement.{statement}
 use Rattle.book_change.proofs.inner.insert.Tie as tie
 
-returns : tie.Need-returns
+returns : tie.Need-returns-then-kept-lt-SLOTS
 returns c =
-    let behind-if1 = c.before in
-    let behind-keeper-of = behind-if1.before in
-    let start = behind-keeper-of.before.before.before.before.before.before in
+    let behind-if1 = c in
+    let behind-keeper-of = behind-if1 in
+    let start = behind-keeper-of in
     let a = start.args in
-    let twice = rw behind-keeper-of.keeper-of.ensures at behind-if1.if1.true in
+    let twice = rw behind-keeper-of.keeper_of-kept.ensures at behind-if1.if-kept-lt-SLOTS.true in
     said-as c.refused.ensures refl
     ∙ sym (insertion-twice a.book.now (present a.view.now a.follower.now) twice)
 
-returns-2 : tie.Need-returns-2
+returns-2 : tie.Need-returns-then-free-ge-SLOTS
 returns-2 c =
-    let behind-if2 = c.before in
-    let behind-free-slot = behind-if2.before in
-    let behind-if1 = behind-free-slot.before.before in
-    let behind-keeper-of = behind-if1.before in
-    let start = behind-keeper-of.before.before.before.before.before.before in
+    let behind-if2 = c in
+    let behind-free-slot = behind-if2 in
+    let behind-if1 = behind-free-slot in
+    let behind-keeper-of = behind-if1 in
+    let start = behind-keeper-of in
     let a = start.args in
-    let absent = rw behind-keeper-of.keeper-of.ensures at behind-if1.if1.false in
-    let full = rw behind-free-slot.free-slot.ensures at behind-if2.if2.true in
-    said-as c.refused2.ensures refl
+    let absent = rw behind-keeper-of.keeper_of-kept.ensures at behind-if1.if-kept-lt-SLOTS.false in
+    let full = rw behind-free-slot.free_slot-free.ensures at behind-if2.if-free-ge-SLOTS.true in
+    said-as c.refused-then-free-ge-SLOTS.ensures refl
     ∙ sym (insertion-full a.book.now (present a.view.now a.follower.now) absent full)
 
-returns-3 : tie.Need-returns-3
+returns-3 : tie.Need-returns
 returns-3 c =
-    let behind-short-at = c.before.before in
-    let behind-keep-in = behind-short-at.before.before.before.before in
-    let behind-count-of = behind-keep-in.before.before in
-    let behind-if2 = behind-count-of.before.before in
-    let behind-free-slot = behind-if2.before in
-    let behind-if1 = behind-free-slot.before.before in
-    let behind-keeper-of = behind-if1.before in
-    let start = behind-keeper-of.before.before.before.before.before.before in
+    let behind-short-at = c in
+    let behind-keep-in = behind-short-at in
+    let behind-count-of = behind-keep-in in
+    let behind-if2 = behind-count-of in
+    let behind-free-slot = behind-if2 in
+    let behind-if1 = behind-free-slot in
+    let behind-keeper-of = behind-if1 in
+    let start = behind-keeper-of in
     let a = start.args in
     let book = a.book.now in
     let new = present a.view.now a.follower.now in
-    let absent = rw behind-keeper-of.keeper-of.ensures at behind-if1.if1.false in
-    let free = rw behind-free-slot.free-slot.ensures at behind-if2.if2.false in
-    let count = behind-count-of.count-of.result in
-    let more : count + 1 ≡ suc (count_of book) = omega (arith, behind-count-of.count-of.ensures.0) in
-    let done = inserted book _ new more behind-free-slot.free-slot.ensures behind-keep-in.keep-in.ensures in
-    insertion-done book new absent free (count + 1) _ more (upto-laid (count + 1) done behind-short-at.short-at.ensures)
+    let absent = rw behind-keeper-of.keeper_of-kept.ensures at behind-if1.if-kept-lt-SLOTS.false in
+    let free = rw behind-free-slot.free_slot-free.ensures at behind-if2.if-free-ge-SLOTS.false in
+    let count = behind-count-of.count_of-count.result in
+    let more : count + 1 ≡ suc (count_of book) = omega (arith, behind-count-of.count_of-count.ensures.0) in
+    let done = inserted book _ new more behind-free-slot.free_slot-free.ensures behind-keep-in.keep_in.ensures in
+    insertion-done book new absent free (count + 1) _ more (upto-laid (count + 1) done behind-short-at.short_at.ensures)
 
-pub insert-spec : {M : Type 1} → statement M
-insert-spec =
+pub insert_spec : {M : Type 1} → statement M
+insert_spec =
     tie.close
     (tie.spec (search rules) (search rules) (search rules) (search rules) (search rules) (search rules) returns
     (search rules) (search rules) (search rules) returns-2 (search rules) (search rules) (search rules) (search rules)

@@ -11,44 +11,44 @@ use Rattle.book_change.proofs.Writes.{copy-room, copied, upto-laid}
 use Rattle.book_change.proofs.inner.tidy.Statement.{statement}
 use Rattle.book_change.proofs.inner.tidy.Tie as tie
 
-bytes-at-requires : tie.Need-bytes-at-requires
+bytes-at-requires : tie.Need-bytes_at-requires
 bytes-at-requires c κs =
     let s = c.before.before.before in
     copy-room book_length s.args.book.now (book-long s.args.book.now s.requires)
 
-count-of-requires : tie.Need-count-of-requires
+count-of-requires : tie.Need-count_of-count-requires
 count-of-requires c κs =
     let start = c.before.before.before.before.before.before in
     book-long start.args.book.now start.requires
 
-tidy-all-requires : tie.Need-tidy-all-requires
+tidy-all-requires : tie.Need-tidy_all-requires
 tidy-all-requires c κs =
     let behind-count-of = c.before.before in
     let behind-bytes-at = behind-count-of.before.before.before in
     let start = behind-bytes-at.before.before.before.before in
     let book = start.args.book.now in
     let long = book-long book start.requires in
-    let old = copied book_length book _ long behind-bytes-at.bytes-at.ensures in
-    (long, ap is_book old ∙ start.requires, behind-count-of.count-of.ensures.0 ∙ ap count_of (sym old))
+    let old = copied book_length book _ long behind-bytes-at.bytes_at.ensures in
+    (long, ap is_book old ∙ start.requires, behind-count-of.count_of-count.ensures.0 ∙ ap count_of (sym old))
 
 returns : tie.Need-returns
 returns c =
-    let behind-short-at = c.before.before in
-    let behind-tidy-all = behind-short-at.before.before.before.before in
-    let behind-count-of = behind-tidy-all.before.before.before in
-    let behind-bytes-at = behind-count-of.before.before.before in
-    let start = behind-bytes-at.before.before.before.before in
+    let behind-short-at = c in
+    let behind-tidy-all = behind-short-at in
+    let behind-count-of = behind-tidy-all in
+    let behind-bytes-at = behind-count-of in
+    let start = behind-bytes-at in
     let book = start.args.book.now in
     let long = book-long book start.requires in
-    let old = copied book_length book _ long behind-bytes-at.bytes-at.ensures in
-    let count = behind-count-of.count-of.ensures.0 in (
+    let old = copied book_length book _ long behind-bytes-at.bytes_at.ensures in
+    let count = behind-count-of.count_of-count.ensures.0 in (
       count,
-      upto-laid behind-count-of.count-of.result behind-tidy-all.tidy-all.ensures behind-short-at.short-at.ensures
+      upto-laid behind-count-of.count_of-count.result behind-tidy-all.tidy_all.ensures behind-short-at.short_at.ensures
           ∙ ap₂ (λ (l : List ℕ) (n : ℕ). laid (slot_tidied l) n) old count,
     )
 
-pub tidy-spec : {M : Type 1} → statement M
-tidy-spec =
+pub tidy_spec : {M : Type 1} → statement M
+tidy_spec =
     tie.close
     (tie.spec (search rules) bytes-at-requires count-of-requires (search rules) tidy-all-requires (search rules)
     (search rules) returns)

@@ -13,19 +13,19 @@ use Rattle.book_change.proofs.slot.keep_in.Tie as tie
 
 returns : tie.Need-returns
 returns c =
-    let behind-bytes-at2 = c.before.before in
-    let behind-bytes-at = behind-bytes-at2.before.before.before.before in
-    let behind-short-at = behind-bytes-at.before.before.before.before in
-    let start = behind-short-at.before.before.before.before.before in
+    let behind-bytes-at2 = c in
+    let behind-bytes-at = behind-bytes-at2 in
+    let behind-short-at = behind-bytes-at in
+    let start = behind-short-at in
     let a = start.args in
     let whole = slot_bytes a.place (present a.view.now a.follower.now) in
     let wide =
     slot-wide a.place (present a.view.now a.follower.now) start.requires.1.view_long start.requires.1.follower_long in
     let room : a.s * 338 + length whole ≤ length a.book.now = omega (arith, wide, start.requires.0.long, start.requires.0.low) in
     put-set a.book.now _ a.s start.requires.0 wide
-    (put_three a.view.now a.follower.now room behind-short-at.short-at.ensures behind-bytes-at.bytes-at.ensures
-    behind-bytes-at2.bytes-at2.ensures)
+    (put_three a.view.now a.follower.now room behind-short-at.short_at-i.ensures behind-bytes-at.bytes_at-j.ensures
+    behind-bytes-at2.bytes_at.ensures)
 
-pub keep-in-spec : {M : Type 1} → statement M
-keep-in-spec =
+pub keep_in_spec : {M : Type 1} → statement M
+keep_in_spec =
     tie.close (tie.spec (search rules) (search rules) (search rules) (search rules) (search rules) returns)

@@ -8,9 +8,9 @@ use Rattle.book_change.proofs.slot.move_to.Tie as tie
 
 returns : tie.Need-returns
 returns c =
-    let behind-short-at = c.before.before in
-    let start = behind-short-at.before.before.before in
-    put_front start.args.book.now _ start.args.s start.requires (bytes_of 2 start.args.place) (omega arith) behind-short-at.short-at.ensures
+    let behind-short-at = c in
+    let start = behind-short-at in
+    put_front start.args.book.now _ start.args.s start.requires (bytes_of 2 start.args.place) (omega arith) behind-short-at.short_at.ensures
 
 pub move_to_spec : {M : Type 1} → statement M
 move_to_spec = tie.close (tie.spec (search rules) (search rules) (search rules) returns)

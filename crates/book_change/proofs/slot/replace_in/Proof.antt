@@ -6,26 +6,26 @@ use Rattle.book_change.proofs.Writes.{set-as, set_same, replaced-own, replaced-o
 use Rattle.book_change.proofs.slot.replace_in.Statement.{statement}
 use Rattle.book_change.proofs.slot.replace_in.Tie as tie
 
-returns : tie.Need-returns
+returns : tie.Need-returns-then-place_in-place
 returns c =
-    let behind-keep-in = c.before.before in
-    let behind-if1 = behind-keep-in.before.before in
-    let behind-place-in = behind-if1.before in
-    let start = behind-place-in.before.before.before.before.before in
+    let behind-keep-in = c in
+    let behind-if1 = behind-keep-in in
+    let behind-place-in = behind-if1 in
+    let start = behind-place-in in
     let a = start.args in
-    let own = rw behind-place-in.IsPlace-in.ensures.0 at behind-if1.if1.true in
+    let own = rw behind-place-in.IsPlace-in.ensures.0 at behind-if1.if-place_in-place.true in
     set-as (sym (replaced-own a.book.now a.place a.s (present a.view.now a.follower.now) own))
-    behind-keep-in.keep-in.ensures
+    behind-keep-in.keep_in.ensures
 
-returns-2 : tie.Need-returns-2
+returns-2 : tie.Need-returns-else-place_in-place
 returns-2 c =
-    let behind-place-in = c.before in
-    let start = behind-place-in.before.before.before.before.before in
+    let behind-place-in = c in
+    let start = behind-place-in in
     let a = start.args in
-    let other = rw behind-place-in.IsPlace-in.ensures.0 at c.if1.false in
+    let other = rw behind-place-in.IsPlace-in.ensures.0 at c.if-place_in-place.false in
     set-as (sym (replaced-other a.book.now a.place a.s (present a.view.now a.follower.now) other))
     (set_same start.requires.0)
 
-pub replace-in-spec : {M : Type 1} → statement M
-replace-in-spec =
+pub replace_in_spec : {M : Type 1} → statement M
+replace_in_spec =
     tie.close (tie.spec (search rules) (search rules) (search rules) returns (search rules) returns-2)

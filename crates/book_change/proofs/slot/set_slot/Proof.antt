@@ -6,9 +6,9 @@ use Rattle.book_change.proofs.slot.set_slot.Tie as tie
 
 returns : tie.Need-returns
 returns c =
-    let behind-bytes-at = c.before.before in
-    let start = behind-bytes-at.before.before.before.before in
-    put-set start.args.book.now _ start.args.s start.requires.0 start.requires.1 behind-bytes-at.bytes-at.ensures
+    let behind-bytes-at = c in
+    let start = behind-bytes-at in
+    put-set start.args.book.now _ start.args.s start.requires.0 start.requires.1 behind-bytes-at.bytes_at.ensures
 
-pub set-slot-spec : {M : Type 1} → statement M
-set-slot-spec = tie.close (tie.spec (search rules) (search rules) (search rules) returns)
+pub set_slot_spec : {M : Type 1} → statement M
+set_slot_spec = tie.close (tie.spec (search rules) (search rules) (search rules) returns)

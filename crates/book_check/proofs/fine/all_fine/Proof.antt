@@ -12,41 +12,41 @@ use Rattle.book_check.proofs.Loops.{all-stop, all-step, all_end}
 use Rattle.book_check.proofs.fine.all_fine.Statement.{statement}
 use Rattle.book_check.proofs.fine.all_fine.Tie as tie
 
-abbrev invariant-loop : tie.invariant-loop
+abbrev invariant-loop : tie.invariant-loop-s
 invariant-loop book s₀ s = (s ≤ slots) × (all_from (slot_fine (slot_at book)) slots 0 ≡ all_from (slot_fine (slot_at book)) (slots - s) s)
 
-abbrev decreases-loop : tie.decreases-loop
+abbrev decreases-loop : tie.decreases-loop-s
 decreases-loop book s₀ s = slots - s
 
-loop-holds : tie.Need-loop-init invariant-loop decreases-loop
+loop-holds : tie.Need-loop-s-init invariant-loop decreases-loop
 loop-holds c = (omega arith, refl)
 
-returns : tie.Need-returns invariant-loop decreases-loop
+returns : tie.Need-returns-then-not-is_fine invariant-loop decreases-loop
 returns c =
-    let l = c.before.before.before in
-    let a = l.before.before.args in
+    let l = c in
+    let a = l.args in
     sym
-    (l.loop.invariant.1
-    ∙ all-stop (slot_fine (slot_at a.book.now)) slots l.loop.s l.loop.s (omega arith)
-    (sym c.before.is-fine.ensures ∙ not-true _ c.if1.true))
+    (l.loop-s.invariant.1
+    ∙ all-stop (slot_fine (slot_at a.book.now)) slots l.loop-s.s l.loop-s.s (omega arith)
+    (sym c.is_fine.ensures ∙ c.if-not-is_fine.true))
 
-loop-again : tie.Need-loop-preserved invariant-loop decreases-loop
+loop-again : tie.Need-loop-s-preserved invariant-loop decreases-loop
 loop-again c =
-    let l = c.before.before.before in
-    let a = l.before.before.args in (
+    let l = c in
+    let a = l.args in (
       omega arith,
-      l.loop.invariant.1
-          ∙ all-step (slot_fine (slot_at a.book.now)) slots l.loop.s l.loop.s (omega arith)
-          (sym c.before.is-fine.ensures ∙ not-false _ c.if1.false),
+      l.loop-s.invariant.1
+          ∙ all-step (slot_fine (slot_at a.book.now)) slots l.loop-s.s l.loop-s.s (omega arith)
+          (sym c.is_fine.ensures ∙ c.if-not-is_fine.false),
     )
 
-returns-2 : tie.Need-returns-2 invariant-loop decreases-loop
+returns-2 : tie.Need-returns invariant-loop decreases-loop
 returns-2 c =
-    let l = c.before in
-    let a = l.before.before.args in
-    sym (l.loop.invariant.1 ∙ all_end (slot_fine (slot_at a.book.now)) slots l.loop.s l.loop.s (omega arith))
+    let l = c in
+    let a = l.args in
+    sym (l.loop-s.invariant.1 ∙ all_end (slot_fine (slot_at a.book.now)) slots l.loop-s.s l.loop-s.s (omega arith))
 
-pub all-fine-spec : {M : Type 1} → statement M
-all-fine-spec =
+pub all_fine_spec : {M : Type 1} → statement M
+all_fine_spec =
     tie.close
     (tie.spec invariant-loop decreases-loop loop-holds (search rules) returns (search rules) (search rules) loop-again returns-2)

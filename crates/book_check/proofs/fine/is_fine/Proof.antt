@@ -9,53 +9,53 @@ use Rattle.book_check.proofs.Kept.{fine-free, fine-ill, fine-well}
 use Rattle.book_check.proofs.fine.is_fine.Statement.{statement}
 use Rattle.book_check.proofs.fine.is_fine.Tie as tie
 
-returns : tie.Need-returns
+returns : tie.Need-returns-then-place_in-eq0
 returns c =
-    let l = c.before in
-    let t = l.before in
-    let p = t.before in
-    let a = p.before.before.args in
+    let l = c in
+    let t = l in
+    let p = t in
+    let a = p.args in
     rw (c.all_are.ensures, l.slot_of.ensures)
-    (sym (fine-free (slot_at a.book.now) a.s (rw p.IsPlace-in.ensures.0 at t.if1.true)))
+    (sym (fine-free (slot_at a.book.now) a.s (rw p.IsPlace-in.ensures.0 at t.if-place_in-eq0.true)))
 
-returns-2 : tie.Need-returns-2
+returns-2 : tie.Need-returns-then-not-is_well_kept
 returns-2 c =
-    let k = c.before in
-    let f = k.before in
-    let v = f.before in
-    let t = v.before in
-    let p = t.before in
-    let a = p.before.before.args in
-    let kept = rw (f.follower-of.ensures, v.view_of.ensures) at k.is-well-kept.ensures in
+    let k = c in
+    let f = k in
+    let v = f in
+    let t = v in
+    let p = t in
+    let a = p.args in
+    let kept = rw (f.follower_of.ensures, v.view_of.ensures) at k.is_well_kept.ensures in
     sym
-    (fine-ill (slot_at a.book.now) a.s (rw p.IsPlace-in.ensures.0 at t.if1.false)
-    (sym kept ∙ not-true _ c.if2.true))
+    (fine-ill (slot_at a.book.now) a.s (rw p.IsPlace-in.ensures.0 at t.if-place_in-eq0.false)
+    (sym kept ∙ c.if-not-is_well_kept.true))
 
-keeper-of-requires : tie.Need-keeper-of-requires
+keeper-of-requires : tie.Need-keeper_of-requires
 keeper-of-requires c κs =
-    let s = c.before.before.before.before.before.before.before.before in (
+    let s = c in (
       s.requires.0,
-      ap length c.identity-of.ensures ∙ identity-long s.args.book.now s.args.s s.requires.0 s.requires.1,
+      ap length c.identity_of.ensures ∙ identity-long s.args.book.now s.args.s s.requires.0 s.requires.1,
     )
 
-returns-3 : tie.Need-returns-3
+returns-3 : tie.Need-returns
 returns-3 c =
-    let i = c.before in
-    let u = i.before in
-    let k = u.before in
-    let f = k.before in
-    let v = f.before in
-    let t = v.before in
-    let p = t.before in
-    let a = p.before.before.args in
-    let kept = rw (f.follower-of.ensures, v.view_of.ensures) at k.is-well-kept.ensures in
-    rw (c.keeper-of.ensures, i.identity-of.ensures)
+    let i = c in
+    let u = i in
+    let k = u in
+    let f = k in
+    let v = f in
+    let t = v in
+    let p = t in
+    let a = p.args in
+    let kept = rw (f.follower_of.ensures, v.view_of.ensures) at k.is_well_kept.ensures in
+    rw (c.keeper_of.ensures, i.identity_of.ensures)
     (sym
-    (fine-well (slot_at a.book.now) a.s (rw p.IsPlace-in.ensures.0 at t.if1.false)
-    (sym kept ∙ not-false _ u.if2.false)))
+    (fine-well (slot_at a.book.now) a.s (rw p.IsPlace-in.ensures.0 at t.if-place_in-eq0.false)
+    (sym kept ∙ u.if-not-is_well_kept.false)))
 
-pub is-fine-spec : {M : Type 1} → statement M
-is-fine-spec =
+pub is_fine_spec : {M : Type 1} → statement M
+is_fine_spec =
     tie.close
     (tie.spec (search rules) (search rules) (search rules) returns (search rules) (search rules) (search rules) returns-2
     (search rules) keeper-of-requires returns-3)

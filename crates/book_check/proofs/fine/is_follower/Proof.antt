@@ -7,11 +7,11 @@ use Rattle.book_check.proofs.fine.is_follower.Tie as tie
 returns : tie.Need-returns
 unfolding follows
 returns c =
-    let behind-part-of2 = c.before in
-    let behind-part-of = behind-part-of2.before in
-    let behind-byte-of = behind-part-of.before in
-    let s = behind-byte-of.before.before.before in
-    rw (c.same_bytes.ensures, behind-part-of2.part-of2.ensures, behind-part-of.part_of.ensures, behind-byte-of.byte_of.ensures, s.requires)
+    let behind-part-of2 = c in
+    let behind-part-of = behind-part-of2 in
+    let behind-byte-of = behind-part-of in
+    let s = behind-byte-of in
+    rw (c.same_bytes-head.ensures, behind-part-of2.part_of-2.ensures, behind-part-of.part_of.ensures, behind-byte-of.byte_of-kind.ensures, s.requires)
 
-pub is-follower-spec : {M : Type 1} → statement M
-is-follower-spec = tie.close (tie.spec (search rules) (search rules) (search rules) (search rules) returns)
+pub is_follower_spec : {M : Type 1} → statement M
+is_follower_spec = tie.close (tie.spec (search rules) (search rules) (search rules) (search rules) returns)

@@ -5,7 +5,7 @@ use Rattle.book_check.proofs.fine.is_live.Statement.{statement}
 use Rattle.book_check.proofs.fine.is_live.Tie as tie
 
 returns : tie.Need-returns
-returns c = rw c.byte_of.ensures (simp or-false)
+returns c = rw c.byte_of-letter.ensures (simp or-false)
 
-pub is-live-spec : {M : Type 1} → statement M
-is-live-spec = tie.close (tie.spec (search rules) returns)
+pub is_live_spec : {M : Type 1} → statement M
+is_live_spec = tie.close (tie.spec (search rules) returns)

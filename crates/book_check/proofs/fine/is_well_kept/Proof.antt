@@ -6,22 +6,22 @@ use Rattle.book_check.proofs.Kept.{kept-faulty, kept-sound}
 use Rattle.book_check.proofs.fine.is_well_kept.Statement.{statement}
 use Rattle.book_check.proofs.fine.is_well_kept.Tie as tie
 
-returns : tie.Need-returns
+returns : tie.Need-returns-then-not-is_faultless
 returns c =
-    let f = c.before in
-    let a = f.before.before.before.args in
-    sym (kept-faulty a.view.now a.next.now (sym f.is-faultless.ensures ∙ not-true _ c.if1.true))
+    let f = c in
+    let a = f.args in
+    sym (kept-faulty a.view.now a.next.now (sym f.is_faultless.ensures ∙ c.if-not-is_faultless.true))
 
-returns-2 : tie.Need-returns-2
+returns-2 : tie.Need-returns
 returns-2 c =
-    let l = c.before in
-    let b = l.before in
-    let t = b.before in
-    let f = t.before in
-    let a = f.before.before.before.args in
-    rw (c.is-followed.ensures, l.is_live.ensures, b.byte_of.ensures)
-    (sym (kept-sound a.view.now a.next.now (sym f.is-faultless.ensures ∙ not-false _ t.if1.false)))
+    let l = c in
+    let b = l in
+    let t = b in
+    let f = t in
+    let a = f.args in
+    rw (c.is_followed.ensures, l.is_live-live.ensures, b.byte_of-kind.ensures)
+    (sym (kept-sound a.view.now a.next.now (sym f.is_faultless.ensures ∙ t.if-not-is_faultless.false)))
 
-pub is-well-kept-spec : {M : Type 1} → statement M
-is-well-kept-spec =
+pub is_well_kept_spec : {M : Type 1} → statement M
+is_well_kept_spec =
     tie.close (tie.spec (search rules) returns (search rules) (search rules) (search rules) returns-2)

@@ -8,10 +8,10 @@ use Rattle.book_check.proofs.inner.follower_of.Tie as tie
 
 returns : tie.Need-returns
 returns c =
-    let s = c.before in
+    let s = c in
     sym (slot-part s.args.book.now s.args.s s.requires.0 s.requires.1 170 338 (omega arith))
 
-pub follower-of-spec : {M : Type 1} → statement M
-follower-of-spec =
+pub follower_of_spec : {M : Type 1} → statement M
+follower_of_spec =
     tie.close
     (tie.spec (search rules) (search rules) (search rules) (search rules) (search rules) (search rules) returns)

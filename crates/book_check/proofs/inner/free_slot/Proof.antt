@@ -18,42 +18,42 @@ use Rattle.book_check.proofs.inner.free_slot.Tie as tie
 abbrev free : List ℕ → ℕ → Bool
 free book s = not (used (slot_at book) s)
 
-abbrev invariant-loop : tie.invariant-loop
+abbrev invariant-loop : tie.invariant-loop-s
 invariant-loop book s₀ s = (s ≤ slots) × (free_in (slot_at book) ≡ first_from (free book) (slots - s) s)
 
-abbrev decreases-loop : tie.decreases-loop
+abbrev decreases-loop : tie.decreases-loop-s
 decreases-loop book s₀ s = slots - s
 
-loop-holds : tie.Need-loop-init invariant-loop decreases-loop
+loop-holds : tie.Need-loop-s-init invariant-loop decreases-loop
 unfolding free_in
 loop-holds c = (omega arith, refl)
 
-returns : tie.Need-returns invariant-loop decreases-loop
+returns : tie.Need-returns-then-place_in-eq0 invariant-loop decreases-loop
 returns c =
-    let l = c.before.before.before in
-    let a = l.before.before.args in
+    let l = c in
+    let a = l.args in
     sym
-    (l.loop.invariant.1
-    ∙ first-stop (free a.book.now) slots l.loop.s (omega arith)
-    (ap (λ (t : Bool). not (not t)) (eq-eqb _ 0 (rw c.before.IsPlace-in.ensures.0 at c.if1.true))))
+    (l.loop-s.invariant.1
+    ∙ first-stop (free a.book.now) slots l.loop-s.s (omega arith)
+    (ap (λ (t : Bool). not (not t)) (eq-eqb _ 0 (rw c.IsPlace-in.ensures.0 at c.if-place_in-eq0.true))))
 
-loop-again : tie.Need-loop-preserved invariant-loop decreases-loop
+loop-again : tie.Need-loop-s-preserved invariant-loop decreases-loop
 loop-again c =
-    let l = c.before.before.before in
-    let a = l.before.before.args in (
+    let l = c in
+    let a = l.args in (
       omega arith,
-      l.loop.invariant.1
-          ∙ first_step (free a.book.now) slots l.loop.s (omega arith)
-          (ap (λ (t : Bool). not (not t)) (ne_eqb _ 0 (rw c.before.IsPlace-in.ensures.0 at c.if1.false))),
+      l.loop-s.invariant.1
+          ∙ first_step (free a.book.now) slots l.loop-s.s (omega arith)
+          (ap (λ (t : Bool). not (not t)) (ne_eqb _ 0 (rw c.IsPlace-in.ensures.0 at c.if-place_in-eq0.false))),
     )
 
-returns-2 : tie.Need-returns-2 invariant-loop decreases-loop
+returns-2 : tie.Need-returns invariant-loop decreases-loop
 returns-2 c =
-    let l = c.before in
-    let a = l.before.before.args in
-    sym (l.loop.invariant.1 ∙ first-end (free a.book.now) slots l.loop.s (omega arith))
+    let l = c in
+    let a = l.args in
+    sym (l.loop-s.invariant.1 ∙ first-end (free a.book.now) slots l.loop-s.s (omega arith))
 
-pub free-slot-spec : {M : Type 1} → statement M
-free-slot-spec =
+pub free_slot_spec : {M : Type 1} → statement M
+free_slot_spec =
     tie.close
     (tie.spec invariant-loop decreases-loop loop-holds (search rules) returns (search rules) (search rules) loop-again returns-2)

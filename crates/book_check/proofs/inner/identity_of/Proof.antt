@@ -9,13 +9,13 @@ use Rattle.book_check.proofs.inner.identity_of.Tie as tie
 
 returns : tie.Need-returns
 returns c =
-    let s = c.before in
+    let s = c in
     let i = s.args.s in
     let from : i * 338 + 2 + 23 ≡ i * 338 + 25 = omega arith in
     let to : i * 338 + 2 + 40 ≡ i * 338 + 42 = omega arith in
     rw (from, to) (slot-identity s.args.book.now i s.requires.0 s.requires.1)
 
-pub identity-of-spec : {M : Type 1} → statement M
-identity-of-spec =
+pub identity_of_spec : {M : Type 1} → statement M
+identity_of_spec =
     tie.close
     (tie.spec (search rules) (search rules) (search rules) (search rules) (search rules) (search rules) (search rules) returns)

@@ -11,34 +11,34 @@ use Rattle.book_check.proofs.Slots.{identity-long, other-words}
 use Rattle.book_check.proofs.inner.is_keeper.Statement.{statement}
 use Rattle.book_check.proofs.inner.is_keeper.Tie as tie
 
-eight-at-requires : tie.Need-eight-at-requires
+eight-at-requires : tie.Need-eight_at-requires
 eight-at-requires c κs =
     let s = c.before.before.before in
     omega (
       arith,
-      ap length c.identity-of.ensures,
+      ap length c.identity_of-kept.ensures,
       identity-long s.args.book.now s.args.s s.requires.0 s.requires.1,
     )
 
-returns : tie.Need-returns
+returns : tie.Need-returns-then-eight_at
 returns c =
-    let second = c.before in
-    let first = second.before in
-    let id = first.before in
-    let s = id.before.before.before in
+    let second = c in
+    let first = second in
+    let id = first in
+    let s = id in
     let slot = slot_at s.args.book.now in
     let differs =
-    other-words (identity (view_of (slot s.args.s))) s.args.id.now 1 9 _ _ (rw id.identity-of.ensures at first.eight-at.ensures)
-    second.eight-at2.ensures c.if1.true in
+    other-words (identity (view_of (slot s.args.s))) s.args.id.now 1 9 _ _ (rw id.identity_of-kept.ensures at first.eight_at.ensures)
+    second.eight_at-2.ensures c.if-eight_at.true in
     sym (ap (λ (t : Bool). used slot s.args.s && t) differs ∙ and-false (used slot s.args.s))
 
-returns-2 : tie.Need-returns-2
+returns-2 : tie.Need-returns
 returns-2 c =
-    let p = c.before in
-    let id = p.before.before.before.before in
-    rw (c.same_bytes.ensures, p.IsPlace-in.ensures.0, id.identity-of.ensures)
+    let p = c in
+    let id = p in
+    rw (c.same_bytes.ensures, p.IsPlace-in.ensures.0, id.identity_of-kept.ensures)
 
-pub is-keeper-spec : {M : Type 1} → statement M
-is-keeper-spec =
+pub is_keeper_spec : {M : Type 1} → statement M
+is_keeper_spec =
     tie.close
     (tie.spec (search rules) eight-at-requires (search rules) returns (search rules) (search rules) returns-2)

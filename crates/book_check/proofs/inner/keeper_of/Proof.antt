@@ -11,42 +11,42 @@ use Rattle.book_check.proofs.Loops.{first-stop, first_step, first-end}
 use Rattle.book_check.proofs.inner.keeper_of.Statement.{statement}
 use Rattle.book_check.proofs.inner.keeper_of.Tie as tie
 
-abbrev invariant-loop : tie.invariant-loop
+abbrev invariant-loop : tie.invariant-loop-s
 invariant-loop book id s₀ s = (s ≤ slots) × (keeper (slot_at book) id ≡ first_from (keeps (slot_at book) id) (slots - s) s)
 
-abbrev decreases-loop : tie.decreases-loop
+abbrev decreases-loop : tie.decreases-loop-s
 decreases-loop book id s₀ s = slots - s
 
-loop-holds : tie.Need-loop-init invariant-loop decreases-loop
+loop-holds : tie.Need-loop-s-init invariant-loop decreases-loop
 unfolding keeper
 loop-holds c = (omega arith, refl)
 
-returns : tie.Need-returns invariant-loop decreases-loop
+returns : tie.Need-returns-then-is_keeper invariant-loop decreases-loop
 returns c =
-    let l = c.before.before.before in
-    let a = l.before.before.before.args in
+    let l = c in
+    let a = l.args in
     sym
-    (l.loop.invariant.1
-    ∙ first-stop (keeps (slot_at a.book.now) a.id.now) slots l.loop.s (omega arith)
-    (sym c.before.is-keeper.ensures ∙ c.if1.true))
+    (l.loop-s.invariant.1
+    ∙ first-stop (keeps (slot_at a.book.now) a.id.now) slots l.loop-s.s (omega arith)
+    (sym c.is_keeper.ensures ∙ c.if-is_keeper.true))
 
-loop-again : tie.Need-loop-preserved invariant-loop decreases-loop
+loop-again : tie.Need-loop-s-preserved invariant-loop decreases-loop
 loop-again c =
-    let l = c.before.before.before in
-    let a = l.before.before.before.args in (
+    let l = c in
+    let a = l.args in (
       omega arith,
-      l.loop.invariant.1
-          ∙ first_step (keeps (slot_at a.book.now) a.id.now) slots l.loop.s (omega arith)
-          (sym c.before.is-keeper.ensures ∙ c.if1.false),
+      l.loop-s.invariant.1
+          ∙ first_step (keeps (slot_at a.book.now) a.id.now) slots l.loop-s.s (omega arith)
+          (sym c.is_keeper.ensures ∙ c.if-is_keeper.false),
     )
 
-returns-2 : tie.Need-returns-2 invariant-loop decreases-loop
+returns-2 : tie.Need-returns invariant-loop decreases-loop
 returns-2 c =
-    let l = c.before in
-    let a = l.before.before.before.args in
-    sym (l.loop.invariant.1 ∙ first-end (keeps (slot_at a.book.now) a.id.now) slots l.loop.s (omega arith))
+    let l = c in
+    let a = l.args in
+    sym (l.loop-s.invariant.1 ∙ first-end (keeps (slot_at a.book.now) a.id.now) slots l.loop-s.s (omega arith))
 
-pub keeper-of-spec : {M : Type 1} → statement M
-keeper-of-spec =
+pub keeper_of_spec : {M : Type 1} → statement M
+keeper_of_spec =
     tie.close
     (tie.spec invariant-loop decreases-loop loop-holds (search rules) returns (search rules) (search rules) loop-again returns-2)

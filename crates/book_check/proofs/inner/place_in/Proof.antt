@@ -7,9 +7,9 @@ use Rattle.book_check.proofs.inner.place_in.Tie as tie
 
 returns : tie.Need-returns
 returns c =
-    let s = c.before.before in
-    let r = c.number-within.ensures in
+    let s = c in
+    let r = c.number_within.ensures in
     (r.0 ∙ slot-place s.args.book.now s.args.s s.requires.0 s.requires.1, r.1)
 
-pub place-in-spec : {M : Type 1} → statement M
-place-in-spec = tie.close (tie.spec (search rules) (search rules) returns)
+pub place_in_spec : {M : Type 1} → statement M
+place_in_spec = tie.close (tie.spec (search rules) (search rules) returns)

@@ -8,10 +8,10 @@ use Rattle.book_check.proofs.inner.view_of.Tie as tie
 
 returns : tie.Need-returns
 returns c =
-    let s = c.before in
+    let s = c in
     sym (slot-part s.args.book.now s.args.s s.requires.0 s.requires.1 2 170 (omega arith))
 
-pub view-of-spec : {M : Type 1} → statement M
-view-of-spec =
+pub view_of_spec : {M : Type 1} → statement M
+view_of_spec =
     tie.close
     (tie.spec (search rules) (search rules) (search rules) (search rules) (search rules) (search rules) returns)

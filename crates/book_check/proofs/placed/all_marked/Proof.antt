@@ -11,41 +11,41 @@ use Rattle.book_check.proofs.Loops.{all-stop, all-step, all_end}
 use Rattle.book_check.proofs.placed.all_marked.Statement.{statement}
 use Rattle.book_check.proofs.placed.all_marked.Tie as tie
 
-abbrev invariant-loop : tie.invariant-loop
+abbrev invariant-loop : tie.invariant-loop-n
 invariant-loop marks count n₀ n =
     (n ≤ count) × (all_from (is_marked marks) count 1 ≡ all_from (is_marked marks) (count - n) (n + 1))
 
-abbrev decreases-loop : tie.decreases-loop
+abbrev decreases-loop : tie.decreases-loop-n
 decreases-loop marks count n₀ n = count - n
 
-loop-holds : tie.Need-loop-init invariant-loop decreases-loop
+loop-holds : tie.Need-loop-n-init invariant-loop decreases-loop
 loop-holds c = (omega arith, rw (let z : c.args.count - 0 ≡ c.args.count = omega arith in z))
 
-returns : tie.Need-returns invariant-loop decreases-loop
+returns : tie.Need-returns-then-marks-n-eq0 invariant-loop decreases-loop
 returns c =
-    let a = c.before.before.before.before.args in
-    let l = c.before.before.before.loop in
+    let a = c.args in
+    let l = c.loop-n in
     sym
     (l.invariant.1
-    ∙ all-stop (is_marked a.marks.now) a.count l.n (l.n + 1) (omega arith) (ap not (eq-eqb _ 0 c.if1.true)))
+    ∙ all-stop (is_marked a.marks.now) a.count l.n (l.n + 1) (omega arith) (ap not (eq-eqb _ 0 c.if-marks-n-eq0.true)))
 
-loop-again : tie.Need-loop-preserved invariant-loop decreases-loop
+loop-again : tie.Need-loop-n-preserved invariant-loop decreases-loop
 loop-again c =
-    let a = c.before.before.before.before.args in
-    let l = c.before.before.before.loop in (
+    let a = c.args in
+    let l = c.loop-n in (
       omega arith,
       l.invariant.1
           ∙ all-step (is_marked a.marks.now) a.count l.n (l.n + 1) (omega arith)
-          (ap not (ne_eqb _ 0 c.if1.false)),
+          (ap not (ne_eqb _ 0 c.if-marks-n-eq0.false)),
     )
 
-returns-2 : tie.Need-returns-2 invariant-loop decreases-loop
+returns-2 : tie.Need-returns invariant-loop decreases-loop
 returns-2 c =
-    let a = c.before.before.args in
-    let l = c.before.loop in
+    let a = c.args in
+    let l = c.loop-n in
     sym (l.invariant.1 ∙ all_end (is_marked a.marks.now) a.count l.n (l.n + 1) (omega arith))
 
-pub all-marked-spec : {M : Type 1} → statement M
-all-marked-spec =
+pub all_marked_spec : {M : Type 1} → statement M
+all_marked_spec =
     tie.close
     (tie.spec invariant-loop decreases-loop loop-holds (search rules) (search rules) returns (search rules) loop-again returns-2)

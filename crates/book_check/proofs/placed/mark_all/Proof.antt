@@ -14,71 +14,71 @@ use Rattle.book_check.proofs.Loops.{all-stop, all-step, all_end}
 use Rattle.book_check.proofs.placed.mark_all.Statement.{statement}
 use Rattle.book_check.proofs.placed.mark_all.Tie as tie
 
-abbrev invariant-loop : tie.invariant-loop
+abbrev invariant-loop : tie.invariant-loop-s
 invariant-loop book count marks₀ s₀ marks s =
     (s ≤ slots)
     × (all_from (well_placed (slot_at book) count) slots 0 ≡ all_from (well_placed (slot_at book) count) (slots - s) s)
     × Marked (slot_at book) s marks
 
-abbrev decreases-loop : tie.decreases-loop
+abbrev decreases-loop : tie.decreases-loop-s
 decreases-loop book count marks₀ s₀ marks s = slots - s
 
-loop-holds : tie.Need-loop-init invariant-loop decreases-loop
-loop-holds c = (omega arith, refl, c.before.before.requires.2)
+loop-holds : tie.Need-loop-s-init invariant-loop decreases-loop
+loop-holds c = (omega arith, refl, c.requires.2)
 
-mark-place-requires : tie.Need-mark-place-requires invariant-loop decreases-loop
+mark-place-requires : tie.Need-mark_place-requires invariant-loop decreases-loop
 mark-place-requires c κs =
-    let behind-loop-test = c.before in
-    let behind-loop = behind-loop-test.before in
-    let start = behind-loop.before.before.before in
-    (start.requires.0, behind-loop-test.loop-test.true, start.requires.1, behind-loop.loop.invariant.2)
+    let behind-loop-test = c in
+    let behind-loop = behind-loop-test in
+    let start = behind-loop in
+    (start.requires.0, behind-loop-test.loop-s-test.true, start.requires.1, behind-loop.loop-s.invariant.2)
 
-returns : tie.Need-returns invariant-loop decreases-loop
+returns : tie.Need-returns-then-not-mark_place invariant-loop decreases-loop
 returns c =
-    let behind-mark-place = c.before.before.before in
-    let behind-loop-test = behind-mark-place.before.before in
-    let behind-loop = behind-loop-test.before in
-    let start = behind-loop.before.before.before in
+    let behind-mark-place = c in
+    let behind-loop-test = behind-mark-place in
+    let behind-loop = behind-loop-test in
+    let start = behind-loop in
     let a = start.args in
-    let l = behind-loop.loop in (
+    let l = behind-loop.loop-s in (
       sym
           (l.invariant.1
-          ∙ all-stop (well_placed (slot_at a.book.now) a.count) slots l.s l.s behind-loop-test.loop-test.true
-          (sym behind-mark-place.mark-place.ensures.0 ∙ not-true _ c.if1.true)),
+          ∙ all-stop (well_placed (slot_at a.book.now) a.count) slots l.s l.s behind-loop-test.loop-s-test.true
+          (sym behind-mark-place.mark_place.ensures.0 ∙ c.if-not-mark_place.true)),
       λ z. absurd (false≢true z),
     )
 
-loop-again : tie.Need-loop-preserved invariant-loop decreases-loop
+loop-again : tie.Need-loop-s-preserved invariant-loop decreases-loop
 loop-again c =
-    let behind-mark-place = c.before.before.before in
-    let behind-loop-test = behind-mark-place.before.before in
-    let behind-loop = behind-loop-test.before in
-    let start = behind-loop.before.before.before in
+    let behind-mark-place = c in
+    let behind-loop-test = behind-mark-place in
+    let behind-loop = behind-loop-test in
+    let start = behind-loop in
     let a = start.args in
-    let l = behind-loop.loop in
-    let placed = not-false _ c.if1.false in (
-      omega (arith, behind-loop-test.loop-test.true),
+    let l = behind-loop.loop-s in
+    let placed = c.if-not-mark_place.false in (
+      omega (arith, behind-loop-test.loop-s-test.true),
       l.invariant.1
-          ∙ all-step (well_placed (slot_at a.book.now) a.count) slots l.s l.s behind-loop-test.loop-test.true
-          (sym behind-mark-place.mark-place.ensures.0 ∙ placed),
-      behind-mark-place.mark-place.ensures.1 placed,
+          ∙ all-step (well_placed (slot_at a.book.now) a.count) slots l.s l.s behind-loop-test.loop-s-test.true
+          (sym behind-mark-place.mark_place.ensures.0 ∙ placed),
+      behind-mark-place.mark_place.ensures.1 placed,
     )
 
-same-length-2 : tie.Need-same-length-2 invariant-loop decreases-loop
-same-length-2 c = c.before.loop.invariant.2.size ∙ sym c.before.before.before.before.requires.2.size
+same-length-2 : tie.Need-shape_of-marks invariant-loop decreases-loop
+same-length-2 c = c.loop-s.invariant.2.size ∙ sym c.requires.2.size
 
-returns-2 : tie.Need-returns-2 invariant-loop decreases-loop
+returns-2 : tie.Need-returns invariant-loop decreases-loop
 returns-2 c =
-    let a = c.before.before.before.before.args in
-    let l = c.before.loop in
+    let a = c.args in
+    let l = c.loop-s in
     let slot = slot_at a.book.now in
-    let end : l.s ≡ slots = omega (arith, c.loop-test.false, l.invariant.0) in (
-      sym (l.invariant.1 ∙ all_end (well_placed slot a.count) slots l.s l.s c.loop-test.false),
+    let end : l.s ≡ slots = omega (arith, c.loop-s-test.false, l.invariant.0) in (
+      sym (l.invariant.1 ∙ all_end (well_placed slot a.count) slots l.s l.s c.loop-s-test.false),
       λ z. subst (λ (n : ℕ). Marked slot n l.marks) end l.invariant.2,
     )
 
-pub mark-all-spec : {M : Type 1} → statement M
-mark-all-spec =
+pub mark_all_spec : {M : Type 1} → statement M
+mark_all_spec =
     tie.close
     (tie.spec invariant-loop decreases-loop loop-holds mark-place-requires (search rules) returns (search rules) (search rules) loop-again
     same-length-2 returns-2)

@@ -18,55 +18,55 @@ insert-requires c κs =
     let behind-point-record = c.before.before.before.before in
     let start = behind-point-record.before.before.before in
     let there = view-there start.args.points.now start.args.place start.requires.1 in
-    (start.requires.0, record { view_long = ap length behind-point-record.point-record.ensures ∙ there; follower_long = refl })
+    (start.requires.0, record { view_long = ap length behind-point-record.point_record-view.ensures ∙ there; follower_long = refl })
 
-returns : tie.Need-returns
+returns : tie.Need-returns-then-needed_next-eq0
 returns c =
-    let behind-insert = c.before.before in
-    let behind-if1 = behind-insert.before.before.before in
-    let behind-needed-next = behind-if1.before in
-    let behind-point-record = behind-needed-next.before in
-    let start = behind-point-record.before.before.before in
+    let behind-insert = c in
+    let behind-if1 = behind-insert in
+    let behind-needed-next = behind-if1 in
+    let behind-point-record = behind-needed-next in
+    let start = behind-point-record in
     let a = start.args in
-    let view = behind-point-record.point-record.ensures in
-    let alone = ap needed (sym view) ∙ (sym behind-needed-next.needed-next.ensures ∙ behind-if1.if1.true) in
+    let view = behind-point-record.point_record-view.ensures in
+    let alone = ap needed (sym view) ∙ (sym behind-needed-next.needed_next.ensures ∙ behind-if1.if-needed_next-eq0.true) in
     behind-insert.insert.ensures
     ∙ ap (insertion a.book.now)
     (ap (λ (v : List ℕ). present v (zeros Point.width)) view ∙ sym (present-alone a.points.now a.place alone))
 
 insert-requires-2 : tie.Need-insert-requires-2
 insert-requires-2 c κs =
-    let behind-point-record = c.before.before.before.before in
-    let start = behind-point-record.before.before.before in
+    let behind-point-record = c in
+    let start = behind-point-record in
     let there = view-there start.args.points.now start.args.place start.requires.1 in
     let next = next-there start.args.points.now start.args.place start.requires.1 in (
       start.requires.0,
       record {
-        view_long = ap length behind-point-record.point-record.ensures ∙ there;
-        follower_long = ap length c.point-record2.ensures ∙ next;
+        view_long = ap length behind-point-record.point_record-view.ensures ∙ there;
+        follower_long = ap length c.point_record.ensures ∙ next;
       },
     )
 
-returns-2 : tie.Need-returns-2
+returns-2 : tie.Need-returns
 returns-2 c =
-    let behind-insert2 = c.before.before in
-    let behind-point-record2 = behind-insert2.before in
-    let behind-if1 = behind-point-record2.before.before in
-    let behind-needed-next = behind-if1.before in
-    let behind-point-record = behind-needed-next.before in
-    let start = behind-point-record.before.before.before in
+    let behind-insert2 = c in
+    let behind-point-record2 = behind-insert2 in
+    let behind-if1 = behind-point-record2 in
+    let behind-needed-next = behind-if1 in
+    let behind-point-record = behind-needed-next in
+    let start = behind-point-record in
     let a = start.args in
-    let view = behind-point-record.point-record.ensures in
-    let next = behind-point-record2.point-record2.ensures in
-    behind-insert2.insert2.ensures
+    let view = behind-point-record.point_record-view.ensures in
+    let next = behind-point-record2.point_record.ensures in
+    behind-insert2.insert-2.ensures
     ∙ ap (insertion a.book.now)
     (ap₂ present view next
     ∙ sym
     (present-followed a.points.now a.place
-    (λ z. behind-if1.if1.false (behind-needed-next.needed-next.ensures ∙ (ap needed view ∙ z)))))
+    (λ z. behind-if1.if-needed_next-eq0.false (behind-needed-next.needed_next.ensures ∙ (ap needed view ∙ z)))))
 
-pub insert-from-spec : {M : Type 1} → statement M
-insert-from-spec =
+pub insert_from_spec : {M : Type 1} → statement M
+insert_from_spec =
     tie.close
     (tie.spec (search rules) (search rules) (search rules) insert-requires (search rules) returns (search rules)
     (search rules) insert-requires-2 (search rules) returns-2)

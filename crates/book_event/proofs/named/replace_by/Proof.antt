@@ -18,55 +18,55 @@ replace-requires c κs =
     let behind-point-record = c.before.before.before.before in
     let start = behind-point-record.before.before.before in
     let there = view-there start.args.points.now start.args.place start.requires.1 in
-    (start.requires.0, record { view_long = ap length behind-point-record.point-record.ensures ∙ there; follower_long = refl })
+    (start.requires.0, record { view_long = ap length behind-point-record.point_record-view.ensures ∙ there; follower_long = refl })
 
-returns : tie.Need-returns
+returns : tie.Need-returns-then-needed_next-eq0
 returns c =
-    let behind-replace = c.before.before in
-    let behind-if1 = behind-replace.before.before.before in
-    let behind-needed-next = behind-if1.before in
-    let behind-point-record = behind-needed-next.before in
-    let start = behind-point-record.before.before.before in
+    let behind-replace = c in
+    let behind-if1 = behind-replace in
+    let behind-needed-next = behind-if1 in
+    let behind-point-record = behind-needed-next in
+    let start = behind-point-record in
     let a = start.args in
-    let view = behind-point-record.point-record.ensures in
-    let alone = ap needed (sym view) ∙ (sym behind-needed-next.needed-next.ensures ∙ behind-if1.if1.true) in
+    let view = behind-point-record.point_record-view.ensures in
+    let alone = ap needed (sym view) ∙ (sym behind-needed-next.needed_next.ensures ∙ behind-if1.if-needed_next-eq0.true) in
     behind-replace.replace.ensures
     ∙ ap (replacement a.book.now)
     (ap (λ (v : List ℕ). present v (zeros Point.width)) view ∙ sym (present-alone a.points.now a.place alone))
 
 replace-requires-2 : tie.Need-replace-requires-2
 replace-requires-2 c κs =
-    let behind-point-record = c.before.before.before.before in
-    let start = behind-point-record.before.before.before in
+    let behind-point-record = c in
+    let start = behind-point-record in
     let there = view-there start.args.points.now start.args.place start.requires.1 in
     let next = next-there start.args.points.now start.args.place start.requires.1 in (
       start.requires.0,
       record {
-        view_long = ap length behind-point-record.point-record.ensures ∙ there;
-        follower_long = ap length c.point-record2.ensures ∙ next;
+        view_long = ap length behind-point-record.point_record-view.ensures ∙ there;
+        follower_long = ap length c.point_record.ensures ∙ next;
       },
     )
 
-returns-2 : tie.Need-returns-2
+returns-2 : tie.Need-returns
 returns-2 c =
-    let behind-replace2 = c.before.before in
-    let behind-point-record2 = behind-replace2.before in
-    let behind-if1 = behind-point-record2.before.before in
-    let behind-needed-next = behind-if1.before in
-    let behind-point-record = behind-needed-next.before in
-    let start = behind-point-record.before.before.before in
+    let behind-replace2 = c in
+    let behind-point-record2 = behind-replace2 in
+    let behind-if1 = behind-point-record2 in
+    let behind-needed-next = behind-if1 in
+    let behind-point-record = behind-needed-next in
+    let start = behind-point-record in
     let a = start.args in
-    let view = behind-point-record.point-record.ensures in
-    let next = behind-point-record2.point-record2.ensures in
-    behind-replace2.replace2.ensures
+    let view = behind-point-record.point_record-view.ensures in
+    let next = behind-point-record2.point_record.ensures in
+    behind-replace2.replace-2.ensures
     ∙ ap (replacement a.book.now)
     (ap₂ present view next
     ∙ sym
     (present-followed a.points.now a.place
-    (λ z. behind-if1.if1.false (behind-needed-next.needed-next.ensures ∙ (ap needed view ∙ z)))))
+    (λ z. behind-if1.if-needed_next-eq0.false (behind-needed-next.needed_next.ensures ∙ (ap needed view ∙ z)))))
 
-pub replace-by-spec : {M : Type 1} → statement M
-replace-by-spec =
+pub replace_by_spec : {M : Type 1} → statement M
+replace_by_spec =
     tie.close
     (tie.spec (search rules) (search rules) (search rules) replace-requires (search rules) returns (search rules)
     (search rules) replace-requires-2 (search rules) returns-2)

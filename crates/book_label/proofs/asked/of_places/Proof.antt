@@ -8,7 +8,7 @@ use Rattle.book_label.proofs.asked.of_places.Statement.{statement}
 use Rattle.book_label.proofs.asked.of_places.Tie as tie
 
 -- once both are judged
-module _ (k : tie.After-check-source) where
+module _ (k : tie.After-check_source) where
   abbrev start : tie.Start
   start = k.before.before.before.before
 
@@ -17,29 +17,29 @@ walk-requires c κs =
     let t = c.before.before in
     let k = t.before.before in
     let a = (start k).args in
-    let taken = sym k.check-source.ensures ∙ t.enum_told.given.1 in
+    let taken = sym k.check_source.ensures ∙ t.in-Value.is in
     (book-good a.book.now a.table.now taken, table-accepted a.book.now a.table.now taken)
 
-returns : tie.Need-returns
+returns : tie.Need-returns-in-Value
 returns c =
-    let w = c.before.before in
-    let t = w.before.before.before in
+    let w = c in
+    let t = w in
     let k = t.before.before in
     let a = (start k).args in
-    let taken = sym k.check-source.ensures ∙ t.enum_told.given.1 in
+    let taken = sym k.check_source.ensures ∙ t.in-Value.is in
     w.walk.ensures
     ∙ views-shown (book_of a.book.now a.table.now) taken a.first a.count a.out.now _
     (asks-views a.book.now a.table.now taken) a.listed
 
-returns-2 : tie.Need-returns-2
+returns-2 : tie.Need-returns-in-Refused
 returns-2 c =
-    let k = c.before.before.before in
+    let k = c.before in
     let a = (start k).args in
-    views-refused (book_of a.book.now a.table.now) (sym k.check-source.ensures ∙ c.before.file.given.1)
+    views-refused (book_of a.book.now a.table.now) (sym k.check_source.ensures ∙ c.in-Refused.is)
     a.first a.count a.out.now a.listed
 
-pub of-places-spec : {M : Type 1} → statement M
-of-places-spec =
+pub of_places_spec : {M : Type 1} → statement M
+of_places_spec =
     tie.close
     (tie.spec (search rules) (search rules) (search rules) walk-requires (search rules) (search rules) returns
     returns-2)

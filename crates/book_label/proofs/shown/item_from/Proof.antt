@@ -18,17 +18,17 @@ use Rattle.book_label.proofs.Laws.{shown-none, asked-small, asked-item}
 use Rattle.book_label.proofs.shown.item_from.Statement.{statement}
 use Rattle.book_label.proofs.shown.item_from.Tie as tie
 
-returns : tie.Need-returns
+returns : tie.Need-returns-then-at-eq0
 returns c =
-    let a = c.before.before.before.before.args in
-    sym (shown-none true a.table.now a.book.now a.at a.out.now c.if1.true)
+    let a = c.args in
+    sym (shown-none true a.table.now a.book.now a.at a.out.now c.if-at-eq0.true)
 
 -- once the room for the line is found
-module _ (c : tie.After-room-before) where
-  abbrev written : tie.After-worded-line
+module _ (c : tie.After-room_before-room) where
+  abbrev written : tie.After-worded_line-line
   written = c.before.before.before
 
-  abbrev there : tie.Else1
+  abbrev there : tie.Else-at-eq0
   there = written.before.before.before
 
   abbrev start : tie.Start
@@ -37,58 +37,58 @@ module _ (c : tie.After-room-before) where
   abbrev line : List ℕ
   line = place_line (place_before start.args.book.now start.args.at)
 
-  line-is : take written.worded-line.result.len written.worded-line.result.bytes ≡ line
-  line-is = written.worded-line.ensures.is ∙ ap place_line written.before.place-before.ensures
+  line-is : take written.worded_line-line.result.len written.worded_line-line.result.bytes ≡ line
+  line-is = written.worded_line-line.ensures.is ∙ ap place_line written.place_before.ensures
 
-  room : c.room-before.result ≡ before line (length start.args.out.now)
-  room = c.room-before.ensures ∙ ap (λ (l : List ℕ). before l (length start.args.out.now)) line-is
+  room : c.room_before-room.result ≡ before line (length start.args.out.now)
+  room = c.room_before-room.ensures ∙ ap (λ (l : List ℕ). before l (length start.args.out.now)) line-is
 
-  within : c.room-before.result ≤ length start.args.out.now
+  within : c.room_before-room.result ≤ length start.args.out.now
   within = omega (arith, room, cut-within line start.args.out.now)
 
 -- once the label was asked
-module _ (l : tie.After-label-from) where
-  abbrev found : tie.After-room-before
+module _ (l : tie.After-label_from-answer) where
+  abbrev found : tie.After-room_before-room
   found = l.before.before
 
   asked : let a = (start found).args in
-      said l.label-from.result l.label-from.last.1.1.1.0
+      said l.label_from-answer.result l.label_from-answer.last.1.1.1.0
       ≡ shown_from false a.table.now a.book.now a.at
       (drop (before (line found) (length a.out.now)) a.out.now)
   asked =
       let a = (start found).args in
-      rw (lent a.out.now found.room-before.result) at l.label-from.ensures
+      rw (lent a.out.now found.room_before-room.result) at l.label_from-answer.ensures
       ∙ ap (λ (n : ℕ). shown_from false a.table.now a.book.now a.at (drop n a.out.now)) (room found)
 
-headed-item-requires : tie.Need-headed-item-requires
+headed-item-requires : tie.Need-headed_item-requires
 headed-item-requires c κs =
     let l = c.before.before.before in
     let s = start (found l) in (
-      rw (written (found l)).worded-line.ensures.is (written (found l)).worded-line.ensures.short,
+      rw (written (found l)).worded_line-line.ensures.is (written (found l)).worded_line-line.ensures.short,
       asked-small s.args.table.now s.args.book.now s.args.at s.args.out.now s.pre
-          (there (found l)).if1.left (asked l),
+          (there (found l)).if-at-eq0.left (asked l),
     )
 
-returns-2 : tie.Need-returns-2
+returns-2 : tie.Need-returns
 returns-2 c =
-    let whole = c.before.before in
+    let whole = c in
     let l = whole.before.before.before.before in
     let s = start (found l) in
     let a = s.args in
-    rw (line-is (found l)) at whole.headed-item.ensures
-    ∙ (ap (headed (line (found l)) l.label-from.result)
-    (given_back a.out.now _ (found l).room-before.result
-    ∙ ap (λ (n : ℕ). take n a.out.now ++ l.label-from.new.1.1.1.0) (room (found l)))
-    ∙ asked-item a.table.now a.book.now a.at a.out.now s.pre (there (found l)).if1.left (asked l))
+    rw (line-is (found l)) at whole.headed_item.ensures
+    ∙ (ap (headed (line (found l)) l.label_from-answer.result)
+    (given_back a.out.now _ (found l).room_before-room.result
+    ∙ ap (λ (n : ℕ). take n a.out.now ++ l.label_from-answer.new.1.1.1.0) (room (found l)))
+    ∙ asked-item a.table.now a.book.now a.at a.out.now s.pre (there (found l)).if-at-eq0.left (asked l))
 
-pub item-from-spec : {M : Type 1} → statement M
-item-from-spec =
+pub item_from_spec : {M : Type 1} → statement M
+item_from_spec =
     tie.close
     (tie.spec returns (search rules)
-    (λ c κs. let e = c.before in e.before.before.before.before.requires.inside e.if1.false)
+    (λ c κs. let e = c in e.requires.inside e.if-at-eq0.false)
     (λ c κs. search rules)
     (search rules)
-    (λ c. sym (length-take-le _ _ c.before.before.worded-line.ensures.within))
+    (λ c. sym (length-take-le _ _ c.worded_line-line.ensures.within))
     (λ c κs. search rules)
     within
     (λ c. let h = within c in search rules)

@@ -14,17 +14,17 @@ use Rattle.book_label.proofs.walk.label_among.Statement.{statement}
 use Rattle.book_label.proofs.walk.label_among.Tie as tie
 
 -- once one of them is found
-module _ (f : tie.After-start-among) where
+module _ (f : tie.After-start_among) where
   abbrev start : tie.Start
   start = f.before.before.before.before.before.before.before.before
 
   abbrev starts : List ℕ
   starts = starts_in start.args.code.now start.args.book.now
 
-  found : f.start-among.result ≡ start_among starts start.args.k
-  found = f.start-among.ensures ∙ ap (λ (l : List ℕ). start_among l start.args.k) f.before.before.before.starts-in.ensures.are
+  found : f.start_among.result ≡ start_among starts start.args.k
+  found = f.start_among.ensures ∙ ap (λ (l : List ℕ). start_among l start.args.k) f.starts_in-found.ensures.are
 
-  standing : Standing start.args.table.now start.args.book.now f.start-among.result
+  standing : Standing start.args.table.now start.args.book.now f.start_among.result
   standing =
       subst (Standing start.args.table.now start.args.book.now) (sym found)
       (record {
@@ -37,17 +37,17 @@ module _ (f : tie.After-start-among) where
 
 returns : tie.Need-returns
 returns c =
-    let l = c.before.before in
+    let l = c in
     let f = l.before.before in
     let a = (start f).args in
-    l.label-from.ensures ∙ ap (λ at. shown_from false a.table.now a.book.now at a.out.now) (found f)
+    l.label_from.ensures ∙ ap (λ at. shown_from false a.table.now a.book.now at a.out.now) (found f)
 
-pub label-among-spec : {M : Type 1} → statement M
-label-among-spec =
+pub label_among_spec : {M : Type 1} → statement M
+label_among_spec =
     tie.close
     (tie.spec (λ c κs. search rules)
-    (λ c. let h = c.before.starts-in.ensures in omega (arith, h.few, h.long))
-    (λ c. let h = c.before.before.starts-in.ensures in sym (length-take-le _ _ (omega (arith, h.few, h.long))))
+    (λ c. let h = c.starts_in-found.ensures in omega (arith, h.few, h.long))
+    (λ c. let h = c.starts_in-found.ensures in sym (length-take-le _ _ (omega (arith, h.few, h.long))))
     (λ c κs. search rules)
     (λ c κs. standing c.before)
     (search rules) returns)

@@ -18,12 +18,12 @@ use Rattle.book_label.proofs.Laws.{shown-there, shown-fits, among-within}
 use Rattle.book_label.proofs.walk.run_starts.Statement.{statement}
 use Rattle.book_label.proofs.walk.run_starts.Tie as tie
 
-abbrev invariant-loop : tie.invariant-loop
+abbrev invariant-loop : tie.invariant-loop-done
 invariant-loop table book starts listed first count out₀ k₀ at₀ done₀ out k at done =
     (k ≡ first + done)
     × (Going (shown_among listed table book starts) first count out₀ done at out × (length out ≡ length out₀))
 
-abbrev decreases-loop : tie.decreases-loop
+abbrev decreases-loop : tie.decreases-loop-done
 decreases-loop table book starts listed first count out₀ k₀ at₀ done₀ out k at done = count - done
 
 module _ (s : tie.Start invariant-loop decreases-loop) where
@@ -42,91 +42,91 @@ module _ (s : tie.Start invariant-loop decreases-loop) where
       }
 
 -- once the next is found
-module _ (f : tie.After-start-among invariant-loop decreases-loop) where
-  abbrev turn : tie.At-loop invariant-loop decreases-loop
+module _ (f : tie.After-start_among invariant-loop decreases-loop) where
+  abbrev turn : tie.At-loop-done invariant-loop decreases-loop
   turn = f.before.before
 
   abbrev start : tie.Start invariant-loop decreases-loop
   start = turn.before.before.before.before.before
 
   abbrev number : ℕ
-  number = start.args.first + turn.loop.done
+  number = start.args.first + turn.loop-done.done
 
-  found : f.start-among.result ≡ start_among start.args.starts.now number
-  found = f.start-among.ensures ∙ ap (start_among start.args.starts.now) turn.loop.inv.0
+  found : f.start_among.result ≡ start_among start.args.starts.now number
+  found = f.start_among.ensures ∙ ap (start_among start.args.starts.now) turn.loop-done.invariant.0
 
 -- what was asked, by its number
-module _ (m : tie.After-shown-behind invariant-loop decreases-loop) where
-  abbrev next : tie.After-start-among invariant-loop decreases-loop
+module _ (m : tie.After-shown_behind invariant-loop decreases-loop) where
+  abbrev next : tie.After-start_among invariant-loop decreases-loop
   next = m.before.before
 
-  asked : said m.shown-behind.result m.shown-behind.last.1.1.1.1.1.0
-      ≡ asked_behind (turn next).loop.at (turn next).loop.out (asking (start next) (number next))
+  asked : said m.shown_behind.result m.shown_behind.last.1.1.1.1.1.0
+      ≡ asked_behind (turn next).loop-done.at (turn next).loop-done.out (asking (start next) (number next))
   asked =
       let a = (start next).args in
-      m.shown-behind.ensures
+      m.shown_behind.ensures
       ∙ ap
-      (λ n. asked_behind (turn next).loop.at (turn next).loop.out (shown_from a.listed a.table.now a.book.now n))
+      (λ n. asked_behind (turn next).loop-done.at (turn next).loop-done.out (shown_from a.listed a.table.now a.book.now n))
       (found next)
 
   -- one that was shown is there, and few are
-  there : {b : ℕ} → m.shown-behind.result ≡ Value b → number next ≤ length (start next).args.starts.now
+  there : {b : ℕ} → m.shown_behind.result ≡ Value b → number next ≤ length (start next).args.starts.now
   there e =
       let a = (start next).args in
       among-within a.starts.now (number next)
       (shown-there a.listed a.table.now a.book.now (start_among a.starts.now (number next)) _ _
       (sym (answer-of (asked)) ∙ e))
 
-loop-holds : tie.Need-loop-init invariant-loop decreases-loop
+loop-holds : tie.Need-loop-done-init invariant-loop decreases-loop
 loop-holds c =
     let s = c.before.before.before.before in
     let a = s.args in
     (sym (add-zero a.first), (going_start (asking s) a.first a.count a.out.now, refl))
 
-shown-behind-requires : tie.Need-shown-behind-requires invariant-loop decreases-loop
+shown-behind-requires : tie.Need-shown_behind-requires invariant-loop decreases-loop
 shown-behind-requires c κs =
     let f = c.before in
     let a = (start f).args in
-    ((turn f).loop.invariant.1.0.within, subst (Standing a.table.now a.book.now) (sym (found f)) (standing (start f) (number f)))
+    ((turn f).loop-done.invariant.1.0.within, subst (Standing a.table.now a.book.now) (sym (found f)) (standing (start f) (number f)))
 
-add_at : tie.Need-overflow-add-at invariant-loop decreases-loop
+add_at : tie.Need-overflow_add-at invariant-loop decreases-loop
 add_at c =
-    let m = c.before.before.before.before.before in
+    let m = c.before.before.before in
     let l = turn (next m) in
     omega (
       arith,
-      going-fits l.loop.inv.1.0 (fit (start (next m))) (omega arith) (asked m) c.before.bytes.given.1,
-      m.shown-behind.auto.1.1.1.1.1.0,
-      l.loop.inv.1.1,
+      going-fits l.loop-done.invariant.1.0 (fit (start (next m))) (omega arith) (asked m) c.in-Value.is,
+      m.shown_behind.auto.1.1.1.1.1.0,
+      l.loop-done.invariant.1.1,
       (start (next m)).good.1.1.1.1.1.1.0.0,
     )
 
-returns : tie.Need-returns invariant-loop decreases-loop
+returns : tie.Need-returns-in-Refused invariant-loop decreases-loop
 returns c =
-    let m = c.before.before.before.before.before in
-    going-stop (turn (next m)).loop.inv.1.0 (fit (start (next m))) (omega arith) (asked m) c.before.reason.given.1
+    let m = c.before.before.before in
+    going-stop (turn (next m)).loop-done.invariant.1.0 (fit (start (next m))) (omega arith) (asked m) c.in-Refused.is
 
-add-k : tie.Need-overflow-add-k invariant-loop decreases-loop
+add-k : tie.Need-overflow_add-k invariant-loop decreases-loop
 add-k c =
-    let m = c.before.before.before.before.before in
-    omega (arith, there m c.before.bytes.given.1, (turn (next m)).loop.inv.0, (start (next m)).good.1.1.0.1)
+    let m = c.before.before.before in
+    omega (arith, there m c.in-Value.is, (turn (next m)).loop-done.invariant.0, (start (next m)).good.1.1.0.1)
 
-loop-again : tie.Need-loop-preserved invariant-loop decreases-loop
+loop-again : tie.Need-loop-done-preserved invariant-loop decreases-loop
 loop-again c =
-    let m = c.before.before.before.before.before in
+    let m = c.before.before.before in
     let l = turn (next m) in (
-      omega (arith, l.loop.inv.0),
+      omega (arith, l.loop-done.invariant.0),
       (
-        going_step l.loop.inv.1.0 (fit (start (next m))) (omega arith) (asked m) c.before.bytes.given.1,
-        m.shown-behind.auto.1.1.1.1.1.0 ∙ l.loop.inv.1.1,
+        going_step l.loop-done.invariant.1.0 (fit (start (next m))) (omega arith) (asked m) c.in-Value.is,
+        m.shown_behind.auto.1.1.1.1.1.0 ∙ l.loop-done.invariant.1.1,
       ),
     )
 
-returns-2 : tie.Need-returns-2 invariant-loop decreases-loop
-returns-2 c = going_end c.before.loop.invariant.1.0 (omega arith)
+returns-2 : tie.Need-returns invariant-loop decreases-loop
+returns-2 c = going_end c.loop-done.invariant.1.0 (omega arith)
 
-pub run-starts-spec : {M : Type 1} → statement M
-run-starts-spec =
+pub run_starts_spec : {M : Type 1} → statement M
+run_starts_spec =
     tie.close
     (tie.spec invariant-loop decreases-loop loop-holds (λ c κs. search rules) shown-behind-requires (search rules) add_at (search rules)
     (search rules) returns add-k (search rules) (search rules) loop-again (search rules) returns-2)

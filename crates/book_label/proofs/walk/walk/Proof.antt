@@ -14,33 +14,33 @@ use Rattle.book_label.proofs.walk.walk.Statement.{statement}
 use Rattle.book_label.proofs.walk.walk.Tie as tie
 
 -- once the starts are found
-module _ (f : tie.After-starts-in) where
+module _ (f : tie.After-starts_in-found) where
   abbrev start : tie.Start
   start = f.before.before.before.before.before
 
-run-starts-requires : tie.Need-run-starts-requires
+run-starts-requires : tie.Need-run_starts-requires
 run-starts-requires c κs =
     let f = c.before.before.before in
     let a = (start f).args in (
-      subst (AllInside a.book.now) (sym f.starts-in.ensures.are)
+      subst (AllInside a.book.now) (sym f.starts_in-found.ensures.are)
           (starts-inside a.book.now (book-facts a.book.now (start f).requires.0) a.code.now),
       (start f).requires.1,
     )
 
 returns : tie.Need-returns
 returns c =
-    let w = c.before.before in
+    let w = c in
     let f = w.before.before.before.before in
     let a = (start f).args in
-    w.run-starts.ensures
+    w.run_starts.ensures
     ∙ ap
     (λ (l : List ℕ). run_from (shown_among a.listed a.table.now a.book.now l) a.first a.count a.out.now)
-    f.starts-in.ensures.are
+    f.starts_in-found.ensures.are
 
-pub walk-spec : {M : Type 1} → statement M
-walk-spec =
+pub walk_spec : {M : Type 1} → statement M
+walk_spec =
     tie.close
     (tie.spec (λ c κs. search rules)
-    (λ c. let h = c.before.starts-in.ensures in omega (arith, h.few, h.long))
-    (λ c. let h = c.before.before.starts-in.ensures in sym (length-take-le _ _ (omega (arith, h.few, h.long))))
+    (λ c. let h = c.starts_in-found.ensures in omega (arith, h.few, h.long))
+    (λ c. let h = c.starts_in-found.ensures in sym (length-take-le _ _ (omega (arith, h.few, h.long))))
     run-starts-requires (search rules) returns)

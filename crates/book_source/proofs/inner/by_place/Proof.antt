@@ -13,63 +13,63 @@ use Rattle.book_source.proofs.Places.{TakenFrom, take_none, take-one}
 use Rattle.book_source.proofs.inner.by_place.Statement.{statement}
 use Rattle.book_source.proofs.inner.by_place.Tie as tie
 
-abbrev invariant-loop : tie.invariant-loop
+abbrev invariant-loop : tie.invariant-loop-s
 invariant-loop book starts₀ s₀ starts s = (s ≤ slots) × ((length starts ≡ slots) × TakenFrom (slot_at book) s starts)
 
-abbrev decreases-loop : tie.decreases-loop
+abbrev decreases-loop : tie.decreases-loop-s
 decreases-loop book starts₀ s₀ starts s = s
 
-loop-holds : tie.Need-loop-init invariant-loop decreases-loop
+loop-holds : tie.Need-loop-s-init invariant-loop decreases-loop
 loop-holds c = (omega arith, (refl, λ p h k. absurd (omega arith)))
 
 -- once the place of the slot before is read
-module _ (r : tie.After-place-in invariant-loop decreases-loop) where
-  abbrev loop : tie.At-loop invariant-loop decreases-loop
+module _ (r : tie.After-place_in-place invariant-loop decreases-loop) where
+  abbrev loop : tie.At-loop-s invariant-loop decreases-loop
   loop = r.before.before
 
   abbrev book : List ℕ
-  book = loop.before.before.args.book.now
+  book = loop.args.book.now
 
   facts : BookFacts book
-  facts = book-facts book loop.before.before.pre
+  facts = book-facts book loop.pre
 
-  low : loop.loop.s - 1 < slots
-  low = omega (arith, loop.loop.inv.0)
+  low : loop.loop-s.s - 1 < slots
+  low = omega (arith, loop.loop-s.invariant.0)
 
   within : r.IsPlace-in.result ≤ slots
-  within = omega (arith, r.IsPlace-in.ensures.0, facts.good.placed (loop.loop.s - 1) low, facts.few)
+  within = omega (arith, r.IsPlace-in.ensures.0, facts.good.placed (loop.loop-s.s - 1) low, facts.few)
 
-  taken : TakenFrom (slot_at book) (suc (loop.loop.s - 1)) loop.loop.starts
+  taken : TakenFrom (slot_at book) (suc (loop.loop-s.s - 1)) loop.loop-s.starts
   taken =
-      let same : loop.loop.s ≡ suc (loop.loop.s - 1) = omega arith in
-      subst (λ n. TakenFrom (slot_at book) n loop.loop.starts) same loop.loop.inv.1.1
+      let same : loop.loop-s.s ≡ suc (loop.loop-s.s - 1) = omega arith in
+      subst (λ n. TakenFrom (slot_at book) n loop.loop-s.starts) same loop.loop-s.invariant.1.1
 
-place-in-requires : tie.Need-place-in-requires invariant-loop decreases-loop
+place-in-requires : tie.Need-place_in-place-requires invariant-loop decreases-loop
 place-in-requires c κs =
-    let l = c.before in
-    ((book-facts l.before.before.args.book.now l.before.before.requires).long, omega (arith, l.loop.invariant.0))
+    let l = c in
+    ((book-facts l.args.book.now l.requires).long, omega (arith, l.loop-s.invariant.0))
 
-loop-again : tie.Need-loop-preserved invariant-loop decreases-loop
+loop-again : tie.Need-loop-s-preserved-then-place-ne0 invariant-loop decreases-loop
 loop-again c =
     let r = c.before in
-    let starts = (loop r).loop.starts in
+    let starts = (loop r).loop-s.starts in
     let q = r.IsPlace-in.result - 1 in
-    let place : place_of (slot_at (book r) ((loop r).loop.s - 1)) ≡ suc q = sym r.IsPlace-in.ensures.0 ∙ omega arith in (
-      omega (arith, (loop r).loop.invariant.0),
+    let place : place_of (slot_at (book r) ((loop r).loop-s.s - 1)) ≡ suc q = sym r.IsPlace-in.ensures.0 ∙ omega arith in (
+      omega (arith, (loop r).loop-s.invariant.0),
       (
-        length-set starts q _ ∙ (loop r).loop.invariant.1.0,
-        take-one (slot_at (book r)) ((loop r).loop.s - 1) (low r) starts q (omega (arith, within r, (loop r).loop.invariant.1.0))
+        length-set starts q _ ∙ (loop r).loop-s.invariant.1.0,
+        take-one (slot_at (book r)) ((loop r).loop-s.s - 1) (low r) starts q (omega (arith, within r, (loop r).loop-s.invariant.1.0))
             place (taken r),
       ),
     )
 
-loop-again-2 : tie.Need-loop-preserved-2 invariant-loop decreases-loop
+loop-again-2 : tie.Need-loop-s-preserved invariant-loop decreases-loop
 loop-again-2 c =
     let r = c.before in (
-      omega (arith, (loop r).loop.invariant.0),
+      omega (arith, (loop r).loop-s.invariant.0),
       (
-        (loop r).loop.invariant.1.0,
-        take_none (slot_at (book r)) ((loop r).loop.s - 1) (low r) (loop r).loop.starts
+        (loop r).loop-s.invariant.1.0,
+        take_none (slot_at (book r)) ((loop r).loop-s.s - 1) (low r) (loop r).loop-s.starts
             (λ p h e. omega (arith, r.IsPlace-in.ensures.0, e)) (taken r),
       ),
     )
@@ -77,12 +77,12 @@ loop-again-2 c =
 returns : tie.Need-returns invariant-loop decreases-loop
 unfolding holder
 returns c p h k =
-    let l = c.before in
-    let none : l.loop.s ≡ 0 = omega arith in
-    subst (λ n. TakenFrom (slot_at l.before.before.args.book.now) n l.loop.starts) none l.loop.invariant.1.1 p h k
+    let l = c in
+    let none : l.loop-s.s ≡ 0 = omega arith in
+    subst (λ n. TakenFrom (slot_at l.args.book.now) n l.loop-s.starts) none l.loop-s.invariant.1.1 p h k
 
-pub by-place-spec : {M : Type 1} → statement M
-by-place-spec =
+pub by_place_spec : {M : Type 1} → statement M
+by_place_spec =
     tie.close
     (tie.spec invariant-loop decreases-loop loop-holds (search rules) place-in-requires
     (λ c. let h = low c.before in let k = within c.before in search rules)

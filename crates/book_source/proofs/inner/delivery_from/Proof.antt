@@ -13,16 +13,16 @@ use Rattle.book_source.proofs.inner.delivery_from.Statement.{statement}
 use Rattle.book_source.proofs.inner.delivery_from.Tie as tie
 
 -- once the records are read: their texts lie within the book
-module _ (d : tie.After-delivery-at) where
+module _ (d : tie.After-delivery_at-p) where
   abbrev start : tie.Start
   start = d.before.before.before
 
   abbrev book : List ℕ
   book = start.args.book.now
 
-  within : Within book (shifted start.args.at d.delivery-at.result)
+  within : Within book (shifted start.args.at d.delivery_at-p.result)
   within =
-      subst (λ (p : DeliveryPoint). Within book (shifted start.args.at p)) (sym d.delivery-at.ensures)
+      subst (λ (p : DeliveryPoint). Within book (shifted start.args.at p)) (sym d.delivery_at-p.ensures)
       (within-moved book start.args.at start.pre (delivery_at (records_at book start.args.at) 0)
       (within-at (records_at book start.args.at) 0 (two book start.args.at start.pre)))
 
@@ -30,10 +30,10 @@ returns : tie.Need-returns
 unfolding delivery_from
 returns c =
     let d = c.before.before.before.before.before in
-    ap (shifted (start d).args.at) d.delivery-at.ensures
+    ap (shifted (start d).args.at) d.delivery_at-p.ensures
 
-pub delivery-from-spec : {M : Type 1} → statement M
-delivery-from-spec = tie.close (tie.spec (search rules) (search rules) (search rules) (search rules) (search rules)
+pub delivery_from_spec : {M : Type 1} → statement M
+delivery_from_spec = tie.close (tie.spec (search rules) (search rules) (search rules) (search rules) (search rules)
     (λ c. let h = (within c.before.before).postcode in let k = (start c.before.before).good in search rules)
     (λ c. let h = (within c.before.before.before).suffix in let k = (start c.before.before.before).good in search rules)
     (λ c. let h = (within c.before.before.before.before).box in let k = (start c.before.before.before.before).good in search rules)

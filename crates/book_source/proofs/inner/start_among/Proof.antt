@@ -19,20 +19,20 @@ one-there : (starts : List ℕ) (k : ℕ) → (k ≡ 0 → ⊥) → get_or start
 one-there starts zero some = absurd (some refl)
 one-there starts (suc k) some = ap (λ i. get_or starts i 0) (let z : suc k - 1 ≡ k = omega arith in z)
 
-returns : tie.Need-returns
-returns c = none-at c.before.args.starts.now c.before.args.k c.if1.true
+returns : tie.Need-returns-then-k-eq0
+returns c = none-at c.args.starts.now c.args.k c.if-k-eq0.true
 
-returns-2 : tie.Need-returns-2
+returns-2 : tie.Need-returns-then-starts-k
 returns-2 c =
-    none-behind c.before.before.args.starts.now c.before.before.args.k (omega arith)
+    none-behind c.args.starts.now c.args.k (omega arith)
 
-cast-result : tie.Need-overflow-cast-result
-cast-result c = omega (arith, c.shared-slice-known.given (c.before.before.before.args.k - 1))
+cast-result : tie.Need-overflow_cast-result
+cast-result c = omega (arith, c.shared_slice_known-1.given (c.args.k - 1))
 
-returns-3 : tie.Need-returns-3
+returns-3 : tie.Need-returns
 returns-3 c =
-    one-there c.before.before.before.args.starts.now c.before.before.before.args.k
-    c.before.before.if1.false
+    one-there c.args.starts.now c.args.k
+    c.if-k-eq0.false
 
-pub start-among-spec : {M : Type 1} → statement M
-start-among-spec = tie.close (tie.spec returns returns-2 (search rules) (search rules) (search rules) cast-result returns-3)
+pub start_among_spec : {M : Type 1} → statement M
+start_among_spec = tie.close (tie.spec returns returns-2 (search rules) (search rules) (search rules) cast-result returns-3)

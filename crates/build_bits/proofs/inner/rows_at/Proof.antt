@@ -18,23 +18,23 @@ use Rattle.build_bits.proofs.Walks.{row-left, first-left, first_some, next-left,
 use Rattle.build_bits.proofs.inner.rows_at.Statement.{statement}
 use Rattle.build_bits.proofs.inner.rows_at.Tie as tie
 
-abbrev invariant-loop : tie.invariant-loop
+abbrev invariant-loop : tie.invariant-loop-i
 invariant-loop file s bits at out₀ last end₀ i₀ out end i =
     (length out ≡ length out₀)
     × (i < last → (1 ≤ i) × (is_marked (shelf_marks s file bits) i ≡ true))
     × Going (used_rows (stock_of s file) (shelf_marks s file bits)) (rows_left (stock_of s file) (shelf_marks s file bits) i) out₀ at
     end out
 
-abbrev decreases-loop : tie.decreases-loop
+abbrev decreases-loop : tie.decreases-loop-i
 decreases-loop file s bits at out₀ last end₀ i₀ out end i = last - i
 
-loop-holds : tie.Need-loop-init invariant-loop decreases-loop
+loop-holds : tie.Need-loop-i-init invariant-loop decreases-loop
 loop-holds c =
-    let last = c.before.last_of.ensures in
-    let a = c.before.before.before.before.before.args in
+    let last = c.last_of-last.ensures in
+    let a = c.args in
     let st = stock_of a.s a.file.now in
     let bits = a.bits.now in
-    rw (c.next-marked.ensures ∙ ap (next_marked bits 1) last) (
+    rw (c.next_marked-i.ensures ∙ ap (next_marked bits 1) last) (
       refl,
       (λ h. first_some st bits (omega (arith, h, last))),
       going-as (first-left st bits)
@@ -42,8 +42,8 @@ loop-holds c =
     )
 
 -- in a turn: row `i` is marked
-module _ (c : tie.In-loop invariant-loop decreases-loop) where
-  abbrev at-loop : tie.At-loop invariant-loop decreases-loop
+module _ (c : tie.In-loop-i invariant-loop decreases-loop) where
+  abbrev at-loop : tie.At-loop-i invariant-loop decreases-loop
   at-loop = c.before
 
   abbrev start : tie.Start invariant-loop decreases-loop
@@ -55,47 +55,47 @@ module _ (c : tie.In-loop invariant-loop decreases-loop) where
   abbrev marks : List ℕ
   marks = shelf_marks start.args.s start.args.file.now start.args.bits.now
 
-  below : at-loop.loop.i < st.last
-  below = omega (arith, c.loop-test.true, at-loop.before.before.last_of.ensures)
+  below : at-loop.loop-i.i < st.last
+  below = omega (arith, c.loop-i-test.true, at-loop.last_of-last.ensures)
 
-  left : Going (used_rows st marks) (row_bytes_at st at-loop.loop.i ++ rows_left st marks (at-loop.loop.i + 1))
-      start.args.out.now start.args.at at-loop.loop.end at-loop.loop.out
+  left : Going (used_rows st marks) (row_bytes_at st at-loop.loop-i.i ++ rows_left st marks (at-loop.loop-i.i + 1))
+      start.args.out.now start.args.at at-loop.loop-i.end at-loop.loop-i.out
   left =
       going-as
-      (row-left st start.args.bits.now at-loop.loop.i below (at-loop.loop.inv.1 c.loop-test.true).1)
-      at-loop.loop.inv.2
+      (row-left st start.args.bits.now at-loop.loop-i.i below (at-loop.loop-i.invariant.1 c.loop-i-test.true).1)
+      at-loop.loop-i.invariant.2
 
-row-at-requires : tie.Need-row-at-requires invariant-loop decreases-loop
+row-at-requires : tie.Need-row_at-end-requires invariant-loop decreases-loop
 row-at-requires c κs =
     let t = c.before in
-    let i = (at-loop t).loop.i in
+    let i = (at-loop t).loop-i.i in
     ((start t).requires.0, going-room (row_bytes_at (st t) i) (rows_left (st t) (marks t) (i + 1)) (left t) (start t).requires.1)
 
-loop-less : tie.Need-loop-smaller invariant-loop decreases-loop
+loop-less : tie.Need-loop-i-smaller invariant-loop decreases-loop
 loop-less c =
     let t = c.before.before.before.before.before in
-    let last = (at-loop t).before.before.last_of.ensures in
+    let last = (at-loop t).last_of-last.ensures in
     let bits = (start t).args.bits.now in
-    let i = (at-loop t).loop.i in
+    let i = (at-loop t).loop-i.i in
     omega (
       arith,
-      t.loop-test.true,
-      c.next-marked2.ensures ∙ ap (next_marked bits (i + 1)) last,
+      t.loop-i-test.true,
+      c.next_marked-i-in-loop-i.ensures ∙ ap (next_marked bits (i + 1)) last,
       next_low (st t) bits (i + 1) (st t).last (omega (arith, below t)) (omega arith),
     )
 
-loop-again : tie.Need-loop-preserved invariant-loop decreases-loop
+loop-again : tie.Need-loop-i-preserved invariant-loop decreases-loop
 loop-again c =
     let t = c.before.before.before.before.before in
-    let row = c.before.before.before.row_at in
-    let last = (at-loop t).before.before.last_of.ensures in
+    let row = c.row_at-end in
+    let last = (at-loop t).last_of-last.ensures in
     let bits = (start t).args.bits.now in
-    let i = (at-loop t).loop.i in
+    let i = (at-loop t).loop-i.i in
     let more : i + 1 ≤ (st t).last = omega (arith, below t) in
     let all : (st t).last ≤ (st t).last = omega arith in
     let low = next_low (st t) bits (i + 1) (st t).last more all in
-    rw (c.next-marked2.ensures ∙ ap (next_marked bits (i + 1)) last) (
-      row.auto.1.1.1.1.0 ∙ (at-loop t).loop.invariant.0,
+    rw (c.next_marked-i-in-loop-i.ensures ∙ ap (next_marked bits (i + 1)) last) (
+      row.auto.1.1.1.1.0 ∙ (at-loop t).loop-i.invariant.0,
       (λ h. (omega (arith, low), next-marked (st t) bits (i + 1) (st t).last more all (omega (arith, h, last)))),
       going-as (next-left (st t) bits (i + 1) (st t).last more all (omega arith))
           (going_step (rows_left (st t) (marks t) (i + 1)) (left t) row.ensures (start t).requires.1),
@@ -103,17 +103,17 @@ loop-again c =
 
 returns : tie.Need-returns invariant-loop decreases-loop
 returns c =
-    let l = c.before in
-    let last = l.before.before.last_of.ensures in
-    let a = l.before.before.before.before.before.before.args in
+    let l = c in
+    let last = l.last_of-last.ensures in
+    let a = l.args in
     going_end
     (going-as
-    (rows_end (stock_of a.s a.file.now) (shelf_marks a.s a.file.now a.bits.now) l.loop.i
-    (omega (arith, c.loop-test.false, last)))
-    l.loop.invariant.2)
+    (rows_end (stock_of a.s a.file.now) (shelf_marks a.s a.file.now a.bits.now) l.loop-i.i
+    (omega (arith, c.loop-i-test.false, last)))
+    l.loop-i.invariant.2)
 
-pub rows-at-spec : {M : Type 1} → statement M
-rows-at-spec =
+pub rows_at_spec : {M : Type 1} → statement M
+rows_at_spec =
     tie.close
     (tie.spec invariant-loop decreases-loop (search rules) (search rules) loop-holds row-at-requires (search rules) (search rules)
     loop-less loop-again (search rules) returns)

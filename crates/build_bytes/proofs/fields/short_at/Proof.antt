@@ -7,10 +7,10 @@ use Rattle.build_bytes.proofs.fields.short_at.Tie as tie
 
 returns : tie.Need-returns
 returns c =
-    let behind-byte-at2 = c.before.before in
-    let behind-byte-at = behind-byte-at2.before.before.before.before in
-    let s = behind-byte-at.before.before.before in
-    put_as (short-is s.args.n) (put_then behind-byte-at.byte_at.ensures behind-byte-at2.byte-at2.ensures s.requires)
+    let behind-byte-at2 = c in
+    let behind-byte-at = behind-byte-at2 in
+    let s = behind-byte-at in
+    put_as (short-is s.args.n) (put_then behind-byte-at.byte_at-i.ensures behind-byte-at2.byte_at.ensures s.requires)
 
-pub short-at-spec : {M : Type 1} → statement M
-short-at-spec = tie.close (tie.spec (search rules) (search rules) (search rules) (search rules) (search rules) returns)
+pub short_at_spec : {M : Type 1} → statement M
+short_at_spec = tie.close (tie.spec (search rules) (search rules) (search rules) (search rules) (search rules) returns)

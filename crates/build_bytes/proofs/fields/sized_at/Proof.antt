@@ -6,9 +6,9 @@ use Rattle.build_bytes.proofs.fields.sized_at.Tie as tie
 
 returns : tie.Need-returns
 returns c =
-    let behind-bytes-at = c.before.before in
-    let behind-byte-at = behind-bytes-at.before.before.before.before in
-    put_then behind-byte-at.byte_at.ensures behind-bytes-at.bytes-at.ensures behind-byte-at.before.before.before.before.requires.1
+    let behind-bytes-at = c in
+    let behind-byte-at = behind-bytes-at in
+    put_then behind-byte-at.byte_at-i.ensures behind-bytes-at.bytes_at.ensures behind-byte-at.requires.1
 
-pub sized-at-spec : {M : Type 1} → statement M
-sized-at-spec = tie.close (tie.spec (search rules) (search rules) (search rules) (search rules) returns)
+pub sized_at_spec : {M : Type 1} → statement M
+sized_at_spec = tie.close (tie.spec (search rules) (search rules) (search rules) (search rules) returns)

@@ -8,19 +8,19 @@ use Rattle.build.specs.Bytes.{sized}
 use Rattle.build_bytes.proofs.fields.text_at.Statement.{statement}
 use Rattle.build_bytes.proofs.fields.text_at.Tie as tie
 
-sized-at-requires : tie.Need-sized-at-requires
+sized-at-requires : tie.Need-sized_at-requires
 sized-at-requires c κs =
     let behind-read-text = c.before in
     let s = behind-read-text.before.before.before in
     let a = s.args in
-    rw behind-read-text.read-text.ensures
+    rw behind-read-text.read_text-t.ensures
     (omega (arith, text_in-bound a.rec.now a.start a.end, s.requires.0), s.requires.1)
 
 returns : tie.Need-returns
 returns c =
-    let behind-sized-at = c.before.before in
-    let behind-read-text = behind-sized-at.before.before in
-    put_as (ap sized behind-read-text.read-text.ensures) behind-sized-at.sized-at.ensures
+    let behind-sized-at = c in
+    let behind-read-text = behind-sized-at in
+    put_as (ap sized behind-read-text.read_text-t.ensures) behind-sized-at.sized_at.ensures
 
-pub text-at-spec : {M : Type 1} → statement M
-text-at-spec = tie.close (tie.spec (search rules) sized-at-requires (search rules) returns)
+pub text_at_spec : {M : Type 1} → statement M
+text_at_spec = tie.close (tie.spec (search rules) sized-at-requires (search rules) returns)

@@ -7,10 +7,10 @@ use Rattle.build_bytes.proofs.fields.word_at.Tie as tie
 
 returns : tie.Need-returns
 returns c =
-    let behind-short-at2 = c.before.before in
-    let behind-short-at = behind-short-at2.before.before.before.before in
-    let s = behind-short-at.before.before.before in
-    put_as (word-is s.args.n) (put_then behind-short-at.short-at.ensures behind-short-at2.short-at2.ensures s.requires)
+    let behind-short-at2 = c in
+    let behind-short-at = behind-short-at2 in
+    let s = behind-short-at in
+    put_as (word-is s.args.n) (put_then behind-short-at.short_at-i.ensures behind-short-at2.short_at.ensures s.requires)
 
-pub word-at-spec : {M : Type 1} → statement M
-word-at-spec = tie.close (tie.spec (search rules) (search rules) (search rules) returns)
+pub word_at_spec : {M : Type 1} → statement M
+word_at_spec = tie.close (tie.spec (search rules) (search rules) (search rules) returns)

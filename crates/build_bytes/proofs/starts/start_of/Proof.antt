@@ -6,11 +6,11 @@ use lib.ListN.{get_or-eq_default}
 use Rattle.build_bytes.proofs.starts.start_of.Statement.{statement}
 use Rattle.build_bytes.proofs.starts.start_of.Tie as tie
 
-cast-result : tie.Need-overflow-cast-result
-cast-result c = omega (arith, c.shared-slice-known.given c.before.before.args.i)
+cast-result : tie.Need-overflow_cast-result
+cast-result c = omega (arith, c.shared_slice_known-1.given c.args.i)
 
-returns-2 : tie.Need-returns-2
-returns-2 c = sym (get_or-eq_default c.before.args.starts.now 0 {n = c.before.args.i} c.if1.false)
+returns-2 : tie.Need-returns-else-i-starts
+returns-2 c = sym (get_or-eq_default c.args.starts.now 0 {n = c.args.i} c.if-i-starts.false)
 
-pub start-of-spec : {M : Type 1} → statement M
-start-of-spec = tie.close (tie.spec (search rules) (search rules) cast-result (search rules) returns-2)
+pub start_of_spec : {M : Type 1} → statement M
+start_of_spec = tie.close (tie.spec (search rules) (search rules) cast-result (search rules) returns-2)

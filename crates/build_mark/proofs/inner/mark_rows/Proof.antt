@@ -11,60 +11,60 @@ use Rattle.build_mark.proofs.Rows.{mark-step, mark-none, mark-one, mark-length, 
 use Rattle.build_mark.proofs.inner.mark_rows.Statement.{statement}
 use Rattle.build_mark.proofs.inner.mark_rows.Tie as tie
 
-abbrev invariant-loop : tie.invariant-loop
+abbrev invariant-loop : tie.invariant-loop-i
 invariant-loop marks₀ rows i₀ marks i =
     (i ≤ 7) × (length marks ≡ length marks₀) × (mark_rows rows marks₀ ≡ mark_rows (drop i rows) marks)
 
-abbrev decreases-loop : tie.decreases-loop
+abbrev decreases-loop : tie.decreases-loop-i
 decreases-loop marks₀ rows i₀ marks i = 7 - i
 
-seven-rows : (s : tie.Start invariant-loop decreases-loop) → length s.args.t1 ≡ 7
+seven-rows : (s : tie.Start invariant-loop decreases-loop) → length s.args.rows ≡ 7
 seven-rows s = s.well_formed.0.1.0.1
 
-loop-holds : tie.Need-loop-init invariant-loop decreases-loop
+loop-holds : tie.Need-loop-i-init invariant-loop decreases-loop
 loop-holds c = (omega arith, refl, refl)
 
-mul-marks : tie.Need-overflow-mul-marks invariant-loop decreases-loop
+mul-marks : tie.Need-offset_bounds-marks-row invariant-loop decreases-loop
 mul-marks c =
-    let l = c.before.before in
+    let l = c in
     let s = l.before in
-    let seven : length s.args.t1 ≡ 7 = seven-rows s in
-    omega (arith, below_at (length s.args.marks.now) s.args.t1 s.requires l.loop.i (omega arith))
+    let seven : length s.args.rows ≡ 7 = seven-rows s in
+    omega (arith, below_at (length s.args.marks.now) s.args.rows s.requires l.loop-i.i (omega arith))
 
-slice-write-marks : tie.Need-slice-write-marks invariant-loop decreases-loop
+slice-write-marks : tie.Need-bounds-marks-row invariant-loop decreases-loop
 slice-write-marks c =
-    let l = c.before.before in
+    let l = c in
     let s = l.before in
-    let seven : length s.args.t1 ≡ 7 = seven-rows s in
-    omega (arith, below_at (length s.args.marks.now) s.args.t1 s.requires l.loop.i (omega arith))
+    let seven : length s.args.rows ≡ 7 = seven-rows s in
+    omega (arith, below_at (length s.args.marks.now) s.args.rows s.requires l.loop-i.i (omega arith))
 
-loop-again : tie.Need-loop-preserved invariant-loop decreases-loop
+loop-again : tie.Need-loop-i-preserved invariant-loop decreases-loop
 loop-again c =
-    let l = c.before.before in
+    let l = c in
     let s = l.before in
-    let i = l.loop.i in
-    let rows = s.args.t1 in
+    let i = l.loop-i.i in
+    let rows = s.args.rows in
     let seven : length rows ≡ 7 = seven-rows s in
-    let step = l.loop.invariant.2 ∙ mark-step rows l.loop.marks i (omega arith) in
-    let next : c.if1.marks ≡ mark_row (get_or rows i 0) l.loop.marks =
-    ⊎_elim (λ t. t.1 ∙ sym (mark-one l.loop.marks (get_or rows i 0) t.0.taken))
-    (λ t. t.1 ∙ sym (mark-none l.loop.marks (get_or rows i 0) t.0.left))
-    c.if1.branch in (
+    let step = l.loop-i.invariant.2 ∙ mark-step rows l.loop-i.marks i (omega arith) in
+    let next : c.if-row-ne0.marks ≡ mark_row (get_or rows i 0) l.loop-i.marks =
+    ⊎_elim (λ t. t.1 ∙ sym (mark-one l.loop-i.marks (get_or rows i 0) t.0.taken))
+    (λ t. t.1 ∙ sym (mark-none l.loop-i.marks (get_or rows i 0) t.0.left))
+    c.if-row-ne0.branch in (
       omega arith,
-      ap length next ∙ (mark-length l.loop.marks (get_or rows i 0) ∙ l.loop.invariant.1),
+      ap length next ∙ (mark-length l.loop-i.marks (get_or rows i 0) ∙ l.loop-i.invariant.1),
       step ∙ ap (mark_rows (drop (i + 1) rows)) (sym next),
     )
 
 returns : tie.Need-returns invariant-loop decreases-loop
 returns c =
-    let l = c.before in
+    let l = c in
     let s = l.before in
-    let rows = s.args.t1 in
+    let rows = s.args.rows in
     let seven : length rows ≡ 7 = seven-rows s in
-    sym (l.loop.invariant.2 ∙ mark-end rows l.loop.marks l.loop.i (omega arith))
+    sym (l.loop-i.invariant.2 ∙ mark-end rows l.loop-i.marks l.loop-i.i (omega arith))
 
-pub mark-rows-spec : {M : Type 1} → statement M
-mark-rows-spec =
+pub mark_rows_spec : {M : Type 1} → statement M
+mark_rows_spec =
     tie.close
     (tie.spec invariant-loop decreases-loop loop-holds (search rules) (search rules) mul-marks slice-write-marks (search rules)
     (search rules) loop-again (search rules) returns)

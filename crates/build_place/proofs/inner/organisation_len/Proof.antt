@@ -8,23 +8,23 @@ use Rattle.build.proofs.Laws.{no-organisation, an-organisation}
 use Rattle.build_place.proofs.inner.organisation_len.Statement.{statement}
 use Rattle.build_place.proofs.inner.organisation_len.Tie as tie
 
-returns : tie.Need-returns
+returns : tie.Need-returns-then-not-there
 returns c =
-    let a = c.before.before.args in
-    (ap length (no-organisation a.others.now a.there a.at (not-true _ c.if1.true)), omega arith)
+    let a = c.args in
+    (ap length (no-organisation a.others.now a.there a.at (c.if-not-there.true)), omega arith)
 
-returns-2 : tie.Need-returns-2
+returns-2 : tie.Need-returns
 returns-2 c =
-    let name = c.before in
-    let at-if = name.before in
-    let a = at-if.before.before.args in
-    let whole = an-organisation a.others.now a.there a.at (not-false _ at-if.if1.false) in
-    let n = name.text-len.ensures in
-    let d = c.text-len2.ensures in
+    let name = c in
+    let at-if = name in
+    let a = at-if.args in
+    let whole = an-organisation a.others.now a.there a.at (at-if.if-not-there.false) in
+    let n = name.text_len-name.ensures in
+    let d = c.text_len-department.ensures in
     (omega (arith, whole, n.0, d.0), omega (arith, n.1, d.1))
 
-pub organisation-len-spec : {M : Type 1} → statement M
-organisation-len-spec =
+pub organisation_len_spec : {M : Type 1} → statement M
+organisation_len_spec =
     tie.close
     (tie.spec returns (search rules) (search rules) (search rules) (search rules) (search rules) (search rules)
     (search rules) returns-2)

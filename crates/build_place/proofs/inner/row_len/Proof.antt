@@ -12,22 +12,22 @@ use Rattle.build.proofs.Laws.{row-of-three, row-of-one}
 use Rattle.build_place.proofs.inner.row_len.Statement.{statement}
 use Rattle.build_place.proofs.inner.row_len.Tie as tie
 
-returns : tie.Need-returns
+returns : tie.Need-returns-then-kind-eq1
 returns c =
-    let behind-text-len2 = c.before.before.before in
-    let behind-text-len = behind-text-len2.before.before.before in
-    let at-if = behind-text-len.before.before in
-    let ref = at-if.before.ref-at.ensures in
-    let rec = at-if.before.before.record_of in
-    let a = at-if.before.before.before.before.args in
-    let kind = sym (ap kind_of ref.0) ∙ at-if.if1.true in
+    let behind-text-len2 = c in
+    let behind-text-len = behind-text-len2 in
+    let at-if = behind-text-len in
+    let ref = at-if.ref_at-kind.ensures in
+    let rec = at-if.record_of-rec in
+    let a = at-if.args in
+    let kind = sym (ap kind_of ref.0) ∙ at-if.if-kind-eq1.true in
     let own = record_of a.s a.file.now a.i in
     let size : (from to : ℕ) → length (text_in rec.result.now from to) ≡ length (text_in own from to) =
     λ from to. ap (λ (r : List ℕ). length (text_in r from to)) rec.ensures in
     let l = a.s.locality in
-    let town = behind-text-len.text-len.ensures in
-    let dependent = behind-text-len2.text-len2.ensures in
-    let double = c.text-len3.ensures in (
+    let town = behind-text-len.text_len-town.ensures in
+    let dependent = behind-text-len2.text_len-dependent.ensures in
+    let double = c.text_len-double.ensures in (
       omega (
         arith,
         row-of-three a.s a.file.now a.i kind,
@@ -41,24 +41,24 @@ returns c =
       omega (arith, town.1, dependent.1, double.1),
     )
 
-returns-2 : tie.Need-returns-2
+returns-2 : tie.Need-returns
 returns-2 c =
-    let width = c.before.before.text-width in
-    let at-if = c.before.before.before in
-    let ref = at-if.before.ref-at.ensures in
-    let rec = at-if.before.before.record_of in
-    let a = at-if.before.before.before.before.args in
+    let width = c.text_width in
+    let at-if = c in
+    let ref = at-if.ref_at-kind.ensures in
+    let rec = at-if.record_of-rec in
+    let a = at-if.args in
     let kind = ap kind_of ref.0 in
-    let whole = row-of-one a.s a.file.now a.i (λ z. at-if.if1.false (kind ∙ z)) in
+    let whole = row-of-one a.s a.file.now a.i (λ z. at-if.if-kind-eq1.false (kind ∙ z)) in
     let size =
     ap (λ (r : List ℕ). suc (length (text_in r a.s.text (a.s.text + width.result)))) rec.ensures in
     let wide =
     ap (λ (n : ℕ). suc (length (text_in (record_of a.s a.file.now a.i) a.s.text (a.s.text + n))))
     (width.ensures.0 ∙ ap text_width kind) in
-    (omega (arith, whole, c.text-len4.ensures.0, size, wide), omega (arith, c.text-len4.ensures.1, width.ensures.1))
+    (omega (arith, whole, c.text_len.ensures.0, size, wide), omega (arith, c.text_len.ensures.1, width.ensures.1))
 
-pub row-len-spec : {M : Type 1} → statement M
-row-len-spec =
+pub row_len_spec : {M : Type 1} → statement M
+row_len_spec =
     tie.close
     (tie.spec (search rules) (search rules) (search rules) (search rules) (search rules) (search rules)
     (search rules) (search rules) (search rules) (search rules) (search rules) (search rules) (search rules) returns

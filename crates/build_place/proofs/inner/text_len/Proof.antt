@@ -9,9 +9,9 @@ use Rattle.build_place.proofs.inner.text_len.Tie as tie
 
 returns : tie.Need-returns
 returns c =
-    let a = c.before.before.args in
-    let t = ap length c.read-text.ensures in
+    let a = c.args in
+    let t = ap length c.read_text.ensures in
     (omega (arith, t), omega (arith, t, text_in-bound a.rec.now a.from a.to))
 
-pub text-len-spec : {M : Type 1} → statement M
-text-len-spec = tie.close (tie.spec (search rules) (search rules) returns)
+pub text_len_spec : {M : Type 1} → statement M
+text_len_spec = tie.close (tie.spec (search rules) (search rules) returns)

@@ -13,25 +13,25 @@ postcode s = part s.args.own.now s.args.p.postcode (s.args.p.postcode + 7)
 abbrev suffix : tie.Start → List ℕ
 suffix s = part s.args.own.now s.args.p.suffix (s.args.p.suffix + 2)
 
-part-at-requires : tie.Need-part-at-requires
+part-at-requires : tie.Need-part_at-i-requires
 part-at-requires c κs =
     let s = c.before.before.before.before in
     room-first (postcode s) (suffix s) s.args.out.now s.args.at s.requires.1
 
-part-at-requires-2 : tie.Need-part-at-requires-2
+part-at-requires-2 : tie.Need-part_at-requires
 part-at-requires-2 c κs =
     let first = c.before.before.before.before in
     let s = first.before.before.before.before.before in
-    room_after (suffix s) first.part_at.ensures s.requires.1
+    room_after (suffix s) first.part_at-i.ensures s.requires.1
 
 returns : tie.Need-returns
 returns c =
-    let second = c.before.before in
-    let first = second.before.before.before.before.before in
-    let s = first.before.before.before.before.before in
-    put_then first.part_at.ensures second.part-at2.ensures s.requires.1
+    let second = c in
+    let first = second in
+    let s = first in
+    put_then first.part_at-i.ensures second.part_at.ensures s.requires.1
 
-pub front-at-spec : {M : Type 1} → statement M
-front-at-spec =
+pub front_at_spec : {M : Type 1} → statement M
+front_at_spec =
     tie.close
     (tie.spec (search rules) part-at-requires (search rules) part-at-requires-2 (search rules) returns)

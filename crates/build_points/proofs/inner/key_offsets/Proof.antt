@@ -6,33 +6,33 @@ use Rattle.build_points.proofs.Point.{OffsetsTo, offsets-none, offsets-next, off
 use Rattle.build_points.proofs.inner.key_offsets.Statement.{statement}
 use Rattle.build_points.proofs.inner.key_offsets.Tie as tie
 
-abbrev invariant-loop : tie.invariant-loop
+abbrev invariant-loop : tie.invariant-loop-i
 invariant-loop starts keys rows of-keys₀ i₀ of-keys i = OffsetsTo starts keys rows of-keys i
 
-abbrev decreases-loop : tie.decreases-loop
+abbrev decreases-loop : tie.decreases-loop-i
 decreases-loop starts keys rows of-keys₀ i₀ of-keys i = 7 - i
 
-loop-holds : tie.Need-loop-init invariant-loop decreases-loop
+loop-holds : tie.Need-loop-i-init invariant-loop decreases-loop
 loop-holds c =
-    let a = c.before.args in offsets-none a.starts.now a.t2 a.t3 _ refl
+    let a = c.args in offsets-none a.starts.now a.t2 a.t3 _ refl
 
-loop-again : tie.Need-loop-preserved invariant-loop decreases-loop
+loop-again : tie.Need-loop-i-preserved invariant-loop decreases-loop
 loop-again c =
-    let l = c.before.before in
-    let a = l.before.before.args in
-    offsets-next a.starts.now a.t2 a.t3 l.loop.of-keys l.loop.i l.loop.invariant c.key-offset.result
-    c.before.loop-test.true c.key-offset.ensures
+    let l = c in
+    let a = l.args in
+    offsets-next a.starts.now a.t2 a.t3 l.loop-i.of-keys l.loop-i.i l.loop-i.invariant c.key_offset.result
+    c.loop-i-test.true c.key_offset.ensures
 
 returns : tie.Need-returns invariant-loop decreases-loop
 returns c =
-    let l = c.before in
-    let start = l.before.before in
+    let l = c in
+    let start = l in
     let a = start.args in
-    offsets-all a.starts.now a.t2 a.t3 l.loop.of-keys l.loop.i l.loop.invariant start.well_formed.1.0.1.0.1
-    start.well_formed.1.1.0.1.0.1 c.loop-test.false
+    offsets-all a.starts.now a.t2 a.t3 l.loop-i.of-keys l.loop-i.i l.loop-i.invariant start.well_formed.1.0.1.0.1
+    start.well_formed.1.1.0.1.0.1 c.loop-i-test.false
 
-pub key-offsets-spec : {M : Type 1} → statement M
-key-offsets-spec =
+pub key_offsets_spec : {M : Type 1} → statement M
+key_offsets_spec =
     tie.close
     (tie.spec
     invariant-loop

@@ -12,54 +12,54 @@ use Rattle.build.proofs.Counts.{counts_step, counts_end}
 use Rattle.build_points.proofs.inner.keys_at.Statement.{statement}
 use Rattle.build_points.proofs.inner.keys_at.Tie as tie
 
-abbrev invariant-loop : tie.invariant-loop
+abbrev invariant-loop : tie.invariant-loop-i
 invariant-loop at out₀ offsets end₀ i₀ out end i =
     (i ≤ 7)
     × (length out ≡ length out₀)
     × Going (offset_bytes offsets) (offset_bytes (drop i offsets)) out₀ at end out
 
-abbrev decreases-loop : tie.decreases-loop
+abbrev decreases-loop : tie.decreases-loop-i
 decreases-loop at out₀ offsets end₀ i₀ out end i = 7 - i
 
-loop-holds : tie.Need-loop-init invariant-loop decreases-loop
+loop-holds : tie.Need-loop-i-init invariant-loop decreases-loop
 loop-holds c =
-    let a = c.before.args in
+    let a = c.args in
     (omega arith, refl, going_start (offset_bytes a.t1) a.out.now a.at)
 
-word-at-requires : tie.Need-word-at-requires invariant-loop decreases-loop
+word-at-requires : tie.Need-word_at-end-requires invariant-loop decreases-loop
 word-at-requires c κs =
-    let l = c.before.before in
+    let l = c in
     let s = l.before.before in
     let a = s.args in
-    let i = l.loop.i in
+    let i = l.loop-i.i in
     let seven : length a.t1 ≡ 7 = s.well_formed.0.1.0.1 in
     going-room (bytes_of 4 (get_or a.t1 i 0)) (offset_bytes (drop (i + 1) a.t1))
-    (going-as (counts_step a.t1 i (omega arith)) l.loop.invariant.2) s.requires
+    (going-as (counts_step a.t1 i (omega arith)) l.loop-i.invariant.2) s.requires
 
-loop-again : tie.Need-loop-preserved invariant-loop decreases-loop
+loop-again : tie.Need-loop-i-preserved invariant-loop decreases-loop
 loop-again c =
-    let word = c.before.before in
-    let l = word.before.before.before in
-    let s = l.before.before in
+    let word = c in
+    let l = word in
+    let s = l in
     let a = s.args in
-    let i = l.loop.i in
+    let i = l.loop-i.i in
     let seven : length a.t1 ≡ 7 = s.well_formed.0.1.0.1 in (
       omega arith,
-      word.word_at.auto.1.1.0 ∙ l.loop.invariant.1,
-      going_step (offset_bytes (drop (i + 1) a.t1)) (going-as (counts_step a.t1 i (omega arith)) l.loop.invariant.2)
-          word.word_at.ensures s.requires,
+      word.word_at-end.auto.1.1.0 ∙ l.loop-i.invariant.1,
+      going_step (offset_bytes (drop (i + 1) a.t1)) (going-as (counts_step a.t1 i (omega arith)) l.loop-i.invariant.2)
+          word.word_at-end.ensures s.requires,
     )
 
 returns : tie.Need-returns invariant-loop decreases-loop
 returns c =
-    let l = c.before in
-    let s = l.before.before in
+    let l = c in
+    let s = l in
     let a = s.args in
     let seven : length a.t1 ≡ 7 = s.well_formed.0.1.0.1 in
-    let end : l.loop.i ≡ length a.t1 = omega arith in
-    going_end (going-as (counts_end a.t1 l.loop.i end) l.loop.invariant.2)
+    let end : l.loop-i.i ≡ length a.t1 = omega arith in
+    going_end (going-as (counts_end a.t1 l.loop-i.i end) l.loop-i.invariant.2)
 
-pub keys-at-spec : {M : Type 1} → statement M
-keys-at-spec =
+pub keys_at_spec : {M : Type 1} → statement M
+keys_at_spec =
     tie.close
     (tie.spec invariant-loop decreases-loop loop-holds (search rules) (search rules) word-at-requires (search rules) (search rules) loop-again (search rules) returns)

@@ -7,17 +7,17 @@ use Rattle.build_points.proofs.inner.numbers_at.Tie as tie
 
 returns : tie.Need-returns
 returns c =
-    let at-short = c.before.before in
-    let at-second-word = at-short.before.before.before.before.before in
-    let at-first-word = at-second-word.before.before.before.before.before in
-    let at_byte = at-first-word.before.before.before.before.before in
-    let room = at_byte.before.before.before.requires in
-    let with-first-word = put_then at_byte.byte_at.ensures at-first-word.word_at.ensures (omega (arith, room)) in
-    let with-both-words = put_then with-first-word at-second-word.word-at2.ensures (omega (arith, room)) in
-    put_then with-both-words at-short.short-at.ensures (omega (arith, room))
+    let at-short = c in
+    let at-second-word = at-short in
+    let at-first-word = at-second-word in
+    let at_byte = at-first-word in
+    let room = at_byte.requires in
+    let with-first-word = put_then at_byte.byte_at-i.ensures at-first-word.word_at-j.ensures (omega (arith, room)) in
+    let with-both-words = put_then with-first-word at-second-word.word_at-k.ensures (omega (arith, room)) in
+    put_then with-both-words at-short.short_at.ensures (omega (arith, room))
 
-pub numbers-at-spec : {M : Type 1} → statement M
-numbers-at-spec =
+pub numbers_at_spec : {M : Type 1} → statement M
+numbers_at_spec =
     tie.close
     (tie.spec (search rules) (search rules) (search rules) (search rules) (search rules) (search rules)
     (search rules) (search rules) returns)

@@ -12,18 +12,18 @@ use Rattle.build_points.proofs.inner.plain_at.Tie as tie
 
 returns : tie.Need-returns
 returns c =
-    let box = c.before.before in
-    let mark = box.before.before.before.before.before in
-    let said = mark.before.before in
-    let numbers = said.before.before.before in
-    let s = numbers.before.before.before.before in
+    let box = c in
+    let mark = box in
+    let said = mark in
+    let numbers = said in
+    let s = numbers in
     let a = s.args in
     let p = a.p in
     put_three (mark_of p.concatenation ∷ []) (part a.own.now p.po_box (p.po_box + 6)) s.requires.1
-    numbers.numbers-at.ensures (put_as (ap (λ (b : ℕ). b ∷ []) said.mark_of.ensures) mark.byte_at.ensures)
+    numbers.numbers_at-i.ensures (put_as (ap (λ (b : ℕ). b ∷ []) said.mark_of.ensures) mark.byte_at-j.ensures)
     box.part_at.ensures
 
-pub plain-at-spec : {M : Type 1} → statement M
-plain-at-spec =
+pub plain_at_spec : {M : Type 1} → statement M
+plain_at_spec =
     tie.close
     (tie.spec (search rules) (search rules) (search rules) (search rules) (search rules) (search rules) returns)

@@ -10,7 +10,7 @@ use Rattle.build_points.proofs.Point.{last_offset, offsets_of, point-start, afte
 use Rattle.build_points.proofs.inner.point_at.Statement.{statement}
 use Rattle.build_points.proofs.inner.point_at.Tie as tie
 
-front-at-requires : tie.Need-front-at-requires
+front-at-requires : tie.Need-front_at-i-requires
 front-at-requires c κs =
     let s = c.before.before.before in
     let a = s.args in
@@ -19,7 +19,7 @@ front-at-requires c κs =
     let g = point-start own a.p offsets a.row {out = a.out.now} {at = a.at} s.requires.1 in
     (s.requires.0, going-room (front_in own a.p) (plain_in own a.p ++ offsets_of own a.p offsets a.row) g s.requires.1)
 
-plain-at-requires : tie.Need-plain-at-requires
+plain-at-requires : tie.Need-plain_at-j-requires
 plain-at-requires c κs =
     let front = c.before.before.before in
     let s = front.before.before.before.before in
@@ -29,7 +29,7 @@ plain-at-requires c κs =
     let g = after_front own a.p offsets a.row s.requires.1 front.Front-at.ensures in
     (s.requires.0, going-room (plain_in own a.p) (offsets_of own a.p offsets a.row) g s.requires.1)
 
-keys-at-requires : tie.Need-keys-at-requires
+keys-at-requires : tie.Need-keys_at-k-requires
 keys-at-requires c κs =
     let plain = c.before.before.before.before in
     let front = plain.before.before.before.before in
@@ -38,10 +38,10 @@ keys-at-requires c κs =
     let own = a.own.now in
     let offsets = a.offsets.of_keys in
     let g =
-    after-plain own a.p offsets a.row s.requires.1 front.Front-at.ensures plain.plain_at.ensures in
+    after-plain own a.p offsets a.row s.requires.1 front.Front-at.ensures plain.plain_at-j.ensures in
     going-room (offset_bytes offsets) (last_offset own a.p offsets a.row) g s.requires.1
 
-word-at-requires : tie.Need-word-at-requires
+word-at-requires : tie.Need-word_at-requires
 word-at-requires c κs =
     let keys = c.before.before.before.before in
     let plain = keys.before.before.before.before.before in
@@ -50,25 +50,25 @@ word-at-requires c κs =
     let a = s.args in
     let g =
     after-keys a.own.now a.p a.offsets.of_keys a.row s.requires.1 front.Front-at.ensures
-    plain.plain_at.ensures keys.keys-at.ensures in
+    plain.plain_at-j.ensures keys.keys_at-k.ensures in
     going-left g s.requires.1
 
 returns : tie.Need-returns
 returns c =
-    let word = c.before.before in
-    let offset = word.before.before.organisation-offset in
-    let keys = word.before.before.before.before.before in
-    let plain = keys.before.before.before.before.before in
-    let front = plain.before.before.before.before in
-    let s = front.before.before.before.before in
+    let word = c in
+    let offset = word.organisation_offset in
+    let keys = word in
+    let plain = keys in
+    let front = plain in
+    let s = front in
     let a = s.args in
     let g =
     after-keys a.own.now a.p a.offsets.of_keys a.row s.requires.1 front.Front-at.ensures
-    plain.plain_at.ensures keys.keys-at.ensures in
+    plain.plain_at-j.ensures keys.keys_at-k.ensures in
     going-last g (put_as (ap (bytes_of 4) offset.ensures) word.word_at.ensures) s.requires.1
 
-pub point-at-spec : {M : Type 1} → statement M
-point-at-spec =
+pub point_at_spec : {M : Type 1} → statement M
+point_at_spec =
     tie.close
     (tie.spec front-at-requires plain-at-requires keys-at-requires (search rules) word-at-requires
     (search rules) returns)

@@ -11,42 +11,42 @@ use Rattle.build.proofs.Laws.{no-organisation, some-organisation}
 use Rattle.build_rows.proofs.organisations.organisation_at.Statement.{statement}
 use Rattle.build_rows.proofs.organisations.organisation_at.Tie as tie
 
-returns : tie.Need-returns
+returns : tie.Need-returns-then-not-there
 returns c =
-    let a = c.before.before.before.args in
-    put_as (no-organisation a.others.now a.there a.texts (not-true _ c.if1.true)) (put-none a.out.now a.at)
+    let a = c.args in
+    put_as (no-organisation a.others.now a.there a.texts (c.if-not-there.true)) (put-none a.out.now a.at)
 
-byte-at-requires : tie.Need-byte-at-requires
+byte-at-requires : tie.Need-byte_at-i-requires
 byte-at-requires c κs =
-    let at-if = c.before in
-    let s = at-if.before.before.before in
+    let at-if = c in
+    let s = at-if in
     let a = s.args in
-    let some = some-organisation a.others.now a.there a.texts (not-false _ at-if.if1.false) in
+    let some = some-organisation a.others.now a.there a.texts (at-if.if-not-there.false) in
     omega (arith, room_as a.out.now a.at some s.requires.1)
 
-two-texts-at-requires : tie.Need-two-texts-at-requires
+two-texts-at-requires : tie.Need-two_texts_at-requires
 two-texts-at-requires c κs =
-    let six = c.before.before.before in
-    let at-if = six.before.before in
+    let six = c in
+    let at-if = six in
     let s = at-if.before.before.before in
     let a = s.args in
     let o = a.texts in
-    let some = some-organisation a.others.now a.there a.texts (not-false _ at-if.if1.false) in
+    let some = some-organisation a.others.now a.there a.texts (at-if.if-not-there.false) in
     let texts = texts_bytes (two_texts a.others.now o (o + 60) (o + 120)) in
-    ((omega arith, omega arith), room_after texts six.byte_at.ensures (room_as a.out.now a.at some s.requires.1))
+    ((omega arith, omega arith), room_after texts six.byte_at-i.ensures (room_as a.out.now a.at some s.requires.1))
 
-returns-2 : tie.Need-returns-2
+returns-2 : tie.Need-returns
 returns-2 c =
-    let texts = c.before.before in
-    let six = texts.before.before.before.before in
-    let at-if = six.before.before in
-    let s = at-if.before.before.before in
+    let texts = c in
+    let six = texts in
+    let at-if = six in
+    let s = at-if in
     let a = s.args in
-    let some = some-organisation a.others.now a.there a.texts (not-false _ at-if.if1.false) in
+    let some = some-organisation a.others.now a.there a.texts (at-if.if-not-there.false) in
     put_as some
-    (put_then six.byte_at.ensures texts.two-texts-at.ensures (room_as a.out.now a.at some s.requires.1))
+    (put_then six.byte_at-i.ensures texts.two_texts_at.ensures (room_as a.out.now a.at some s.requires.1))
 
-pub organisation-at-spec : {M : Type 1} → statement M
-organisation-at-spec =
+pub organisation_at_spec : {M : Type 1} → statement M
+organisation_at_spec =
     tie.close
     (tie.spec returns byte-at-requires (search rules) (search rules) two-texts-at-requires (search rules) returns-2)

@@ -14,36 +14,36 @@ use Rattle.build_trailer.proofs.inner.trailer_at.Statement.{statement}
 use Rattle.build_trailer.proofs.inner.trailer_at.Tie as tie
 
 -- the points are counted
-module _ (counted : tie.After-count-digits) where
+module _ (counted : tie.After-count_digits-counts) where
   abbrev start : tie.Start
-  start = counted.before.before.before.before
+  start = counted
 
   abbrev said : List ℕ → List ℕ
   said counts = let a = start.args in trailer_bytes newest a.rows a.start a.count a.code.now counts
 
-  trailer-is : said (counts_bytes counted.count-digits.result.of_digits)
+  trailer-is : said (counts_bytes counted.count_digits-counts.result.of_digits)
       ≡ said (counts_at_in start.args.out.now start.args.count start.args.start)
-  trailer-is = ap (λ (ns : List ℕ). said (counts_bytes ns)) counted.count-digits.ensures
+  trailer-is = ap (λ (ns : List ℕ). said (counts_bytes ns)) counted.count_digits-counts.ensures
 
-  room : start.args.at + length (said (counts_bytes counted.count-digits.result.of_digits))
+  room : start.args.at + length (said (counts_bytes counted.count_digits-counts.result.of_digits))
       ≤ length start.args.out.now
   room = room_as start.args.out.now start.args.at trailer-is start.pre.1.1
 
-count-digits-requires : tie.Need-count-digits-requires
-count-digits-requires c κs = (omega arith, omega (arith, c.before.before.before.requires.1))
+count-digits-requires : tie.Need-count_digits-counts-requires
+count-digits-requires c κs = (omega arith, omega (arith, c.requires.1))
 
-word-at-requires : tie.Need-word-at-requires
+word-at-requires : tie.Need-word_at-i-requires
 word-at-requires c κs = omega (arith, room c.before.before)
 
-word-at-requires-2 : tie.Need-word-at-requires-2
+word-at-requires-2 : tie.Need-word_at-j-requires
 word-at-requires-2 c κs = omega (arith, room c.before.before.before.before.before.before)
 
-word-at-requires-3 : tie.Need-word-at-requires-3
+word-at-requires-3 : tie.Need-word_at-k-requires
 word-at-requires-3 c κs =
     let at-second-word = c.before.before.before in
     omega (arith, room at-second-word.before.before.before.before.before.before.before)
 
-trailer-end-at-requires : tie.Need-trailer-end-at-requires
+trailer-end-at-requires : tie.Need-trailer_end_at-requires
 trailer-end-at-requires c κs =
     let at-third-word = c.before.before.before in
     let at-second-word = at-third-word.before.before.before.before in
@@ -51,18 +51,18 @@ trailer-end-at-requires c κs =
 
 returns : tie.Need-returns
 returns c =
-    let at-end = c.before.before in
-    let at-third-word = at-end.before.before.before.before in
-    let at-second-word = at-third-word.before.before.before.before in
-    let at-first-word = at-second-word.before.before.before.before in
+    let at-end = c in
+    let at-third-word = at-end in
+    let at-second-word = at-third-word in
+    let at-first-word = at-second-word in
     let counted = at-first-word.before.before.before in
     let fits = room counted in
-    let two-words = put_then at-first-word.word_at.ensures at-second-word.word-at2.ensures (omega (arith, fits)) in
-    let three-words = put_then two-words at-third-word.word-at3.ensures (omega (arith, fits)) in
-    put_as (trailer-is counted) (put_then three-words at-end.trailer-end-at.ensures fits)
+    let two-words = put_then at-first-word.word_at-i.ensures at-second-word.word_at-j.ensures (omega (arith, fits)) in
+    let three-words = put_then two-words at-third-word.word_at-k.ensures (omega (arith, fits)) in
+    put_as (trailer-is counted) (put_then three-words at-end.trailer_end_at.ensures fits)
 
-pub trailer-at-spec : {M : Type 1} → statement M
-trailer-at-spec =
+pub trailer_at_spec : {M : Type 1} → statement M
+trailer_at_spec =
     tie.close
     (tie.spec (search rules) (search rules) (search rules) count-digits-requires word-at-requires word-at-requires-2
     word-at-requires-3 trailer-end-at-requires (search rules) returns)

@@ -25,51 +25,51 @@ module _ (s : tie.Start) where
   abbrev last : List ℕ
   last = counts ++ (newest ∷ [])
 
-bytes-at-requires : tie.Need-bytes-at-requires
+bytes-at-requires : tie.Need-bytes_at-i-requires
 bytes-at-requires c κs =
     let s = c.before.before.before in
     room-first (code s) (size s ++ last s) s.args.out.now s.args.at s.requires
 
-word-at-requires : tie.Need-word-at-requires
+word-at-requires : tie.Need-word_at-j-requires
 word-at-requires c κs =
     let at_code = c.before.before.before in
     let s = at_code.before.before.before.before in
     going-room (size s) (last s)
-    (after-code (code s) s.args.bytes (counts s) s.requires at_code.bytes-at.ensures) s.requires
+    (after-code (code s) s.args.bytes (counts s) s.requires at_code.bytes_at-i.ensures) s.requires
 
-counts-at-requires : tie.Need-counts-at-requires
+counts-at-requires : tie.Need-counts_at-k-requires
 counts-at-requires c κs =
     let at_length = c.before.before.before in
     let at_code = at_length.before.before.before.before in
     let s = at_code.before.before.before.before in
     going-room (counts s) (newest ∷ [])
-    (after-length (code s) s.args.bytes (counts s) s.requires at_code.bytes-at.ensures at_length.word_at.ensures)
+    (after-length (code s) s.args.bytes (counts s) s.requires at_code.bytes_at-i.ensures at_length.word_at-j.ensures)
     s.requires
 
-byte-at-requires : tie.Need-byte-at-requires
+byte-at-requires : tie.Need-byte_at-requires
 byte-at-requires c κs =
     let at-counts = c.before.before.before in
     let at_length = at-counts.before.before.before.before in
     let at_code = at_length.before.before.before.before in
     let s = at_code.before.before.before.before in
     going-left
-    (after-counts (code s) s.args.bytes (counts s) s.requires at_code.bytes-at.ensures at_length.word_at.ensures
-    at-counts.counts-at.ensures)
+    (after-counts (code s) s.args.bytes (counts s) s.requires at_code.bytes_at-i.ensures at_length.word_at-j.ensures
+    at-counts.counts_at-k.ensures)
     s.requires
 
 returns : tie.Need-returns
 returns c =
-    let at-edition = c.before.before in
-    let at-counts = at-edition.before.before.before.before in
-    let at_length = at-counts.before.before.before.before in
-    let at_code = at_length.before.before.before.before in
+    let at-edition = c in
+    let at-counts = at-edition in
+    let at_length = at-counts in
+    let at_code = at_length in
     let s = at_code.before.before.before.before in
     going-last
-    (after-counts (code s) s.args.bytes (counts s) s.requires at_code.bytes-at.ensures at_length.word_at.ensures
-    at-counts.counts-at.ensures)
+    (after-counts (code s) s.args.bytes (counts s) s.requires at_code.bytes_at-i.ensures at_length.word_at-j.ensures
+    at-counts.counts_at-k.ensures)
     at-edition.byte_at.ensures s.requires
 
-pub trailer-end-at-spec : {M : Type 1} → statement M
-trailer-end-at-spec =
+pub trailer_end_at_spec : {M : Type 1} → statement M
+trailer_end_at_spec =
     tie.close
     (tie.spec bytes-at-requires word-at-requires counts-at-requires byte-at-requires (search rules) returns)

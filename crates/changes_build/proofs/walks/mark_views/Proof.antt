@@ -21,35 +21,35 @@ use Rattle.changes_build.proofs.Packed.{packed_from, packed_start, packed_step, 
 use Rattle.changes_build.proofs.walks.mark_views.Statement.{statement}
 use Rattle.changes_build.proofs.walks.mark_views.Tie as tie
 
-abbrev invariant-loop : tie.invariant-loop
+abbrev invariant-loop : tie.invariant-loop-at
 invariant-loop table refs points code marks₀ last s at₀ marks at =
     (length marks ≡ length marks₀)
     × (next_wanted code points at ≡ at)
     × Marking (table_stock table) (packed_in points code) marks₀ (packed_from points code at) marks
 
-abbrev decreases-loop : tie.decreases-loop
+abbrev decreases-loop : tie.decreases-loop-at
 decreases-loop table refs points code marks₀ last s at₀ marks at = last - at
 
-loop-holds : tie.Need-loop-init invariant-loop decreases-loop
+loop-holds : tie.Need-loop-at-init invariant-loop decreases-loop
 loop-holds c =
-    let a = c.before.before.before.before.before.before.before.before.args in
+    let a = c.args in
     let points = a.points.now in
     let code = a.code.now in
-    rw c.next-wanted.ensures (
+    rw c.next_wanted-at.ensures (
       refl,
       next-next code points 1,
       marking-as (packed_start points code) (marking-start (table_stock a.table.now) (packed_in points code) a.marks.now),
     )
 
 -- once the rows of the view at `at` are found
-module _ (r : tie.After-rows-by invariant-loop decreases-loop) where
-  abbrev d : tie.After-delivery-at invariant-loop decreases-loop
+module _ (r : tie.After-rows_by-found invariant-loop decreases-loop) where
+  abbrev d : tie.After-delivery_at-p invariant-loop decreases-loop
   d = r.before.before
 
-  abbrev l : tie.At-loop invariant-loop decreases-loop
+  abbrev l : tie.At-loop-at invariant-loop decreases-loop
   l = d.before.before
 
-  abbrev t : tie.After-table-shelf invariant-loop decreases-loop
+  abbrev t : tie.After-table_shelf-s invariant-loop decreases-loop
   t = l.before.before
 
   abbrev s : tie.Start invariant-loop decreases-loop
@@ -65,78 +65,78 @@ module _ (r : tie.After-rows-by invariant-loop decreases-loop) where
   code = s.args.code.now
 
   abbrev rest : List Packed
-  rest = packed_from points code (next_wanted code points (l.loop.at + 1))
+  rest = packed_from points code (next_wanted code points (l.loop-at.at + 1))
 
-  left : Marking (table_stock table) (packed_in points code) s.args.marks.now (packed_at points l.loop.at ∷ rest)
-      l.loop.marks
+  left : Marking (table_stock table) (packed_in points code) s.args.marks.now (packed_at points l.loop-at.at ∷ rest)
+      l.loop-at.marks
   left =
       marking-as
-      (packed_step points code l.loop.at l.loop.inv.1 (omega (arith, t.before.last_of.ensures)))
-      l.loop.inv.2
+      (packed_step points code l.loop-at.at l.loop-at.invariant.1 (omega (arith, t.last_of-last.ensures)))
+      l.loop-at.invariant.2
 
-  rows_are : r.rows-by.result.rows ≡ rows_of (table_stock table) (delivery_at points l.loop.at)
+  rows_are : r.rows_by-found.result.rows ≡ rows_of (table_stock table) (delivery_at points l.loop-at.at)
   rows_are =
-      rows-found table s.pre.0.of_table (delivery_at points l.loop.at) t.table-shelf.ensures d.delivery-at.ensures
-      r.rows-by.ensures
+      rows-found table s.pre.0.of_table (delivery_at points l.loop-at.at) t.table_shelf-s.ensures d.delivery_at-p.ensures
+      r.rows_by-found.ensures
 
-  refusal_is : refusal_in d.delivery-at.result r.rows-by.result.rows
-      ≡ refusal_in (delivery_at points l.loop.at) (rows_of (table_stock table) (delivery_at points l.loop.at))
-  refusal_is = ap₂ refusal_in d.delivery-at.ensures rows_are
+  refusal_is : refusal_in d.delivery_at-p.result r.rows_by-found.result.rows
+      ≡ refusal_in (delivery_at points l.loop-at.at) (rows_of (table_stock table) (delivery_at points l.loop-at.at))
+  refusal_is = ap₂ refusal_in d.delivery_at-p.ensures rows_are
 
-rows-by-requires : tie.Need-rows-by-requires invariant-loop decreases-loop
+rows-by-requires : tie.Need-rows_by-found-requires invariant-loop decreases-loop
 rows-by-requires c κs =
-    let t = c.before.before.before.before.before in
-    let s = t.before.before.before.before.before.before.before in
-    rw t.table-shelf.ensures (table_fits, s.requires.0.filled)
+    let t = c in
+    let s = t in
+    rw t.table_shelf-s.ensures (table_fits, s.requires.0.filled)
 
-mark-point-requires : tie.Need-mark-point-requires invariant-loop decreases-loop
+mark-point-requires : tie.Need-mark_point-requires invariant-loop decreases-loop
 mark-point-requires c κs =
     let r = c.before in
-    found_below (table r) (s r).requires.0.of_table (length (l r).loop.marks) (asked_of (d r).delivery-at.result)
-    (omega (arith, (s r).requires.1, (l r).loop.invariant.0)) (t r).table-shelf.ensures r.rows-by.ensures
+    found_below (table r) (s r).requires.0.of_table (length (l r).loop-at.marks) (asked_of (d r).delivery_at-p.result)
+    (omega (arith, (s r).requires.1, (l r).loop-at.invariant.0)) (t r).table_shelf-s.ensures r.rows_by-found.ensures
 
-returns : tie.Need-returns invariant-loop decreases-loop
+returns : tie.Need-returns-in-Bad invariant-loop decreases-loop
 returns c =
-    let w = c.before.before.before in
-    let m = w.before.before.before.before in
+    let w = c in
+    let m = w in
     let r = m.before.before in
-    let bad = sym (m.mark-point.ensures.0 ∙ refusal_is r) ∙ w.why.given.1 in
+    let bad = sym (m.mark_point.ensures.0 ∙ refusal_is r) ∙ w.in-Bad.is in
     record {
       said =
-          rw (c.with-view.ensures, c.before.number_at.ensures)
-          (sym (marking-stop (left r) w.why.given.0.0 bad));
+          rw (c.with_view.ensures, c.number_at-view.ensures)
+          (sym (marking-stop (left r) w.in-Bad.why bad));
       marks_all = λ e. absurd (bad-fine _ e);
     }
 
-loop-less : tie.Need-loop-smaller invariant-loop decreases-loop
+loop-less : tie.Need-loop-at-smaller invariant-loop decreases-loop
 loop-less c =
-    let r = c.before.before.before.before.before.before.before in
-    omega (arith, c.next-wanted2.ensures, (next-range (code r) (points r) ((l r).loop.at + 1)).0)
+    let r = c.before.before.before.before.before.before in
+    omega (arith, c.next_wanted-at-in-loop-at.ensures, (next-range (code r) (points r) ((l r).loop-at.at + 1)).0)
 
-loop-again : tie.Need-loop-preserved invariant-loop decreases-loop
+loop-again : tie.Need-loop-at-preserved invariant-loop decreases-loop
 loop-again c =
-    let e = c.before in
-    let m = e.before.before.before.before in
+    let e = c in
+    let m = e in
     let r = m.before.before in
-    let told = e.enum_told.given.1 in
-    rw c.next-wanted2.ensures (
-      m.mark-point.auto.1.1.0 ∙ (l r).loop.invariant.0,
-      next-next (code r) (points r) ((l r).loop.at + 1),
-      marking-on (left r) (sym (m.mark-point.ensures.0 ∙ refusal_is r) ∙ told)
-          (m.mark-point.ensures.1 told ∙ ap (λ (rows : List ℕ). mark_rows rows (l r).loop.marks) (rows_are r)),
+    let told = e.in-Fine.is in
+    rw c.next_wanted-at-in-loop-at.ensures (
+      m.mark_point.auto.1.1.0 ∙ (l r).loop-at.invariant.0,
+      next-next (code r) (points r) ((l r).loop-at.at + 1),
+      marking-on (left r) (sym (m.mark_point.ensures.0 ∙ refusal_is r) ∙ told)
+          (m.mark_point.ensures.1 told ∙ ap (λ (rows : List ℕ). mark_rows rows (l r).loop-at.marks) (rows_are r)),
     )
 
-returns-2 : tie.Need-returns-2 invariant-loop decreases-loop
+returns-2 : tie.Need-returns invariant-loop decreases-loop
 returns-2 c =
-    let l = c.before in
-    let f = l.before.before.before in
-    let a = f.before.before.before.before.before.before.args in
-    let end = packed-end a.points.now a.code.now l.loop.at (omega (arith, f.last_of.ensures)) in
-    let done = marking-end (marking-as end l.loop.invariant.2) in
+    let l = c in
+    let f = l in
+    let a = f.args in
+    let end = packed-end a.points.now a.code.now l.loop-at.at (omega (arith, f.last_of-last.ensures)) in
+    let done = marking-end (marking-as end l.loop-at.invariant.2) in
     record { said = done.0; marks_all = λ e. done.1 }
 
-pub mark-views-spec : {M : Type 1} → statement M
-mark-views-spec =
+pub mark_views_spec : {M : Type 1} → statement M
+mark_views_spec =
     tie.close
     (tie.spec
     invariant-loop

@@ -16,85 +16,85 @@ use Rattle.changes_build.proofs.Packed.{packed_from, packed_start, packed_step, 
 use Rattle.changes_build.proofs.walks.organisations_at.Statement.{statement}
 use Rattle.changes_build.proofs.walks.organisations_at.Tie as tie
 
-abbrev invariant-loop : tie.invariant-loop
+abbrev invariant-loop : tie.invariant-loop-place
 invariant-loop points code at out₀ last end₀ place₀ out end place =
     (length out ≡ length out₀)
     × (next_wanted code points place ≡ place)
     × Going (organisation_rows points (packed_in points code)) (organisation_rows points (packed_from points code place)) out₀
     at end out
 
-abbrev decreases-loop : tie.decreases-loop
+abbrev decreases-loop : tie.decreases-loop-place
 decreases-loop points code at out₀ last end₀ place₀ out end place = last - place
 
-loop-holds : tie.Need-loop-init invariant-loop decreases-loop
+loop-holds : tie.Need-loop-place-init invariant-loop decreases-loop
 loop-holds c =
-    let a = c.before.before.before.before.before.args in
+    let a = c.args in
     let code = a.code.now in
     let points = a.points.now in
-    rw c.next-wanted.ensures (
+    rw c.next_wanted-place.ensures (
       refl,
       next-next code points 1,
       going-as (ap (organisation_rows points) (packed_start points code))
           (going_start (organisation_rows points (packed_in points code)) a.out.now a.at),
     )
 
-organisation-at-requires : tie.Need-organisation-at-requires invariant-loop decreases-loop
+organisation-at-requires : tie.Need-organisation_at-end-requires invariant-loop decreases-loop
 organisation-at-requires c κs =
-    let t = c.before in
-    let d = t.before in
-    let l = d.before.before in
-    let f = l.before.before in
+    let t = c in
+    let d = t in
+    let l = d in
+    let f = l in
     let s = f.before.before.before.before in
     let code = s.args.code.now in
     let points = s.args.points.now in
-    let i = l.loop.place in
-    let high : i < last_of points = omega (arith, f.last_of.ensures) in
-    let step = packed_step points code i l.loop.invariant.1 high in
+    let i = l.loop-place.place in
+    let high : i < last_of points = omega (arith, f.last_of-last.ensures) in
+    let step = packed_step points code i l.loop-place.invariant.1 high in
     let rest = packed_from points code (next_wanted code points (i + 1)) in
-    rw (d.organised-at.ensures, t.organisation-place.ensures) (
+    rw (d.organised_at-there.ensures, t.organisation_place-texts.ensures) (
       (view-within points i high).organisation,
       organisation-room (packed_at points i) rest s.requires points
-          (going-as (ap (organisation_rows points) step) l.loop.invariant.2),
+          (going-as (ap (organisation_rows points) step) l.loop-place.invariant.2),
     )
 
-loop-less : tie.Need-loop-smaller invariant-loop decreases-loop
+loop-less : tie.Need-loop-place-smaller invariant-loop decreases-loop
 loop-less c =
-    let l = c.before.before.before.before.before.before.before.before in
-    let a = l.before.before.before.before.before.before.args in
-    omega (arith, c.next-wanted2.ensures, (next-range a.code.now a.points.now (l.loop.place + 1)).0)
+    let l = c in
+    let a = l.args in
+    omega (arith, c.next_wanted-place-in-loop-place.ensures, (next-range a.code.now a.points.now (l.loop-place.place + 1)).0)
 
-loop-again : tie.Need-loop-preserved invariant-loop decreases-loop
+loop-again : tie.Need-loop-place-preserved invariant-loop decreases-loop
 loop-again c =
-    let w = c.before.before.before in
-    let t = w.before.before in
-    let d = t.before in
-    let l = d.before.before in
-    let f = l.before.before in
-    let s = f.before.before.before.before in
+    let w = c in
+    let t = w in
+    let d = t in
+    let l = d in
+    let f = l in
+    let s = f in
     let code = s.args.code.now in
     let points = s.args.points.now in
-    let i = l.loop.place in
-    let step = packed_step points code i l.loop.invariant.1 (omega (arith, f.last_of.ensures)) in
+    let i = l.loop-place.place in
+    let step = packed_step points code i l.loop-place.invariant.1 (omega (arith, f.last_of-last.ensures)) in
     let rest = packed_from points code (next_wanted code points (i + 1)) in
-    rw c.next-wanted2.ensures (
-      w.organisation-at.auto.1.1.1.1.0 ∙ l.loop.invariant.0,
+    rw c.next_wanted-place-in-loop-place.ensures (
+      w.organisation_at-end.auto.1.1.1.1.0 ∙ l.loop-place.invariant.0,
       next-next code points (i + 1),
       organisation-on (packed_at points i) rest s.requires points
-          (going-as (ap (organisation_rows points) step) l.loop.invariant.2)
-          (put_as (ap₂ (organisation_bytes points) d.organised-at.ensures t.organisation-place.ensures)
-          w.organisation-at.ensures),
+          (going-as (ap (organisation_rows points) step) l.loop-place.invariant.2)
+          (put_as (ap₂ (organisation_bytes points) d.organised_at-there.ensures t.organisation_place-texts.ensures)
+          w.organisation_at-end.ensures),
     )
 
 returns : tie.Need-returns invariant-loop decreases-loop
 returns c =
-    let l = c.before in
-    let f = l.before.before in
-    let a = f.before.before.before.before.args in
-    let end = packed-end a.points.now a.code.now l.loop.place (omega (arith, f.last_of.ensures)) in
-    going_end (going-as (ap (organisation_rows a.points.now) end) l.loop.invariant.2)
+    let l = c in
+    let f = l in
+    let a = f.args in
+    let end = packed-end a.points.now a.code.now l.loop-place.place (omega (arith, f.last_of-last.ensures)) in
+    going_end (going-as (ap (organisation_rows a.points.now) end) l.loop-place.invariant.2)
 
-pub organisations-at-spec : {M : Type 1} → statement M
-organisations-at-spec =
+pub organisations_at_spec : {M : Type 1} → statement M
+organisations_at_spec =
     tie.close
     (tie.spec invariant-loop decreases-loop (search rules) (search rules) loop-holds (search rules) (search rules)
     organisation-at-requires (search rules) (search rules) loop-less loop-again (search rules) returns)

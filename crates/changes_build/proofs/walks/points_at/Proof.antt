@@ -23,7 +23,7 @@ use Rattle.changes_build.proofs.Packed.{packed_from, packed_start, packed_step, 
 use Rattle.changes_build.proofs.walks.points_at.Statement.{statement}
 use Rattle.changes_build.proofs.walks.points_at.Tie as tie
 
-abbrev invariant-loop : tie.invariant-loop
+abbrev invariant-loop : tie.invariant-loop-place
 invariant-loop table refs points starts code start at out₀ last s row₀ end₀ place₀ out row end place =
     (length out ≡ length out₀)
     × (next_wanted code points place ≡ place)
@@ -31,42 +31,42 @@ invariant-loop table refs points starts code start at out₀ last s row₀ end�
     × Going (points_in (table_stock table) points points starts start (packed_in points code))
     (points_in (table_stock table) points points starts row (packed_from points code place)) out₀ at end out
 
-abbrev decreases-loop : tie.decreases-loop
+abbrev decreases-loop : tie.decreases-loop-place
 decreases-loop table refs points starts code start at out₀ last s row₀ end₀ place₀ out row end place = last - place
 
-loop-holds : tie.Need-loop-init invariant-loop decreases-loop
+loop-holds : tie.Need-loop-place-init invariant-loop decreases-loop
 loop-holds c =
-    let s = c.before.before.before.before.before.before.before.before.before in
+    let s = c in
     let a = s.args in
     let code = a.code.now in
     let points = a.points.now in
     let whole = points_in (table_stock a.table.now) points points a.starts.now a.start in
     let start = packed_start points code in
-    rw c.next-wanted.ensures (
+    rw c.next_wanted-place.ensures (
       refl,
       next-next code points 1,
       omega (arith, s.requires.1.0, ap (λ (ds : List Packed). length (organisation_rows points ds)) start),
       going-as (ap whole start) (going_start (whole (packed_in points code)) a.out.now a.at),
     )
 
-rows-by-requires : tie.Need-rows-by-requires invariant-loop decreases-loop
+rows-by-requires : tie.Need-rows_by-found-requires invariant-loop decreases-loop
 rows-by-requires c κs =
-    let t = c.before.before.before.before.before in
-    let s = t.before.before.before.before.before.before.before.before in
-    rw t.table-shelf.ensures (table_fits, s.requires.0.filled)
+    let t = c in
+    let s = t in
+    rw t.table_shelf-s.ensures (table_fits, s.requires.0.filled)
 
 -- once the offsets of the view at `place` are found
-module _ (k : tie.After-key-offsets invariant-loop decreases-loop) where
-  abbrev r : tie.After-rows-by invariant-loop decreases-loop
+module _ (k : tie.After-key_offsets-offsets invariant-loop decreases-loop) where
+  abbrev r : tie.After-rows_by-found invariant-loop decreases-loop
   r = k.before.before
 
-  abbrev d : tie.After-delivery-at invariant-loop decreases-loop
+  abbrev d : tie.After-delivery_at-p invariant-loop decreases-loop
   d = r.before.before
 
-  abbrev l : tie.At-loop invariant-loop decreases-loop
+  abbrev l : tie.At-loop-place invariant-loop decreases-loop
   l = d.before.before
 
-  abbrev t : tie.After-table-shelf invariant-loop decreases-loop
+  abbrev t : tie.After-table_shelf-s invariant-loop decreases-loop
   t = l.before.before
 
   abbrev s : tie.Start invariant-loop decreases-loop
@@ -81,96 +81,96 @@ module _ (k : tie.After-key-offsets invariant-loop decreases-loop) where
   abbrev starts : List ℕ
   starts = s.args.starts.now
 
-  high : l.loop.place < last_of points
-  high = omega (arith, t.before.last_of.ensures)
+  high : l.loop-place.place < last_of points
+  high = omega (arith, t.last_of-last.ensures)
 
   abbrev rest : List Packed
-  rest = packed_from points code (next_wanted code points (l.loop.place + 1))
+  rest = packed_from points code (next_wanted code points (l.loop-place.place + 1))
 
-  step : packed_from points code l.loop.place ≡ packed_at points l.loop.place ∷ rest
-  step = packed_step points code l.loop.place l.loop.inv.1 high
+  step : packed_from points code l.loop-place.place ≡ packed_at points l.loop-place.place ∷ rest
+  step = packed_step points code l.loop-place.place l.loop-place.invariant.1 high
 
   left : Going (points_in (table_stock s.args.table.now) points points starts s.args.start (packed_in points code))
-      (points_in (table_stock s.args.table.now) points points starts l.loop.row (packed_at points l.loop.place ∷ rest))
-      s.args.out.now s.args.at l.loop.end l.loop.out
-  left = going-as (ap (points_in (table_stock s.args.table.now) points points starts l.loop.row) step) l.loop.inv.3
+      (points_in (table_stock s.args.table.now) points points starts l.loop-place.row (packed_at points l.loop-place.place ∷ rest))
+      s.args.out.now s.args.at l.loop-place.end l.loop-place.out
+  left = going-as (ap (points_in (table_stock s.args.table.now) points points starts l.loop-place.row) step) l.loop-place.invariant.3
 
-  same : point_with points d.delivery-at.result k.key-offsets.result.of_keys l.loop.row
-      ≡ point_in points starts (delivery_at points l.loop.place)
-      (rows_of (table_stock s.args.table.now) (delivery_at points l.loop.place)) l.loop.row
+  same : point_with points d.delivery_at-p.result k.key_offsets-offsets.result.of_keys l.loop-place.row
+      ≡ point_in points starts (delivery_at points l.loop-place.place)
+      (rows_of (table_stock s.args.table.now) (delivery_at points l.loop-place.place)) l.loop-place.row
   same =
-      ap (λ (os : List ℕ). point_with points d.delivery-at.result os l.loop.row) k.key-offsets.ensures
-      ∙ ap₂ (λ (p : DeliveryPoint) (rows : List ℕ). point_in points starts p rows l.loop.row) d.delivery-at.ensures
-      (rows-found s.args.table.now s.pre.0.of_table (delivery_at points l.loop.place) t.table-shelf.ensures
-      d.delivery-at.ensures r.rows-by.ensures)
+      ap (λ (os : List ℕ). point_with points d.delivery_at-p.result os l.loop-place.row) k.key_offsets-offsets.ensures
+      ∙ ap₂ (λ (p : DeliveryPoint) (rows : List ℕ). point_in points starts p rows l.loop-place.row) d.delivery_at-p.ensures
+      (rows-found s.args.table.now s.requires.known.of_table (delivery_at points l.loop-place.place) t.table_shelf-s.ensures
+      d.delivery_at-p.ensures r.rows_by-found.ensures)
 
-  more : length (organisation_rows points (packed_from points code l.loop.place))
-      ≡ length (organisation_row points (delivery_at points l.loop.place)) + length (organisation_rows points rest)
-  more = organisations-length points (packed_at points l.loop.place) rest step
+  more : length (organisation_rows points (packed_from points code l.loop-place.place))
+      ≡ length (organisation_row points (delivery_at points l.loop-place.place)) + length (organisation_rows points rest)
+  more = organisations-length points (packed_at points l.loop-place.place) rest step
 
-point-at-requires : tie.Need-point-at-requires invariant-loop decreases-loop
+point-at-requires : tie.Need-point_at-end-requires invariant-loop decreases-loop
 point-at-requires c κs =
     let k = c.before in
-    let i = (l k).loop.place in
+    let i = (l k).loop-place.place in
     let in-file = view-within (points k) i (high k) in (
-      rw (d k).delivery-at.ensures (record { postcode = in-file.postcode; suffix = in-file.suffix; box = in-file.box }),
-      room_as (l k).loop.out (l k).loop.end (same k)
+      rw (d k).delivery_at-p.ensures (record { postcode = in-file.postcode; suffix = in-file.suffix; box = in-file.box }),
+      room_as (l k).loop-place.out (l k).loop-place.end (same k)
           (point-room (packed_at (points k) i) (rest k) (s k).requires.1.1 (table_stock (s k).args.table.now) (points k)
-          (points k) (starts k) (l k).loop.row (left k)),
+          (points k) (starts k) (l k).loop-place.row (left k)),
     )
 
-organisation-len-requires : tie.Need-organisation-len-requires invariant-loop decreases-loop
+organisation-len-requires : tie.Need-organisation_len-row-requires invariant-loop decreases-loop
 organisation-len-requires c κs =
     let k = c.before.before.before.before in
-    rw (d k).delivery-at.ensures (view-within (points k) (l k).loop.place (high k)).organisation
+    rw (d k).delivery_at-p.ensures (view-within (points k) (l k).loop-place.place (high k)).organisation
 
 -- how long its organisation's row is
-len : (c : tie.After-organisation-len invariant-loop decreases-loop)
-    → c.organisation-len.result
+len : (c : tie.After-organisation_len-row invariant-loop decreases-loop)
+    → c.organisation_len-row.result
     ≡ length (organisation_row (points c.before.before.before.before.before)
-    (delivery_at (points c.before.before.before.before.before) (l c.before.before.before.before.before).loop.place))
+    (delivery_at (points c.before.before.before.before.before) (l c.before.before.before.before.before).loop-place.place))
 len c =
     let k = c.before.before.before.before.before in
-    c.organisation-len.ensures.0
-    ∙ ap (λ (p : DeliveryPoint). length (organisation_row (points k) p)) (d k).delivery-at.ensures
+    c.organisation_len-row.ensures.0
+    ∙ ap (λ (p : DeliveryPoint). length (organisation_row (points k) p)) (d k).delivery_at-p.ensures
 
-add_row : tie.Need-overflow-add-row invariant-loop decreases-loop
+add_row : tie.Need-overflow_add-row invariant-loop decreases-loop
 add_row c =
     let k = c.before.before.before.before.before in
-    omega (arith, more k, len c, (l k).loop.invariant.2, (s k).well_formed.1.1.1.1.1.1.0)
+    omega (arith, more k, len c, (l k).loop-place.invariant.2, (s k).well_formed.1.1.1.1.1.1.0)
 
-loop-less : tie.Need-loop-smaller invariant-loop decreases-loop
+loop-less : tie.Need-loop-place-smaller invariant-loop decreases-loop
 loop-less c =
     let k = c.before.before.before.before.before.before in
-    omega (arith, c.next-wanted2.ensures, (next-range (code k) (points k) ((l k).loop.place + 1)).0)
+    omega (arith, c.next_wanted-place-in-loop-place.ensures, (next-range (code k) (points k) ((l k).loop-place.place + 1)).0)
 
-loop-again : tie.Need-loop-preserved invariant-loop decreases-loop
+loop-again : tie.Need-loop-place-preserved invariant-loop decreases-loop
 loop-again c =
     let o = c.before in
-    let w = o.before.before.before in
+    let w = o in
     let k = w.before.before in
-    let i = (l k).loop.place in
-    rw c.next-wanted2.ensures (
-      w.point_at.auto.1.1.1.1.1.0 ∙ (l k).loop.invariant.0,
+    let i = (l k).loop-place.place in
+    rw c.next_wanted-place-in-loop-place.ensures (
+      w.point_at-end.auto.1.1.1.1.1.0 ∙ (l k).loop-place.invariant.0,
       next-next (code k) (points k) (i + 1),
-      omega (arith, more k, len o, (l k).loop.invariant.2),
+      omega (arith, more k, len o, (l k).loop-place.invariant.2),
       point-on (packed_at (points k) i) (rest k) (s k).requires.1.1 (table_stock (s k).args.table.now) (points k) (points k)
-          (starts k) (l k).loop.row (left k) (len o) (put_as (same k) w.point_at.ensures),
+          (starts k) (l k).loop-place.row (left k) (len o) (put_as (same k) w.point_at-end.ensures),
     )
 
 returns : tie.Need-returns invariant-loop decreases-loop
 returns c =
-    let l = c.before in
-    let f = l.before.before.before in
-    let a = f.before.before.before.before.before.before.before.args in
-    let end = packed-end a.points.now a.code.now l.loop.place (omega (arith, f.last_of.ensures)) in
+    let l = c in
+    let f = l in
+    let a = f.args in
+    let end = packed-end a.points.now a.code.now l.loop-place.place (omega (arith, f.last_of-last.ensures)) in
     going_end
     (going-as
-    (ap (points_in (table_stock a.table.now) a.points.now a.points.now a.starts.now l.loop.row) end)
-    l.loop.invariant.3)
+    (ap (points_in (table_stock a.table.now) a.points.now a.points.now a.starts.now l.loop-place.row) end)
+    l.loop-place.invariant.3)
 
-pub points-at-spec : {M : Type 1} → statement M
-points-at-spec =
+pub points_at_spec : {M : Type 1} → statement M
+points_at_spec =
     tie.close
     (tie.spec invariant-loop decreases-loop (search rules) (search rules) (search rules) loop-holds (search rules) rows-by-requires
     (search rules) point-at-requires organisation-len-requires add_row (search rules) (search rules) loop-less loop-again

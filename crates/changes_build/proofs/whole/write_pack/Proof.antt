@@ -53,96 +53,96 @@ module _ (s : tie.Start) where
   behind-points = trailer_from st points points starts ds code s.args.rows s.args.count
 
   room : 0 + length pack ≤ length s.args.out.now
-  room = pack-room st points points starts ds code s.args.rows s.args.count s.pre.1
+  room = pack-room st points points starts ds code s.args.rows s.args.count s.requires.ready
 
   -- all points have one width
   points-size : (i : ℕ) → point_width newest * s.args.count ≤ length (points_in st points points starts i ds)
-  points-size i = omega (arith, points-long st starts i (all_said points code) (all-within points code), s.pre.1.of_points)
+  points-size i = omega (arith, points-long st starts i (all_said points code) (all-within points code), s.requires.ready.of_points)
 
 -- the rows are written
-module _ (at_rows : tie.After-rows-at) where
+module _ (at_rows : tie.After-rows_at-i) where
   abbrev start-of-rows : tie.Start
   start-of-rows = at_rows.before.before.before.before.before.before.before.before.before
 
-  rows-put : Put (used_rows (st start-of-rows) (starts start-of-rows)) start-of-rows.args.out.now 0 at_rows.rows_at.result at_rows.rows_at.last.1.1.1.1.0
+  rows-put : Put (used_rows (st start-of-rows) (starts start-of-rows)) start-of-rows.args.out.now 0 at_rows.rows_at-i.result at_rows.rows_at-i.last.1.1.1.1.0
   rows-put =
-      put_as (ap (λ (s : Shelf). used_rows (stock_of s start-of-rows.args.table.now) (starts start-of-rows)) at_rows.before.before.table-shelf.ensures)
-      at_rows.rows_at.ensures
+      put_as (ap (λ (s : Shelf). used_rows (stock_of s start-of-rows.args.table.now) (starts start-of-rows)) at_rows.table_shelf.ensures)
+      at_rows.rows_at-i.ensures
 
-rows-at-requires : tie.Need-rows-at-requires
+rows-at-requires : tie.Need-rows_at-i-requires
 rows-at-requires c κs =
     let t = c.before in
     let s = t.before.before.before.before.before.before.before in
     let rows = used_rows (st s) (starts s) in
     let i = length rows in
     let j = i + length (organisation_rows (points s) (ds s)) in
-    rw t.table-shelf.ensures (
+    rw t.table_shelf.ensures (
       table_fits,
       going-room rows (organisation_rows (points s) (ds s) ++ behind s i j)
           (pack-start (st s) (points s) (points s) (starts s) (ds s) (code s) s.args.rows s.args.count s.requires.1 i j
           refl refl) (room s),
     )
 
-organisations-at-requires : tie.Need-organisations-at-requires
+organisations-at-requires : tie.Need-organisations_at-j-requires
 organisations-at-requires c κs =
     let at_rows = c.before.before.before in
     let s = start-of-rows at_rows in
-    let i = at_rows.rows_at.result in
+    let i = at_rows.rows_at-i.result in
     let organisations = organisation_rows (points s) (ds s) in
     let j = i + length organisations in
     going-room organisations (behind s i j)
-    (after-rows (st s) (points s) (points s) (starts s) (ds s) (code s) s.args.rows s.args.count s.pre.1
+    (after-rows (st s) (points s) (points s) (starts s) (ds s) (code s) s.args.rows s.args.count s.requires.ready
     (rows-put at_rows) j refl) (room s)
 
 -- so are the organisations' rows
-module _ (at-organisations : tie.After-organisations-at) where
-  abbrev rows_before : tie.After-rows-at
+module _ (at-organisations : tie.After-organisations_at-j) where
+  abbrev rows_before : tie.After-rows_at-i
   rows_before = at-organisations.before.before.before.before
 
   abbrev start-of-organisations : tie.Start
   start-of-organisations = start-of-rows rows_before
 
-  points_left : Going (pack start-of-organisations) (behind start-of-organisations rows_before.rows_at.result at-organisations.organisations-at.result) start-of-organisations.args.out.now 0
-      at-organisations.organisations-at.result at-organisations.organisations-at.last.1.1.1.0
+  points_left : Going (pack start-of-organisations) (behind start-of-organisations rows_before.rows_at-i.result at-organisations.organisations_at-j.result) start-of-organisations.args.out.now 0
+      at-organisations.organisations_at-j.result at-organisations.organisations_at-j.last.1.1.1.0
   points_left =
       after-organisations (st start-of-organisations) (points start-of-organisations) (points start-of-organisations) (starts start-of-organisations) (ds start-of-organisations) (code start-of-organisations) start-of-organisations.args.rows
-      start-of-organisations.args.count start-of-organisations.pre.1 (rows-put rows_before) at-organisations.organisations-at.ensures
+      start-of-organisations.args.count start-of-organisations.requires.ready (rows-put rows_before) at-organisations.organisations_at-j.ensures
 
-points-at-requires : tie.Need-points-at-requires
+points-at-requires : tie.Need-points_at-k-requires
 points-at-requires c κs =
     let at-organisations = c.before.before.before in
     let s = start-of-organisations at-organisations in
-    let i = (rows_before at-organisations).rows_at.result in
-    let j = at-organisations.organisations-at.result in (
-      s.pre.0,
+    let i = (rows_before at-organisations).rows_at-i.result in
+    let j = at-organisations.organisations_at-j.result in (
+      s.requires.known,
       (
-        omega (arith, at-organisations.organisations-at.ensures.size),
+        omega (arith, at-organisations.organisations_at-j.ensures.size),
         going-room (points_in (st s) (points s) (points s) (starts s) i (ds s))
             (behind-points s i j) (points_left at-organisations) (room s),
       ),
     )
 
 -- and the points
-module _ (at-points : tie.After-points-at) where
-  abbrev organisations-before : tie.After-organisations-at
+module _ (at-points : tie.After-points_at-k) where
+  abbrev organisations-before : tie.After-organisations_at-j
   organisations-before = at-points.before.before.before.before
 
   abbrev start-of-points : tie.Start
   start-of-points = start-of-organisations organisations-before
 
   abbrev out-with-points : List ℕ
-  out-with-points = at-points.points-at.last.1.1.1.1.1.1.1.0
+  out-with-points = at-points.points_at-k.last.1.1.1.1.1.1.1.0
 
   trailer-left : Going (pack start-of-points)
-      (trailer_bytes newest start-of-points.args.rows organisations-before.organisations-at.result start-of-points.args.count (code start-of-points)
-      (counts_at_in out-with-points start-of-points.args.count organisations-before.organisations-at.result))
-      start-of-points.args.out.now 0 at-points.points-at.result out-with-points
+      (trailer_bytes newest start-of-points.args.rows organisations-before.organisations_at-j.result start-of-points.args.count (code start-of-points)
+      (counts_at_in out-with-points start-of-points.args.count organisations-before.organisations_at-j.result))
+      start-of-points.args.out.now 0 at-points.points_at-k.result out-with-points
   trailer-left =
       after-points (st start-of-points) (points start-of-points) (points start-of-points) (starts start-of-points) (ds start-of-points) (code start-of-points) start-of-points.args.rows start-of-points.args.count
-      start-of-points.pre.1 (rows-put (rows_before organisations-before)) organisations-before.organisations-at.ensures at-points.points-at.ensures
-      (points-size start-of-points (rows_before organisations-before).rows_at.result)
+      start-of-points.requires.ready (rows-put (rows_before organisations-before)) organisations-before.organisations_at-j.ensures at-points.points_at-k.ensures
+      (points-size start-of-points (rows_before organisations-before).rows_at-i.result)
 
-trailer-at-requires : tie.Need-trailer-at-requires
+trailer-at-requires : tie.Need-trailer_at-requires
 unfolding wanted_count
 trailer-at-requires c κs =
     let at-points = c.before.before.before in
@@ -150,7 +150,7 @@ trailer-at-requires c κs =
       omega (
         arith,
         going-left (points_left (organisations-before at-points)) (room s),
-        s.pre.1.of_points,
+        s.requires.ready.of_points,
         packed-length (points s) (wanted_in (code s) (points s)),
         count-bound (code s) (points s),
         s.good,
@@ -158,8 +158,8 @@ trailer-at-requires c κs =
       (
         omega (
           arith,
-          at-points.points-at.ensures.size,
-          points-size s (rows_before (organisations-before at-points)).rows_at.result,
+          at-points.points_at-k.ensures.size,
+          points-size s (rows_before (organisations-before at-points)).rows_at-i.result,
         ),
         going-left (trailer-left at-points) (room s),
       ),
@@ -167,12 +167,12 @@ trailer-at-requires c κs =
 
 returns : tie.Need-returns
 returns c =
-    let behind-trailer-at = c.before.before in
+    let behind-trailer-at = c in
     let at-points = behind-trailer-at.before.before.before.before in
-    wrote (going-last (trailer-left at-points) behind-trailer-at.trailer-at.ensures (room (start-of-points at-points)))
+    wrote (going-last (trailer-left at-points) behind-trailer-at.trailer_at.ensures (room (start-of-points at-points)))
 
-pub write-pack-spec : {M : Type 1} → statement M
-write-pack-spec =
+pub write_pack_spec : {M : Type 1} → statement M
+write_pack_spec =
     tie.close
     (tie.spec (search rules) rows-at-requires organisations-at-requires points-at-requires trailer-at-requires
     (search rules) returns)

@@ -14,15 +14,15 @@ use Rattle.changes_codes.proofs.Pairs.{pairs-on, pairs_end}
 use Rattle.changes_codes.proofs.entries.write_entries.Statement.{statement}
 use Rattle.changes_codes.proofs.entries.write_entries.Tie as tie
 
-abbrev invariant-loop : tie.invariant-loop
+abbrev invariant-loop : tie.invariant-loop-i
 invariant-loop codes counts out₀ at₀ i₀ out at i =
     (length out ≡ length out₀) × Going (pair_bytes codes counts) (pair_bytes (drop i codes) (drop i counts)) out₀ 0 at out
 
-abbrev decreases-loop : tie.decreases-loop
+abbrev decreases-loop : tie.decreases-loop-i
 decreases-loop codes counts out₀ at₀ i₀ out at i = length codes - i
 
-module _ (n : tie.In-loop invariant-loop decreases-loop) where
-  abbrev l : tie.At-loop invariant-loop decreases-loop
+module _ (n : tie.In-loop-i invariant-loop decreases-loop) where
+  abbrev l : tie.At-loop-i invariant-loop decreases-loop
   l = n.before
 
   abbrev s : tie.Start invariant-loop decreases-loop
@@ -35,7 +35,7 @@ module _ (n : tie.In-loop invariant-loop decreases-loop) where
   counts = s.args.counts.now
 
   abbrev i : ℕ
-  i = l.loop.i
+  i = l.loop-i.i
 
   -- this entry, and all entries behind it
   abbrev this : List ℕ
@@ -45,44 +45,44 @@ module _ (n : tie.In-loop invariant-loop decreases-loop) where
   behind = pair_bytes (drop (i + 1) codes) (drop (i + 1) counts)
 
   room : 0 + length (pair_bytes codes counts) ≤ length s.args.out.now
-  room = omega (arith, s.pre.1)
+  room = omega (arith, s.requires.counts_in_bounds)
 
-  left : Going (pair_bytes codes counts) (this ++ behind) s.args.out.now 0 l.loop.at l.loop.out
-  left = going-as (pairs-on codes counts i s.pre.0 n.loop-test.taken) l.loop.inv.1
+  left : Going (pair_bytes codes counts) (this ++ behind) s.args.out.now 0 l.loop-i.at l.loop-i.out
+  left = going-as (pairs-on codes counts i s.requires.counts_len n.loop-i-test.taken) l.loop-i.invariant.1
 
-loop-holds : tie.Need-loop-init invariant-loop decreases-loop
+loop-holds : tie.Need-loop-i-init invariant-loop decreases-loop
 loop-holds c =
-    let s = c.before.before.before in
+    let s = c in
     (refl, going_start (pair_bytes s.args.codes.now s.args.counts.now) s.args.out.now 0)
 
-cast-entry-at : tie.Need-overflow-cast-entry-at invariant-loop decreases-loop
-cast-entry-at c = omega (arith, c.shared-slice-known3.given (i c.before))
+cast-entry-at : tie.Need-overflow_cast-codes invariant-loop decreases-loop
+cast-entry-at c = omega (arith, c.shared_slice_known-in-loop-i-1.given (i c.before))
 
-cast-entry-at-2 : tie.Need-overflow-cast-entry-at-2 invariant-loop decreases-loop
-cast-entry-at-2 c = omega (arith, c.shared-slice-known4.given (i c.before.before))
+cast-entry-at-2 : tie.Need-overflow_cast-counts invariant-loop decreases-loop
+cast-entry-at-2 c = omega (arith, c.shared_slice_known-in-loop-i-2-1.given (i c.before.before))
 
-entry-at-requires : tie.Need-entry-at-requires invariant-loop decreases-loop
+entry-at-requires : tie.Need-entry_at-at-requires invariant-loop decreases-loop
 entry-at-requires c κs =
     let n = c.before.before.before in
     going-room (this n) (behind n) (left n) (room n)
 
-loop-again : tie.Need-loop-preserved invariant-loop decreases-loop
+loop-again : tie.Need-loop-i-preserved invariant-loop decreases-loop
 loop-again c =
-    let v = c.before.before in
+    let v = c in
     let n = v.before.before.before.before in (
-      v.entry_at.auto.1.1.1.0 ∙ (l n).loop.invariant.0,
-      going_step (behind n) (left n) v.entry_at.ensures (room n),
+      v.entry_at-at.auto.1.1.1.0 ∙ (l n).loop-i.invariant.0,
+      going_step (behind n) (left n) v.entry_at-at.ensures (room n),
     )
 
 returns : tie.Need-returns invariant-loop decreases-loop
 returns c =
-    let l = c.before in
-    let s = l.before.before.before.before in
-    let none = pairs_end s.args.codes.now s.args.counts.now l.loop.i c.loop-test.false in
-    wrote (going_end (going-as none l.loop.invariant.1))
+    let l = c in
+    let s = l in
+    let none = pairs_end s.args.codes.now s.args.counts.now l.loop-i.i c.loop-i-test.false in
+    wrote (going_end (going-as none l.loop-i.invariant.1))
 
-pub write-entries-spec : {M : Type 1} → statement M
-write-entries-spec =
+pub write_entries_spec : {M : Type 1} → statement M
+write_entries_spec =
     tie.close
     (tie.spec
     invariant-loop

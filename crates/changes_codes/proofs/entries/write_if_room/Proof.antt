@@ -21,27 +21,27 @@ module _ (s : tie.Start) where
   needed : length bytes ≡ 8 * length s.args.codes.now
   needed = pairs-long s.args.codes.now s.args.counts.now s.pre.0
 
-returns : tie.Need-returns
+returns : tie.Need-returns-then-out-needed
 returns c =
     let s = c.before.before.before.before in
     let out = s.args.out.now in
     said-as (ap (λ (n : ℕ). Refused 0 (Room n)) (sym (needed s))) refl
-    ∙ sym (falls-short (length s.args.codes.now) (bytes s) out (omega (arith, needed s, c.if1.true)))
+    ∙ sym (falls-short (length s.args.codes.now) (bytes s) out (omega (arith, needed s, c.if-out-needed.true)))
 
-write-entries-requires : tie.Need-write-entries-requires
+write-entries-requires : tie.Need-write_entries-requires
 write-entries-requires c κs =
-    let s = c.before.before.before.before.before in
-    (s.requires.0, omega (arith, needed s, c.before.if1.false))
+    let s = c in
+    (s.requires.0, omega (arith, needed s, c.if-out-needed.false))
 
-returns-2 : tie.Need-returns-2
+returns-2 : tie.Need-returns
 returns-2 c =
-    let w = c.before.before in
-    let e = w.before.before in
+    let w = c in
+    let e = w in
     let s = e.before.before.before.before in
     let out = s.args.out.now in
     said-as refl w.write_entries.ensures.is
-    ∙ sym (fits (length s.args.codes.now) (bytes s) out (omega (arith, needed s, e.if1.false)))
+    ∙ sym (fits (length s.args.codes.now) (bytes s) out (omega (arith, needed s, e.if-out-needed.false)))
 
-pub write-if-room-spec : {M : Type 1} → statement M
-write-if-room-spec =
+pub write_if_room_spec : {M : Type 1} → statement M
+write_if_room_spec =
     tie.close (tie.spec (search rules) returns write-entries-requires (search rules) returns-2)

@@ -10,8 +10,8 @@ use Rattle.changes_codes.proofs.gather.is_live.Tie as tie
 
 returns : tie.Need-returns
 returns c =
-    let letter = get_or c.before.before.args.rec.now 40 0 in
-    rw c.byte_of.ensures (ap (eqb letter 73 ||◌) (sym (or-false (eqb letter 67))))
+    let letter = get_or c.args.rec.now 40 0 in
+    rw c.byte_of-letter.ensures (ap (eqb letter 73 ||◌) (sym (or-false (eqb letter 67))))
 
-pub is-live-spec : {M : Type 1} → statement M
-is-live-spec = tie.close (tie.spec (search rules) returns)
+pub is_live_spec : {M : Type 1} → statement M
+is_live_spec = tie.close (tie.spec (search rules) returns)

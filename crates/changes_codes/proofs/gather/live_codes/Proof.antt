@@ -18,24 +18,24 @@ use Rattle.changes_codes.proofs.Gathered.{codes_from, codes-start, codes-live, c
 use Rattle.changes_codes.proofs.gather.live_codes.Statement.{statement}
 use Rattle.changes_codes.proofs.gather.live_codes.Tie as tie
 
-abbrev invariant-loop : tie.invariant-loop
+abbrev invariant-loop : tie.invariant-loop-next
 invariant-loop points codes₀ last n₀ next₀ codes n next =
     (length codes ≡ length codes₀)
     × (next_wanted [] points next ≡ next)
     × Going (all_codes points) (codes_from points next) codes₀ 0 n codes
 
-abbrev decreases-loop : tie.decreases-loop
+abbrev decreases-loop : tie.decreases-loop-next
 decreases-loop points codes₀ last n₀ next₀ codes n next = last - next
 
 -- once it is known whether the view is live
-module _ (f : tie.After-is-live invariant-loop decreases-loop) where
-  abbrev r : tie.After-point-record invariant-loop decreases-loop
+module _ (f : tie.After-is_live invariant-loop decreases-loop) where
+  abbrev r : tie.After-point_record-rec invariant-loop decreases-loop
   r = f.before.before.before
 
-  abbrev l : tie.At-loop invariant-loop decreases-loop
+  abbrev l : tie.At-loop-next invariant-loop decreases-loop
   l = r.before.before
 
-  abbrev k : tie.After-last-of invariant-loop decreases-loop
+  abbrev k : tie.After-last_of-last invariant-loop decreases-loop
   k = l.before.before.before
 
   abbrev s : tie.Start invariant-loop decreases-loop
@@ -45,98 +45,98 @@ module _ (f : tie.After-is-live invariant-loop decreases-loop) where
   points = s.args.points.now
 
   abbrev rec : List ℕ
-  rec = record_at 168 points l.loop.next
+  rec = record_at 168 points l.loop-next.next
 
   room : 0 + length (all_codes points) ≤ length s.args.codes.now
   room = omega (arith, s.pre)
 
-  inside : l.loop.next < last_of points
-  inside = omega (arith, r.before.loop-test.taken, k.last_of.ensures)
+  inside : l.loop-next.next < last_of points
+  inside = omega (arith, r.loop-next-test.taken, k.last_of-last.ensures)
 
   said : f.is_live.result ≡ is_live rec
-  said = f.is_live.ensures ∙ ap is_live r.point-record.ensures
+  said = f.is_live.ensures ∙ ap is_live r.point_record-rec.ensures
 
   -- a live view's code is the next to write
   module _ (e : f.is_live.result ≡ true) where
-    left : Going (all_codes points) (code_of rec ∷ codes_from points (next_wanted [] points (l.loop.next + 1)))
+    left : Going (all_codes points) (code_of rec ∷ codes_from points (next_wanted [] points (l.loop-next.next + 1)))
         s.args.codes.now
         0
-        l.loop.n
-        l.loop.codes
-    left = going-as (codes-live points l.loop.next l.loop.inv.1 inside (sym said ∙ e)) l.loop.inv.2
+        l.loop-next.n
+        l.loop-next.codes
+    left = going-as (codes-live points l.loop-next.next l.loop-next.invariant.1 inside (sym said ∙ e)) l.loop-next.invariant.2
 
-    free : l.loop.n + 1 ≤ length l.loop.codes
-    free = going-room (code_of rec ∷ []) (codes_from points (next_wanted [] points (l.loop.next + 1))) left room
+    free : l.loop-next.n + 1 ≤ length l.loop-next.codes
+    free = going-room (code_of rec ∷ []) (codes_from points (next_wanted [] points (l.loop-next.next + 1))) left room
 
-loop-holds : tie.Need-loop-init invariant-loop decreases-loop
+loop-holds : tie.Need-loop-next-init invariant-loop decreases-loop
 loop-holds c =
-    let s = c.before.before.before.before.before in
+    let s = c in
     let points = s.args.points.now in
-    rw c.next-wanted.ensures (
+    rw c.next_wanted-next.ensures (
       refl,
       next-next [] points 1,
       going-as (codes-start points) (going_start (all_codes points) s.args.codes.now 0),
     )
 
-code-of-requires : tie.Need-code-of-requires invariant-loop decreases-loop
+code-of-requires : tie.Need-code_of-requires invariant-loop decreases-loop
 code-of-requires c κs =
     let f = c.before in
-    rw (r f).point-record.ensures (omega (arith, record-length 168 (points f) (l f).loop.next (omega (arith, inside f))))
+    rw (r f).point_record-rec.ensures (omega (arith, record-length 168 (points f) (l f).loop-next.next (omega (arith, inside f))))
 
-mul-codes : tie.Need-overflow-mul-codes invariant-loop decreases-loop
-mul-codes c = omega (arith, free c.before.before c.before.if1.true, (l c.before.before).loop.inv.0)
+mul-codes : tie.Need-offset_bounds-codes-n invariant-loop decreases-loop
+mul-codes c = omega (arith, free c.before.before c.if-is_live.true, (l c.before.before).loop-next.invariant.0)
 
-slice-write-codes : tie.Need-slice-write-codes invariant-loop decreases-loop
-slice-write-codes c = omega (arith, free c.before.before c.before.if1.true, (l c.before.before).loop.inv.0)
+slice-write-codes : tie.Need-bounds-codes-n invariant-loop decreases-loop
+slice-write-codes c = omega (arith, free c.before.before c.if-is_live.true, (l c.before.before).loop-next.invariant.0)
 
-add-n : tie.Need-overflow-add-n invariant-loop decreases-loop
-add-n c = omega (arith, free c.before.before c.before.if1.true, (l c.before.before).loop.inv.0)
+add-n : tie.Need-overflow_add-n invariant-loop decreases-loop
+add-n c = omega (arith, free c.before.before c.if-is_live.true, (l c.before.before).loop-next.invariant.0)
 
-loop-less : tie.Need-loop-smaller invariant-loop decreases-loop
+loop-less : tie.Need-loop-next-smaller-then-is_live invariant-loop decreases-loop
 loop-less c =
     let f = c.before.before in
-    omega (arith, f.before.next-wanted2.ensures, (next-range [] (points f) ((l f).loop.next + 1)).0, inside f)
+    omega (arith, f.next_wanted-next-in-loop-next.ensures, (next-range [] (points f) ((l f).loop-next.next + 1)).0, inside f)
 
-loop-again : tie.Need-loop-preserved invariant-loop decreases-loop
+loop-again : tie.Need-loop-next-preserved-then-is_live invariant-loop decreases-loop
 loop-again c =
     let f = c.before.before in
-    let i = (l f).loop.next in
-    let live = c.before.if1.true in
-    let put = put_byte (l f).loop.codes (l f).loop.n c.code_of_lem.result (free f live) in
-    let is = c.code_of_lem.ensures ∙ ap code_of (r f).point-record.ensures in
-    rw f.before.next-wanted2.ensures (
-      length-set (l f).loop.codes (l f).loop.n _ ∙ (l f).loop.invariant.0,
+    let i = (l f).loop-next.next in
+    let live = c.if-is_live.true in
+    let put = put_byte (l f).loop-next.codes (l f).loop-next.n c.code_of.result (free f live) in
+    let is = c.code_of.ensures ∙ ap code_of (r f).point_record-rec.ensures in
+    rw f.next_wanted-next-in-loop-next.ensures (
+      length-set (l f).loop-next.codes (l f).loop-next.n _ ∙ (l f).loop-next.invariant.0,
       next-next [] (points f) (i + 1),
       going_step (codes_from (points f) (next_wanted [] (points f) (i + 1))) (left f live) (put_as (ap (◌∷ []) is) put)
           (room f),
     )
 
-loop-less-2 : tie.Need-loop-smaller-2 invariant-loop decreases-loop
+loop-less-2 : tie.Need-loop-next-smaller invariant-loop decreases-loop
 loop-less-2 c =
     let f = c.before in
-    omega (arith, f.before.next-wanted2.ensures, (next-range [] (points f) ((l f).loop.next + 1)).0, inside f)
+    omega (arith, f.next_wanted-next-in-loop-next.ensures, (next-range [] (points f) ((l f).loop-next.next + 1)).0, inside f)
 
-loop-again-2 : tie.Need-loop-preserved-2 invariant-loop decreases-loop
+loop-again-2 : tie.Need-loop-next-preserved invariant-loop decreases-loop
 loop-again-2 c =
     let f = c.before in
-    let i = (l f).loop.next in
-    rw f.before.next-wanted2.ensures (
-      (l f).loop.invariant.0,
+    let i = (l f).loop-next.next in
+    rw f.next_wanted-next-in-loop-next.ensures (
+      (l f).loop-next.invariant.0,
       next-next [] (points f) (i + 1),
-      going-as (codes-other (points f) i (l f).loop.invariant.1 (inside f) (sym (said f) ∙ c.if1.false)) (l f).loop.invariant.2,
+      going-as (codes-other (points f) i (l f).loop-next.invariant.1 (inside f) (sym (said f) ∙ c.if-is_live.false)) (l f).loop-next.invariant.2,
     )
 
 returns : tie.Need-returns invariant-loop decreases-loop
 returns c =
-    let l = c.before in
-    let k = l.before.before.before in
-    let s = k.before.before.before in
+    let l = c in
+    let k = l in
+    let s = k in
     let points = s.args.points.now in
-    let none = codes-end points l.loop.next (omega (arith, c.loop-test.false, k.last_of.ensures)) in
-    wrote (going_end (going-as none l.loop.invariant.2))
+    let none = codes-end points l.loop-next.next (omega (arith, c.loop-next-test.false, k.last_of-last.ensures)) in
+    wrote (going_end (going-as none l.loop-next.invariant.2))
 
-pub live-codes-spec : {M : Type 1} → statement M
-live-codes-spec =
+pub live_codes_spec : {M : Type 1} → statement M
+live_codes_spec =
     tie.close
     (tie.spec
     invariant-loop

@@ -19,21 +19,21 @@ use Rattle.csv_write.proofs.Placed.{no_place, some-place, placed-written}
 use Rattle.changes_csv.proofs.places.row_at.Statement.{statement}
 use Rattle.changes_csv.proofs.places.row_at.Tie as tie
 
-returns : tie.Need-returns
+returns : tie.Need-returns-then-place-eq0
 returns c =
-    let a = c.before.before.before.before.args in
+    let a = c.args in
     sym
-    (no_place (table_lookup a.table.now) (address_at a.points.now 0 a.place) a.place a.out.now c.if1.true)
+    (no_place (table_lookup a.table.now) (address_at a.points.now 0 a.place) a.place a.out.now c.if-place-eq0.true)
 
 -- once the rows are looked up
-module _ (judged : tie.After-refusal-in) where
-  abbrev looked : tie.After-rows-of
+module _ (judged : tie.After-refusal_in) where
+  abbrev looked : tie.After-rows_of-found
   looked = judged.before
 
-  abbrev read : tie.After-delivery-at
+  abbrev read : tie.After-delivery_at-p
   read = looked.before.before
 
-  abbrev there : tie.Else1
+  abbrev there : tie.Else-place-eq0
   there = read.before.before
 
   abbrev start : tie.Start
@@ -55,65 +55,65 @@ module _ (judged : tie.After-refusal-in) where
   address = address_at points 0 place
 
   high : suc place < length points / 168
-  high = omega (arith, start.pre.high there.if1.left)
+  high = omega (arith, start.pre.high there.if-place-eq0.left)
 
-  within : Within points read.delivery-at.result
+  within : Within points read.delivery_at-p.result
   within =
-      subst (λ (p : DeliveryPoint). Within points p) (sym read.delivery-at.ensures) (within-at points place high)
+      subst (λ (p : DeliveryPoint). Within points p) (sym read.delivery_at-p.ensures) (within-at points place high)
 
-  rows_are : looked.rows_of.result.rows ≡ rows_at table points place
+  rows_are : looked.rows_of-found.result.rows ≡ rows_at table points place
   rows_are =
-      looked.rows_of.ensures
-      ∙ rows_as read.before.table-shelf.result read.delivery-at.result table points place
-      read.before.table-shelf.ensures read.delivery-at.ensures
+      looked.rows_of-found.ensures
+      ∙ rows_as read.table_shelf-s.result read.delivery_at-p.result table points place
+      read.table_shelf-s.ensures read.delivery_at-p.ensures
 
-  verdict-is : judged.refusal-in.result ≡ refusal_in (delivery_at points place) (rows_at table points place)
-  verdict-is = judged.refusal-in.ensures ∙ ap₂ refusal_in read.delivery-at.ensures rows_are
+  verdict-is : judged.refusal_in.result ≡ refusal_in (delivery_at points place) (rows_at table points place)
+  verdict-is = judged.refusal_in.ensures ∙ ap₂ refusal_in read.delivery_at-p.ensures rows_are
 
-rows-of-requires : tie.Need-rows-of-requires
-rows-of-requires c κs = rw c.before.before.table-shelf.ensures table_fits
+rows-of-requires : tie.Need-rows_of-found-requires
+rows-of-requires c κs = rw c.table_shelf-s.ensures table_fits
 
-spans-of-requires : tie.Need-spans-of-requires
+spans-of-requires : tie.Need-spans_of-requires
 spans-of-requires c κs =
     let judged = c.before.before in
-    (rw (read judged).before.table-shelf.ensures table_fits, within judged)
+    (rw (read judged).table_shelf-s.ensures table_fits, within judged)
 
-ending-of-requires : tie.Need-ending-of-requires
+ending-of-requires : tie.Need-ending_of-requires
 ending-of-requires c κs = (within c.before.before.before).suffix
 
-returns-2 : tie.Need-returns-2
+returns-2 : tie.Need-returns-in-Fine
 returns-2 c =
-    let written = c.before.before in
-    let ending = written.before.before in
-    let sp = ending.before in
-    let told = sp.before in
-    let judged = told.before.before in
+    let written = c in
+    let ending = written in
+    let sp = ending in
+    let told = sp in
+    let judged = told.before in
     let r = read judged in
-    let some = (there judged).if1.false in
-    let fine = sym (verdict-is judged) ∙ told.enum_told.given.1 in
+    let some = (there judged).if-place-eq0.false in
+    let fine = sym (verdict-is judged) ∙ told.in-Fine.is in
     let resolved =
     resolved-fine (table judged) (points judged) (start judged).requires.of_table (place judged)
     ((start judged).requires.high some) 0 fine in
     let spans =
-    sp.spans-of.ensures
-    ∙ elements-as (table judged) (points judged) r.before.table-shelf.ensures r.delivery-at.ensures (rows_are judged) in
-    rw spans at written.print-row.ensures
+    sp.spans_of.ensures
+    ∙ elements-as (table judged) (points judged) r.table_shelf-s.ensures r.delivery_at-p.ensures (rows_are judged) in
+    rw spans at written.print_row.ensures
     ∙ placed-written (look judged) (address judged) (place judged) (start judged).args.out.now (points judged)
     (points judged) some (says_at (points judged) (place judged) (high judged) 0)
-    (rw r.delivery-at.ensures at ending.Ending-of.ensures) resolved
+    (rw r.delivery_at-p.ensures at ending.Ending-of.ensures) resolved
 
-returns-3 : tie.Need-returns-3
+returns-3 : tie.Need-returns-in-Bad
 returns-3 c =
-    let judged = c.before.before.before in
-    let some = (there judged).if1.false in
-    let bad = sym (verdict-is judged) ∙ c.before.reason.given.1 in
+    let judged = c.before in
+    let some = (there judged).if-place-eq0.false in
+    let bad = sym (verdict-is judged) ∙ c.in-Bad.is in
     let resolved =
     resolved-bad (table judged) (points judged) (start judged).requires.of_table (place judged)
-    ((start judged).requires.high some) 0 c.before.reason.given.0.0 bad in
+    ((start judged).requires.high some) 0 c.in-Bad.reason bad in
     sym (some-place (look judged) (address judged) (place judged) (start judged).args.out.now some _ resolved)
 
-pub row-at-spec : {M : Type 1} → statement M
-row-at-spec =
+pub row_at_spec : {M : Type 1} → statement M
+row_at_spec =
     tie.close
     (tie.spec returns (λ c κs. search rules) (λ c κs. search rules) rows-of-requires (λ c κs. search rules) (search rules)
     spans-of-requires ending-of-requires (λ c κs. search rules) (search rules) (search rules) returns-2 returns-3)

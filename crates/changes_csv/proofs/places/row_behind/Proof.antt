@@ -8,12 +8,12 @@ use Rattle.changes_csv.proofs.places.row_behind.Tie as tie
 
 returns : tie.Need-returns
 returns c =
-    let row = c.before.before in
-    let a = row.before.before.before.before.before.args in
+    let row = c in
+    let a = row.args in
     lent-behind (place_row a.table.now a.points.now a.place) a.at a.out.now
     (given_back a.out.now _ a.at) (rw (lent a.out.now a.at) at row.row_at.ensures)
 
-pub row-behind-spec : {M : Type 1} → statement M
-row-behind-spec =
+pub row_behind_spec : {M : Type 1} → statement M
+row_behind_spec =
     tie.close
     (tie.spec (search rules) (search rules) (search rules) (λ c κs. search rules) (search rules) returns)

@@ -22,18 +22,18 @@ use Rattle.changes_csv.specs.Rows.{rows_asked}
 use Rattle.changes_csv.proofs.places.run_rows.Statement.{statement}
 use Rattle.changes_csv.proofs.places.run_rows.Tie as tie
 
-abbrev invariant-loop : tie.invariant-loop
+abbrev invariant-loop : tie.invariant-loop-done
 invariant-loop table points first count out₀ place₀ at₀ done₀ out place at done =
     (place ≡ wanted_at [] points (first + done))
     × (Going (rows_asked table points) first count out₀ done at out × (length out ≡ length out₀))
 
-abbrev decreases-loop : tie.decreases-loop
+abbrev decreases-loop : tie.decreases-loop-done
 decreases-loop table points first count out₀ place₀ at₀ done₀ out place at done = count - done
 
 -- a turn of the loop
-module _ (l : tie.At-loop invariant-loop decreases-loop) where
+module _ (l : tie.At-loop-done invariant-loop decreases-loop) where
   abbrev start : tie.Start invariant-loop decreases-loop
-  start = l.before.before.before.before.before.before
+  start = l
 
   abbrev table : List ℕ
   table = start.args.table.now
@@ -42,7 +42,7 @@ module _ (l : tie.At-loop invariant-loop decreases-loop) where
   points = start.args.points.now
 
   abbrev number : ℕ
-  number = start.args.first + l.loop.done
+  number = start.args.first + l.loop-done.done
 
   view-place : ViewPlace table points (wanted_at [] points number)
   view-place = wanted-place table points [] number start.pre
@@ -53,72 +53,72 @@ module _ (l : tie.At-loop invariant-loop decreases-loop) where
       placed-fits (table_lookup table) (address_at points 0 place) place out b e
 
 -- the row that was asked, by its number
-module _ (m : tie.After-row-behind invariant-loop decreases-loop) where
-  abbrev at-loop : tie.At-loop invariant-loop decreases-loop
+module _ (m : tie.After-row_behind invariant-loop decreases-loop) where
+  abbrev at-loop : tie.At-loop-done invariant-loop decreases-loop
   at-loop = m.before.before.before
 
-  asked : said m.row-behind.result m.row-behind.last.1.1.1.1.0
-      ≡ asked_behind at-loop.loop.at at-loop.loop.out (rows_asked (table at-loop) (points at-loop) (number at-loop))
-  asked = rw at-loop.loop.inv.0 at m.row-behind.ensures
+  asked : said m.row_behind.result m.row_behind.last.1.1.1.1.0
+      ≡ asked_behind at-loop.loop-done.at at-loop.loop-done.out (rows_asked (table at-loop) (points at-loop) (number at-loop))
+  asked = rw at-loop.loop-done.invariant.0 at m.row_behind.ensures
 
-loop-holds : tie.Need-loop-init invariant-loop decreases-loop
+loop-holds : tie.Need-loop-done-init invariant-loop decreases-loop
 loop-holds c =
-    let a = c.before.before.before.before.before.args in (
-      c.wanted-at.ensures ∙ ap (wanted_at [] a.points.now) (sym (add-zero a.first)),
+    let a = c.args in (
+      c.wanted_at-place.ensures ∙ ap (wanted_at [] a.points.now) (sym (add-zero a.first)),
       (going_start (rows_asked a.table.now a.points.now) a.first a.count a.out.now, refl),
     )
 
-row-behind-requires : tie.Need-row-behind-requires invariant-loop decreases-loop
+row-behind-requires : tie.Need-row_behind-requires invariant-loop decreases-loop
 row-behind-requires c κs =
     let l = c.before.before in
-    (l.loop.invariant.1.0.within, rw l.loop.invariant.0 (view-place l))
+    (l.loop-done.invariant.1.0.within, rw l.loop-done.invariant.0 (view-place l))
 
-add_at : tie.Need-overflow-add-at invariant-loop decreases-loop
+add_at : tie.Need-overflow_add-at invariant-loop decreases-loop
 add_at c =
-    let m = c.before.before.before.before.before in
+    let m = c.before.before.before in
     let l = at-loop m in
     omega (
       arith,
-      going-fits l.loop.inv.1.0 (fit l) (omega arith) (asked m) c.before.bytes.given.1,
-      m.row-behind.auto.1.1.1.1.0,
-      l.loop.inv.1.1,
+      going-fits l.loop-done.invariant.1.0 (fit l) (omega arith) (asked m) c.in-Value.is,
+      m.row_behind.auto.1.1.1.1.0,
+      l.loop-done.invariant.1.1,
       (start l).good.1.1.1.1.0.0,
     )
 
-returns : tie.Need-returns invariant-loop decreases-loop
+returns : tie.Need-returns-in-Refused invariant-loop decreases-loop
 returns c =
-    let m = c.before.before.before.before.before in
+    let m = c.before.before.before in
     let l = at-loop m in
-    going-stop l.loop.inv.1.0 (fit l) (omega arith) (asked m) c.before.reason.given.1
+    going-stop l.loop-done.invariant.1.0 (fit l) (omega arith) (asked m) c.in-Refused.is
 
-place-behind-requires : tie.Need-place-behind-requires invariant-loop decreases-loop
+place-behind-requires : tie.Need-place_behind-place-requires invariant-loop decreases-loop
 place-behind-requires c κs =
-    let l = at-loop c.before.before.before.before.before.before in
-    rw l.loop.inv.0 (place-bound (table l) (points l) _ (view-place l))
+    let l = at-loop c.before.before.before.before in
+    rw l.loop-done.invariant.0 (place-bound (table l) (points l) _ (view-place l))
 
-loop-again : tie.Need-loop-preserved invariant-loop decreases-loop
+loop-again : tie.Need-loop-done-preserved invariant-loop decreases-loop
 loop-again c =
-    let n = c.before.before in
-    let m = n.before.before.before.before.before in
+    let n = c in
+    let m = n.before.before.before.before in
     let l = at-loop m in
-    let is = n.before.bytes.given.1 in
+    let is = n.in-Value.is in
     let place = wanted_at [] (points l) (number l) in
     let some =
     placed-there (table_lookup (table l)) (address_at (points l) 0 place) place _ _ (sym (answer-of (asked m)) ∙ is) in
-    let next : (start l).args.first + (l.loop.done + 1) ≡ number l + 1 = omega arith in (
-      rw l.loop.inv.0 at c.place-behind.ensures
+    let next : (start l).args.first + (l.loop-done.done + 1) ≡ number l + 1 = omega arith in (
+      rw l.loop-done.invariant.0 at c.place_behind-place.ensures
           ∙ (sym (next_place [] (points l) (number l) some) ∙ ap (wanted_at [] (points l)) (sym next)),
       (
-        going_step l.loop.inv.1.0 (fit l) (omega arith) (asked m) is,
-        m.row-behind.auto.1.1.1.1.0 ∙ l.loop.inv.1.1,
+        going_step l.loop-done.invariant.1.0 (fit l) (omega arith) (asked m) is,
+        m.row_behind.auto.1.1.1.1.0 ∙ l.loop-done.invariant.1.1,
       ),
     )
 
-returns-2 : tie.Need-returns-2 invariant-loop decreases-loop
-returns-2 c = going_end c.before.loop.invariant.1.0 (omega arith)
+returns-2 : tie.Need-returns invariant-loop decreases-loop
+returns-2 c = going_end c.loop-done.invariant.1.0 (omega arith)
 
-pub run-rows-spec : {M : Type 1} → statement M
-run-rows-spec =
+pub run_rows_spec : {M : Type 1} → statement M
+run_rows_spec =
     tie.close
     (tie.spec invariant-loop decreases-loop (search rules) (λ c κs. search rules) loop-holds row-behind-requires (search rules) add_at
     (search rules) (search rules) returns (search rules) place-behind-requires (search rules) (search rules) loop-again

@@ -11,39 +11,39 @@ use Rattle.changes_items.proofs.Laws.{asked-small, asked-item}
 use Rattle.changes_items.proofs.places.item_at.Statement.{statement}
 use Rattle.changes_items.proofs.places.item_at.Tie as tie
 
-within : (c : tie.After-room-before) → c.room-before.result ≤ length c.before.before.before.before.before.args.out.now
+within : (c : tie.After-room_before-room) → c.room_before-room.result ≤ length c.args.out.now
 within c =
-    let a = c.before.before.before.before.before.args in
-    rw c.room-before.ensures (cut-within a.heading.now a.out.now)
+    let a = c.args in
+    rw c.room_before-room.ensures (cut-within a.heading.now a.out.now)
 
-part-label-at-start : tie.Need-slice-bounds-label-at-start
+part-label-at-start : tie.Need-slice_bounds-label_at-start
 part-label-at-start c = let h = within c in search rules
 
-headed-item-requires : tie.Need-headed-item-requires
+headed-item-requires : tie.Need-headed_item-requires
 headed-item-requires c κs =
-    let label = c.before.before.before in
-    let room = label.before.before in
-    let start = room.before.before.before.before.before in
+    let label = c in
+    let room = label in
+    let start = room in
     let a = start.args in
-    let asked = rw room.room-before.ensures at (rw (lent a.out.now room.room-before.result) at label.label_at.ensures) in
+    let asked = rw room.room_before-room.ensures at (rw (lent a.out.now room.room_before-room.result) at label.label_at-answer.ensures) in
     (start.requires.1, asked-small a.table.now a.points.now a.place a.heading.now a.out.now start.requires.0 asked)
 
 returns : tie.Need-returns
 returns c =
-    let whole = c.before.before in
-    let label = whole.before.before.before.before in
-    let room = label.before.before in
-    let start = room.before.before.before.before.before in
+    let whole = c in
+    let label = whole in
+    let room = label in
+    let start = room in
     let a = start.args in
-    let asked = rw room.room-before.ensures at (rw (lent a.out.now room.room-before.result) at label.label_at.ensures) in
-    whole.headed-item.ensures
-    ∙ (ap (headed a.heading.now label.label_at.result)
-    (given_back a.out.now _ room.room-before.result
-    ∙ ap (λ (n : ℕ). take n a.out.now ++ label.label_at.new.1.1.1.0) room.room-before.ensures)
+    let asked = rw room.room_before-room.ensures at (rw (lent a.out.now room.room_before-room.result) at label.label_at-answer.ensures) in
+    whole.headed_item.ensures
+    ∙ (ap (headed a.heading.now label.label_at-answer.result)
+    (given_back a.out.now _ room.room_before-room.result
+    ∙ ap (λ (n : ℕ). take n a.out.now ++ label.label_at-answer.new.1.1.1.0) room.room_before-room.ensures)
     ∙ asked-item a.table.now a.points.now a.place a.heading.now a.out.now start.requires.0 asked)
 
-pub item-at-spec : {M : Type 1} → statement M
-item-at-spec =
+pub item_at_spec : {M : Type 1} → statement M
+item_at_spec =
     tie.close
     (tie.spec (search rules) within part-label-at-start (search rules) (λ c κs. search rules) headed-item-requires
     (search rules) returns)

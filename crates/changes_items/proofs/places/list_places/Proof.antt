@@ -21,17 +21,17 @@ use Rattle.changes_items.proofs.Laws.{item-some, item-fits, behind-place, number
 use Rattle.changes_items.proofs.places.list_places.Statement.{statement}
 use Rattle.changes_items.proofs.places.list_places.Tie as tie
 
-abbrev invariant-loop : tie.invariant-loop
+abbrev invariant-loop : tie.invariant-loop-done
 invariant-loop table points code first count out₀ place₀ view₀ at₀ done₀ out place view at done =
     (place ≡ wanted_at code points (first + done))
     × (Numbered points view place
     × (Going (places_listed table points code) first count out₀ done at out × (length out ≡ length out₀)))
 
-abbrev decreases-loop : tie.decreases-loop
+abbrev decreases-loop : tie.decreases-loop-done
 decreases-loop table points code first count out₀ place₀ view₀ at₀ done₀ out place view at done = count - done
 
 -- a turn of the loop
-module _ (l : tie.At-loop invariant-loop decreases-loop) where
+module _ (l : tie.At-loop-done invariant-loop decreases-loop) where
   abbrev start : tie.Start invariant-loop decreases-loop
   start = l.before.before.before.before.before.before.before
 
@@ -45,7 +45,7 @@ module _ (l : tie.At-loop invariant-loop decreases-loop) where
   code = start.args.code.now
 
   abbrev number : ℕ
-  number = start.args.first + l.loop.done
+  number = start.args.first + l.loop-done.done
 
   view-place : ViewPlace table points (wanted_at code points number)
   view-place = wanted-place table points code number start.pre
@@ -54,39 +54,39 @@ module _ (l : tie.At-loop invariant-loop decreases-loop) where
   fit k out b e = item-fits table points (wanted_at code points k) _ out b e
 
 -- the item that was asked, by its number
-module _ (m : tie.After-item-behind invariant-loop decreases-loop) where
-  abbrev at-loop : tie.At-loop invariant-loop decreases-loop
+module _ (m : tie.After-item_behind invariant-loop decreases-loop) where
+  abbrev at-loop : tie.At-loop-done invariant-loop decreases-loop
   at-loop = m.before.before.before
 
-  asked : said m.item-behind.result m.item-behind.last.1.1.1.1.1.0
-      ≡ asked_behind at-loop.loop.at at-loop.loop.out
+  asked : said m.item_behind.result m.item_behind.last.1.1.1.1.1.0
+      ≡ asked_behind at-loop.loop-done.at at-loop.loop-done.out
       (places_listed (table at-loop) (points at-loop) (code at-loop) (number at-loop))
   asked =
-      let l = at-loop.loop in
+      let l = at-loop.loop-done in
       let rest = drop l.at l.out in
       let t = table at-loop in
       let p = points at-loop in
-      m.item-behind.ensures
+      m.item_behind.ensures
       ∙ ap (λ (o : Outcome Answer). said o.answer (take l.at l.out ++ o.memory))
       (numbered-item t p l.place l.view rest l.inv.1.0
       ∙ ap (λ (place : ℕ). place_item t p place (line_at p (view_number p place) place) rest) l.inv.0)
 
 -- an item that was written is a view's
-module _ (n : tie.After-known-told invariant-loop decreases-loop) where
-  abbrev written : tie.After-item-behind invariant-loop decreases-loop
-  written = n.before.before.before.before.before
+module _ (n : tie.In-Value invariant-loop decreases-loop) where
+  abbrev written : tie.After-item_behind invariant-loop decreases-loop
+  written = n.before.before.before
 
   there : wanted_at (code (at-loop written)) (points (at-loop written)) (number (at-loop written)) ≡ 0 → ⊥
   there =
       item-some (table (at-loop written)) (points (at-loop written)) _ _ _ _
-      (sym (answer-of (asked written)) ∙ n.before.bytes.given.1)
+      (sym (answer-of (asked written)) ∙ n.in-Value.is)
 
-loop-holds : tie.Need-loop-init invariant-loop decreases-loop
+loop-holds : tie.Need-loop-done-init invariant-loop decreases-loop
 loop-holds c =
-    let a = c.before.before.before.before.before.before.args in (
-      c.before.wanted-at.ensures ∙ ap (wanted_at a.code.now a.points.now) (sym (add-zero a.first)),
+    let a = c.args in (
+      c.wanted_at-place.ensures ∙ ap (wanted_at a.code.now a.points.now) (sym (add-zero a.first)),
       (
-        λ some. c.number_at.ensures,
+        λ some. c.number_at-view.ensures,
         (
           going_start (places_listed a.table.now a.points.now a.code.now) a.first a.count a.out.now,
           refl,
@@ -94,67 +94,67 @@ loop-holds c =
       ),
     )
 
-item-behind-requires : tie.Need-item-behind-requires invariant-loop decreases-loop
+item-behind-requires : tie.Need-item_behind-requires invariant-loop decreases-loop
 item-behind-requires c κs =
     let l = c.before.before in
-    (l.loop.invariant.1.1.0.within, rw l.loop.invariant.0 (view-place l))
+    (l.loop-done.invariant.1.1.0.within, rw l.loop-done.invariant.0 (view-place l))
 
-add_at : tie.Need-overflow-add-at invariant-loop decreases-loop
+add_at : tie.Need-overflow_add-at invariant-loop decreases-loop
 add_at c =
-    let m = c.before.before.before.before.before in
+    let m = c.before.before.before in
     let l = at-loop m in
     omega (
       arith,
-      going-fits l.loop.inv.1.1.0 (fit l) (omega arith) (asked m) c.before.bytes.given.1,
-      m.item-behind.auto.1.1.1.1.1.0,
-      l.loop.inv.1.1.1,
+      going-fits l.loop-done.invariant.1.1.0 (fit l) (omega arith) (asked m) c.in-Value.is,
+      m.item_behind.auto.1.1.1.1.1.0,
+      l.loop-done.invariant.1.1.1,
       (start l).good.1.1.1.1.1.0.0,
     )
 
-returns : tie.Need-returns invariant-loop decreases-loop
+returns : tie.Need-returns-in-Refused invariant-loop decreases-loop
 returns c =
-    let m = c.before.before.before.before.before in
+    let m = c.before.before.before in
     let l = at-loop m in
-    going-stop l.loop.inv.1.1.0 (fit l) (omega arith) (asked m) c.before.reason.given.1
+    going-stop l.loop-done.invariant.1.1.0 (fit l) (omega arith) (asked m) c.in-Refused.is
 
-place-behind-requires : tie.Need-place-behind-requires invariant-loop decreases-loop
+place-behind-requires : tie.Need-place_behind-next-requires invariant-loop decreases-loop
 place-behind-requires c κs =
-    let l = at-loop c.before.before.before.before.before in
-    rw l.loop.inv.0 (place-bound (table l) (points l) _ (view-place l))
+    let l = at-loop c.before.before.before in
+    rw l.loop-done.invariant.0 (place-bound (table l) (points l) _ (view-place l))
 
-number-on-requires : tie.Need-number-on-requires invariant-loop decreases-loop
+number-on-requires : tie.Need-number_on-view-requires invariant-loop decreases-loop
 number-on-requires c κs =
-    let n = c.before in
+    let n = c in
     let l = at-loop (written n) in
-    l.loop.inv.1.0 (λ z. there n (sym l.loop.inv.0 ∙ z))
+    l.loop-done.invariant.1.0 (λ z. there n (sym l.loop-done.invariant.0 ∙ z))
 
-loop-again : tie.Need-loop-preserved invariant-loop decreases-loop
+loop-again : tie.Need-loop-done-preserved invariant-loop decreases-loop
 loop-again c =
-    let p = c.before in
+    let p = c in
     let n = p.before in
     let m = written n in
     let l = at-loop m in
-    let is = n.before.bytes.given.1 in
-    let next : (start l).args.first + (l.loop.done + 1) ≡ number l + 1 = omega arith in (
-      rw l.loop.inv.0 at p.place-behind.ensures
+    let is = n.in-Value.is in
+    let next : (start l).args.first + (l.loop-done.done + 1) ≡ number l + 1 = omega arith in (
+      rw l.loop-done.invariant.0 at p.place_behind-next.ensures
           ∙ (sym (next_place (code l) (points l) (number l) (there n)) ∙ ap (wanted_at (code l) (points l)) (sym next)),
       (
         λ some.
-            c.number-on.ensures
-            (rw p.place-behind.ensures
-            (behind-place (code l) (points l) l.loop.place (λ z. some (p.place-behind.ensures ∙ z)))),
+            c.number_on-view.ensures
+            (rw p.place_behind-next.ensures
+            (behind-place (code l) (points l) l.loop-done.place (λ z. some (p.place_behind-next.ensures ∙ z)))),
         (
-          going_step l.loop.inv.1.1.0 (fit l) (omega arith) (asked m) is,
-          m.item-behind.kept.1.1.1.1.1.0 ∙ l.loop.inv.1.1.1,
+          going_step l.loop-done.invariant.1.1.0 (fit l) (omega arith) (asked m) is,
+          m.item_behind.kept.1.1.1.1.1.0 ∙ l.loop-done.invariant.1.1.1,
         ),
       ),
     )
 
-returns-2 : tie.Need-returns-2 invariant-loop decreases-loop
-returns-2 c = going_end c.before.loop.invariant.1.1.0 (omega arith)
+returns-2 : tie.Need-returns invariant-loop decreases-loop
+returns-2 c = going_end c.loop-done.invariant.1.1.0 (omega arith)
 
-pub list-places-spec : {M : Type 1} → statement M
-list-places-spec =
+pub list_places_spec : {M : Type 1} → statement M
+list_places_spec =
     tie.close
     (tie.spec invariant-loop decreases-loop (search rules) (search rules) loop-holds item-behind-requires (search rules) add_at
     (search rules) (search rules) returns place-behind-requires number-on-requires (search rules) (search rules)

@@ -12,44 +12,44 @@ use Rattle.changes_items.proofs.places.number_on.Tie as tie
 use Rattle.changes_items.proofs.places.number_on.Reads as reads
 use Rattle.changes_items.proofs.places.number_on.Lts as lts
 
-abbrev invariant-loop : tie.invariant-loop
+abbrev invariant-loop : tie.invariant-loop-i
 invariant-loop points from view place views₀ i₀ views i = (views ≡ view_number points i) × (from ≤ place → i ≤ place)
 
-abbrev decreases-loop : tie.decreases-loop
+abbrev decreases-loop : tie.decreases-loop-i
 decreases-loop points from view place views₀ i₀ views i = place - i
 
-loop-holds : tie.Need-loop-init invariant-loop decreases-loop
-loop-holds c = (c.before.requires, λ h. h)
+loop-holds : tie.Need-loop-i-init invariant-loop decreases-loop
+loop-holds c = (c.requires, λ h. h)
 
-add-views : tie.Need-overflow-add-views invariant-loop decreases-loop
+add-views : tie.Need-overflow_add-views invariant-loop decreases-loop
 add-views c =
-    let l = c.before.before.before.before.before in
-    let points = l.before.before.args.points.now in
-    omega (arith, l.loop.invariant.0, number_bound points l.loop.i)
+    let l = c in
+    let points = l.args.points.now in
+    omega (arith, l.loop-i.invariant.0, number_bound points l.loop-i.i)
 
-loop-again : tie.Need-loop-preserved invariant-loop decreases-loop
+loop-again : tie.Need-loop-i-preserved-then-is_wanted invariant-loop decreases-loop
 loop-again c =
-    let l = c.before.before.before.before.before in
-    let points = l.before.before.args.points.now in
-    let is = ap (wanted []) (sym c.before.before.before.point-record.ensures) ∙ (sym c.before.is_wanted.ensures ∙ c.if1.true) in
-    (ap (λ n. n + 1) l.loop.invariant.0 ∙ number_up points l.loop.i is, λ h. omega arith)
+    let l = c in
+    let points = l.args.points.now in
+    let is = ap (wanted []) (sym c.point_record.ensures) ∙ (sym c.is_wanted.ensures ∙ c.if-is_wanted.true) in
+    (ap (λ n. n + 1) l.loop-i.invariant.0 ∙ number_up points l.loop-i.i is, λ h. omega arith)
 
-loop-again-2 : tie.Need-loop-preserved-2 invariant-loop decreases-loop
+loop-again-2 : tie.Need-loop-i-preserved invariant-loop decreases-loop
 loop-again-2 c =
-    let l = c.before.before.before.before.before in
-    let points = l.before.before.args.points.now in
-    let is = ap (wanted []) (sym c.before.before.before.point-record.ensures) ∙ (sym c.before.is_wanted.ensures ∙ c.if1.false) in
-    (l.loop.invariant.0 ∙ number-stays points l.loop.i is, λ h. omega arith)
+    let l = c in
+    let points = l.args.points.now in
+    let is = ap (wanted []) (sym c.point_record.ensures) ∙ (sym c.is_wanted.ensures ∙ c.if-is_wanted.false) in
+    (l.loop-i.invariant.0 ∙ number-stays points l.loop-i.i is, λ h. omega arith)
 
 returns : tie.Need-returns invariant-loop decreases-loop
 returns c = λ h.
-    let l = c.before in
-    let a = l.before.before.args in
-    let there : l.loop.i ≡ a.place = omega (arith, l.loop.invariant.1 h) in
-    l.loop.invariant.0 ∙ ap (view_number a.points.now) there
+    let l = c in
+    let a = l.args in
+    let there : l.loop-i.i ≡ a.place = omega (arith, l.loop-i.invariant.1 h) in
+    l.loop-i.invariant.0 ∙ ap (view_number a.points.now) there
 
-pub number-on-spec : {M : Type 1} → statement M
-number-on-spec =
+pub number_on_spec : {M : Type 1} → statement M
+number_on_spec =
     tie.close
     (tie.spec invariant-loop decreases-loop loop-holds (search rules) (search rules) (search rules) (search rules) add-views
     (search rules) loop-again (search rules) loop-again-2 returns)

@@ -17,11 +17,11 @@ use Rattle.changes_label.proofs.inner.label_there.Statement.{statement}
 use Rattle.changes_label.proofs.inner.label_there.Tie as tie
 
 -- once the rows are looked up
-module _ (judged : tie.After-refusal-in) where
-  abbrev looked : tie.After-rows-of
+module _ (judged : tie.After-refusal_in) where
+  abbrev looked : tie.After-rows_of-found
   looked = judged.before
 
-  abbrev read : tie.After-delivery-at
+  abbrev read : tie.After-delivery_at-p
   read = looked.before.before
 
   abbrev start : tie.Start
@@ -39,78 +39,78 @@ module _ (judged : tie.After-refusal-in) where
   high : suc place < length points / 168
   high = omega (arith, start.pre.1)
 
-  rows_are : looked.rows_of.result.rows ≡ rows_at table points place
+  rows_are : looked.rows_of-found.result.rows ≡ rows_at table points place
   rows_are =
-      looked.rows_of.ensures
-      ∙ rows_as read.before.table-shelf.result read.delivery-at.result table points place
-      read.before.table-shelf.ensures read.delivery-at.ensures
+      looked.rows_of-found.ensures
+      ∙ rows_as read.table_shelf-s.result read.delivery_at-p.result table points place
+      read.table_shelf-s.ensures read.delivery_at-p.ensures
 
-  verdict-is : judged.refusal-in.result ≡ refusal_in (delivery_at points place) (rows_at table points place)
-  verdict-is = judged.refusal-in.ensures ∙ ap₂ refusal_in read.delivery-at.ensures rows_are
+  verdict-is : judged.refusal_in.result ≡ refusal_in (delivery_at points place) (rows_at table points place)
+  verdict-is = judged.refusal_in.ensures ∙ ap₂ refusal_in read.delivery_at-p.ensures rows_are
 
-table-shelf-requires : tie.Need-table-shelf-requires
+table-shelf-requires : tie.Need-table_shelf-s-requires
 table-shelf-requires c κs = search rules
 
-delivery-at-requires : tie.Need-delivery-at-requires
+delivery-at-requires : tie.Need-delivery_at-p-requires
 delivery-at-requires c κs = search rules
 
-rows-of-requires : tie.Need-rows-of-requires
-rows-of-requires c κs = rw c.before.before.table-shelf.ensures table_fits
+rows-of-requires : tie.Need-rows_of-found-requires
+rows-of-requires c κs = rw c.table_shelf-s.ensures table_fits
 
-refusal-in-requires : tie.Need-refusal-in-requires
+refusal-in-requires : tie.Need-refusal_in-requires
 refusal-in-requires c κs = search rules
 
-enum_told : tie.Need-enum-told
+enum_told : tie.Need-enum_told-1
 enum_told c = search rules
 
-spans-of-requires : tie.Need-spans-of-requires
+spans-of-requires : tie.Need-spans_of-requires
 spans-of-requires c κs =
     let judged = c.before.before in
     let r = read judged in (
-      rw r.before.table-shelf.ensures table_fits,
-      rw r.delivery-at.ensures (within-at (points judged) (place judged) (high judged)),
+      rw r.table_shelf-s.ensures table_fits,
+      rw r.delivery_at-p.ensures (within-at (points judged) (place judged) (high judged)),
     )
 
-print-label-requires : tie.Need-print-label-requires
+print-label-requires : tie.Need-print_label-requires
 print-label-requires c κs = search rules
 
-enum-known-reason : tie.Need-enum-known-reason
+enum-known-reason : tie.Need-enum_known-reason
 enum-known-reason c = search rules
 
-same_length : tie.Need-same-length
+same_length : tie.Need-shape_of-out
 same_length c = search rules
 
-returns : tie.Need-returns
+returns : tie.Need-returns-in-Fine
 returns c =
-    let p = c.before.before in
-    let sp = p.before.before in
-    let told = sp.before in
-    let judged = told.before.before in
+    let p = c in
+    let sp = p in
+    let told = sp in
+    let judged = told.before in
     let a = (start judged).args in
-    let fine = sym (verdict-is judged) ∙ told.enum_told.given.1 in
+    let fine = sym (verdict-is judged) ∙ told.in-Fine.is in
     let resolved =
     resolved-fine (table judged) (points judged) (start judged).requires.0 (place judged)
     (start judged).requires.1 0 fine in
     let r = read judged in
     let spans =
-    sp.spans-of.ensures
-    ∙ elements-as (table judged) (points judged) r.before.table-shelf.ensures r.delivery-at.ensures (rows_are judged) in
-    rw spans at p.print-label.ensures
+    sp.spans_of.ensures
+    ∙ elements-as (table judged) (points judged) r.table_shelf-s.ensures r.delivery_at-p.ensures (rows_are judged) in
+    rw spans at p.print_label.ensures
     ∙ sym (ap (λ (r : Resolved). resolved_outcome r a.out.now) resolved)
 
-returns-2 : tie.Need-returns-2
+returns-2 : tie.Need-returns-in-Bad
 returns-2 c =
-    let judged = c.before.before.before in
+    let judged = c.before in
     let a = (start judged).args in
-    let why = c.before.reason.given.0.0 in
-    let bad = sym (verdict-is judged) ∙ c.before.reason.given.1 in
+    let why = c.in-Bad.reason in
+    let bad = sym (verdict-is judged) ∙ c.in-Bad.is in
     let resolved =
     resolved-bad (table judged) (points judged) (start judged).requires.0 (place judged)
     (start judged).requires.1 0 why bad in
     sym (ap (λ (r : Resolved). resolved_outcome r a.out.now) resolved)
 
-pub label-there-spec : {M : Type 1} → statement M
-label-there-spec =
+pub label_there_spec : {M : Type 1} → statement M
+label_there_spec =
     tie.close
     (tie.spec
     table-shelf-requires

@@ -8,12 +8,12 @@ use Rattle.changes_points.proofs.fine.head_digits.Tie as tie
 returns : tie.Need-returns
 returns c =
     λ e.
-    let fits = sym c.digits-where.ensures ∙ e in
-    let rec = c.before.before.before.args.rec.now in
+    let fits = sym c.digits_where.ensures ∙ e in
+    let rec = c.args.rec.now in
     (digits-where rec _ 0 14 fits refl, digits-where rec _ 24 40 fits refl)
 
-pub head-digits-spec : {M : Type 1} → statement M
-head-digits-spec =
+pub head_digits_spec : {M : Type 1} → statement M
+head_digits_spec =
     tie.close
     (tie.spec
     (λ c. search rules)

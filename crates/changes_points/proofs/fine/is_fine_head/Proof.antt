@@ -12,39 +12,39 @@ use Rattle.changes_points.proofs.fine.is_fine_head.Tie as tie
 
 returns : tie.Need-returns
 returns c =
-    let l = c.before in
-    let u = l.before in
-    let s = u.before in
-    let behind-part-of2 = s.before in
-    let i = behind-part-of2.before in
-    let behind-part-of = i.before in
-    let o = behind-part-of.before in
+    let l = c in
+    let u = l in
+    let s = u in
+    let behind-part-of2 = s in
+    let i = behind-part-of2 in
+    let behind-part-of = i in
+    let o = behind-part-of in
     λ e.
-    let outward = o.is-fine-outward.result in
-    let inward = i.is-inward.result in
-    let suffix = s.is-suffix.result in
-    let user = eqb u.postcode-type-at.result 0 in
-    let letter = eqb l.letter_at.result 0 in
-    let kind = eqb c.type_at.result 0 in
+    let outward = o.is_fine_outward-outward.result in
+    let inward = i.is_inward-inward.result in
+    let suffix = s.is_suffix-suffix.result in
+    let user = eqb u.postcode_type_at-user.result 0 in
+    let letter = eqb l.letter_at-letter.result 0 in
+    let kind = eqb c.type_at-kind.result 0 in
     let codes =
     three outward inward suffix (and_left (outward && (inward && suffix)) (user && (letter && kind)) e) in
     let marks =
     three user letter kind (and_right (outward && (inward && suffix)) (user && (letter && kind)) e) in
-    head-fine o.before.before.before.args.rec.now
-    (o.is-fine-outward.ensures codes.0)
-    (eqb-true _ 0 (rw behind-part-of.part_of.ensures at (sym i.is-inward.ensures ∙ codes.1)))
-    (eqb-true _ 0 (rw behind-part-of2.part-of2.ensures at (sym s.is-suffix.ensures ∙ codes.2)))
-    (sym u.postcode-type-at.ensures ∙ eqb-true _ 0 marks.0)
-    (sym l.letter_at.ensures ∙ eqb-true _ 0 marks.1)
-    (sym c.type_at.ensures ∙ eqb-true _ 0 marks.2)
+    head-fine o.args.rec.now
+    (o.is_fine_outward-outward.ensures codes.0)
+    (eqb-true _ 0 (rw behind-part-of.part_of.ensures at (sym i.is_inward-inward.ensures ∙ codes.1)))
+    (eqb-true _ 0 (rw behind-part-of2.part_of-2.ensures at (sym s.is_suffix-suffix.ensures ∙ codes.2)))
+    (sym u.postcode_type_at-user.ensures ∙ eqb-true _ 0 marks.0)
+    (sym l.letter_at-letter.ensures ∙ eqb-true _ 0 marks.1)
+    (sym c.type_at-kind.ensures ∙ eqb-true _ 0 marks.2)
 
-is-fine-outward-requires : tie.Need-is-fine-outward-requires
+is-fine-outward-requires : tie.Need-is_fine_outward-outward-requires
 is-fine-outward-requires c κs =
-    let at-start = c.before.before in
+    let at-start = c in
     (search rules, λ e. good-outward at-start.args.before.now (at-start.requires e))
 
-pub is-fine-head-spec : {M : Type 1} → statement M
-is-fine-head-spec =
+pub is_fine_head_spec : {M : Type 1} → statement M
+is_fine_head_spec =
     tie.close
     (tie.spec
     is-fine-outward-requires

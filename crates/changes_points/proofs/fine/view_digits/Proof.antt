@@ -7,21 +7,21 @@ use Rattle.changes_points.proofs.fine.view_digits.Tie as tie
 
 returns : tie.Need-returns
 returns c =
-    let reason = c.before in
-    let keys = reason.before in
-    let part = keys.before in
-    let head = part.before in
+    let reason = c in
+    let keys = reason in
+    let part = keys in
+    let head = part in
     λ e.
-    let each = three head.head-digits.result keys.are-digits.result c.are-digits2.result e in
-    let front = head.head-digits.ensures each.0 in (
+    let each = three head.head_digits-head.result keys.are_digits-keys.result c.are_digits-reason.result e in
+    let front = head.head_digits-head.ensures each.0 in (
       front.0,
       front.1,
-      digits-none _ (rw part.part_of.ensures at (sym keys.are-digits.ensures ∙ each.1)),
-      digits-none _ (rw reason.part-of2.ensures at (sym c.are-digits2.ensures ∙ each.2)),
+      digits-none _ (rw part.part_of.ensures at (sym keys.are_digits-keys.ensures ∙ each.1)),
+      digits-none _ (rw reason.part_of-2.ensures at (sym c.are_digits-reason.ensures ∙ each.2)),
     )
 
-pub view-digits-spec : {M : Type 1} → statement M
-view-digits-spec =
+pub view_digits_spec : {M : Type 1} → statement M
+view_digits_spec =
     tie.close
     (tie.spec
     (search rules)

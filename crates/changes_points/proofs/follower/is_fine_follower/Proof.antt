@@ -7,20 +7,20 @@ use mathlib.Core.Bool.{false≢true}
 use Rattle.changes_points.proofs.follower.is_fine_follower.Statement.{statement}
 use Rattle.changes_points.proofs.follower.is_fine_follower.Tie as tie
 
-returns : tie.Need-returns
+returns : tie.Need-returns-then-rec-lt-WIDTH
 returns c = λ e. absurd (false≢true e)
 
-returns-2 : tie.Need-returns-2
+returns-2 : tie.Need-returns
 returns-2 c =
-    let byte = c.before in
-    let start = byte.before.before.before.before in
+    let byte = c in
+    let start = byte in
     let owner = start.args.owner.now in
     let rec = start.args.rec.now in
     λ e.
-    let each = c.is-fine-organisation.ensures e in
+    let each = c.is_fine_organisation.ensures e in
     other-record rec (not-a-view (get_or rec 41 0) start.requires.type) (own-head owner rec start.requires)
-    (rw byte.byte_of.ensures at each.0)
+    (rw byte.byte_of-small.ensures at each.0)
     each.1
 
-pub is-fine-follower-spec : {M : Type 1} → statement M
-is-fine-follower-spec = tie.close (tie.spec returns (search rules) (search rules) returns-2)
+pub is_fine_follower_spec : {M : Type 1} → statement M
+is_fine_follower_spec = tie.close (tie.spec returns (search rules) (search rules) returns-2)

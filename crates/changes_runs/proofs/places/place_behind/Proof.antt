@@ -8,23 +8,23 @@ use Rattle.changes_views.specs.Views.{last_of, next_wanted}
 use Rattle.changes_runs.proofs.places.place_behind.Statement.{statement}
 use Rattle.changes_runs.proofs.places.place_behind.Tie as tie
 
-returns : tie.Need-returns
+returns : tie.Need-returns-then-next-last_of
 returns c =
-    let l = c.before in
-    let n = l.before in
-    let a = n.before.before.before.args in
+    let l = c in
+    let n = l in
+    let a = n.args in
     let next = next_wanted a.code.now a.points.now (a.place + 1) in
-    let inside : next < last_of a.points.now = omega (arith, c.if1.true, n.next-wanted.ensures, l.last_of.ensures) in
-    n.next-wanted.ensures ∙ simp (lt-ltb next (last_of a.points.now) inside)
+    let inside : next < last_of a.points.now = omega (arith, c.if-next-last_of.true, n.next_wanted-next.ensures, l.last_of.ensures) in
+    n.next_wanted-next.ensures ∙ simp (lt-ltb next (last_of a.points.now) inside)
 
-returns-2 : tie.Need-returns-2
+returns-2 : tie.Need-returns-else-next-last_of
 returns-2 c =
-    let l = c.before in
-    let n = l.before in
-    let a = n.before.before.before.args in
+    let l = c in
+    let n = l in
+    let a = n.args in
     let next = next_wanted a.code.now a.points.now (a.place + 1) in
-    let outside : last_of a.points.now ≤ next = omega (arith, c.if1.false, n.next-wanted.ensures, l.last_of.ensures) in
+    let outside : last_of a.points.now ≤ next = omega (arith, c.if-next-last_of.false, n.next_wanted-next.ensures, l.last_of.ensures) in
     simp (le-ltb next (last_of a.points.now) outside)
 
-pub place-behind-spec : {M : Type 1} → statement M
-place-behind-spec = tie.close (tie.spec (search rules) (search rules) (search rules) returns returns-2)
+pub place_behind_spec : {M : Type 1} → statement M
+place_behind_spec = tie.close (tie.spec (search rules) (search rules) (search rules) returns returns-2)

@@ -8,9 +8,9 @@ use Rattle.changes_table.proofs.fine.head_digits.Tie as tie
 returns : tie.Need-returns
 returns c =
     λ e.
-    let fits = sym c.digits-where.ensures ∙ e in
-    let rec = c.before.before.before.args.rec.now in
+    let fits = sym c.digits_where.ensures ∙ e in
+    let rec = c.args.rec.now in
     (digits-where rec _ 1 9 fits refl, digits-where rec _ 9 23 fits refl)
 
-pub head-digits-spec : {M : Type 1} → statement M
-head-digits-spec = tie.close (tie.spec (λ c. search rules) (λ c κs. search rules) returns)
+pub head_digits_spec : {M : Type 1} → statement M
+head_digits_spec = tie.close (tie.spec (λ c. search rules) (λ c κs. search rules) returns)

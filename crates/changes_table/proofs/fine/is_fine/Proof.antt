@@ -6,17 +6,17 @@ use mathlib.Core.Bool.{false≢true}
 use Rattle.changes_table.proofs.fine.is_fine.Statement.{statement}
 use Rattle.changes_table.proofs.fine.is_fine.Tie as tie
 
-returns : tie.Need-returns
+returns : tie.Need-returns-then-not-is_fine_head
 returns c = λ e. absurd (false≢true e)
 
-returns-2 : tie.Need-returns-2
+returns-2 : tie.Need-returns
 returns-2 c =
-    let left = c.before in
-    let head = left.before in
+    let left = c in
+    let head = left in
     λ e.
-    let known = c.is-fine-rest.ensures e in
-    table-fine head.before.before.args.rec.now
-    (head.is-fine-head.ensures (not-false _ left.if1.false) known.0) known.1
+    let known = c.is_fine_rest.ensures e in
+    table-fine head.args.rec.now
+    (head.is_fine_head.ensures (left.if-not-is_fine_head.false) known.0) known.1
 
-pub is-fine-spec : {M : Type 1} → statement M
-is-fine-spec = tie.close (tie.spec (search rules) returns (search rules) returns-2)
+pub is_fine_spec : {M : Type 1} → statement M
+is_fine_spec = tie.close (tie.spec (search rules) returns (search rules) returns-2)

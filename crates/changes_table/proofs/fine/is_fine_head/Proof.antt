@@ -11,19 +11,19 @@ use Rattle.changes_table.proofs.fine.is_fine_head.Tie as tie
 
 returns : tie.Need-returns
 returns c =
-    let z = c.before in
-    let p = z.before in
-    let d = p.before in
+    let z = c in
+    let p = z in
+    let d = p in
     λ e kind.
-    let each = three d.head-digits.result (not z.all_are.result) (eqb c.letter_at.result 0) e in
-    let digits = d.head-digits.ensures each.0 in
-    head-fine d.before.before.args.rec.now kind
-    (rw p.part_of.ensures at (sym z.all_are.ensures ∙ not-true _ each.1))
+    let each = three d.head_digits-digits.result (not z.all_are-zero.result) (eqb c.letter_at-letter.result 0) e in
+    let digits = d.head_digits-digits.ensures each.0 in
+    head-fine d.args.rec.now kind
+    (rw p.part_of.ensures at (sym z.all_are-zero.ensures ∙ not-true _ each.1))
     digits.0
     digits.1
-    (sym c.letter_at.ensures ∙ eqb-true _ 0 each.2)
+    (sym c.letter_at-letter.ensures ∙ eqb-true _ 0 each.2)
 
-pub is-fine-head-spec : {M : Type 1} → statement M
-is-fine-head-spec =
+pub is_fine_head_spec : {M : Type 1} → statement M
+is_fine_head_spec =
     tie.close
     (tie.spec (λ c κs. search rules) (λ c κs. search rules) (λ c κs. search rules) (λ c κs. search rules) returns)

@@ -6,10 +6,10 @@ use Rattle.changes_table.proofs.fine.is_fine_locality.Tie as tie
 
 returns : tie.Need-returns
 returns c =
-    let rec = c.before.before.args.rec.now in
+    let rec = c.args.rec.now in
     λ e.
-    let each = c.is-fine-places.ensures e in
+    let each = c.is_fine_places.ensures e in
     locality-fine rec each.0 each.1 each.2
 
-pub is-fine-locality-spec : {M : Type 1} → statement M
-is-fine-locality-spec = tie.close (tie.spec (search rules) returns)
+pub is_fine_locality_spec : {M : Type 1} → statement M
+is_fine_locality_spec = tie.close (tie.spec (search rules) returns)

@@ -16,12 +16,12 @@ use Rattle.csv_label.proofs.ShownLaws.{line-worded, ap-short, asked-small, asked
 use Rattle.csv_label.proofs.shown.item_at.Statement.{statement}
 use Rattle.csv_label.proofs.shown.item_at.Tie as tie
 
-slice-aggregate-heading : tie.Need-slice-aggregate-heading
-slice-aggregate-heading c = sym (length-take-le _ _ c.before.before.worded-line.ensures.within)
+slice-aggregate-heading : tie.Need-slice_bounds-heading-end
+slice-aggregate-heading c = sym (length-take-le _ _ c.worded_line-line.ensures.within)
 
 -- once the room for the line is found
-module _ (c : tie.After-room-before) where
-  abbrev line : tie.After-worded-line
+module _ (c : tie.After-room_before-room) where
+  abbrev line : tie.After-worded_line-line
   line = c.before.before.before
 
   abbrev start : tie.Start
@@ -30,53 +30,53 @@ module _ (c : tie.After-room-before) where
   abbrev heading : List ℕ
   heading = row_line start.args.row
 
-  line-is : take line.worded-line.result.len line.worded-line.result.bytes ≡ heading
-  line-is = line.worded-line.ensures.is ∙ sym (line-worded start.args.row)
+  line-is : take line.worded_line-line.result.len line.worded_line-line.result.bytes ≡ heading
+  line-is = line.worded_line-line.ensures.is ∙ sym (line-worded start.args.row)
 
-  room : c.room-before.result ≡ before heading (length start.args.out.now)
-  room = rw (line-is) at c.room-before.ensures
+  room : c.room_before-room.result ≡ before heading (length start.args.out.now)
+  room = rw (line-is) at c.room_before-room.ensures
 
-  within : c.room-before.result ≤ length start.args.out.now
+  within : c.room_before-room.result ≤ length start.args.out.now
   within = omega (arith, room, cut-within heading start.args.out.now)
 
 -- once the label was asked
-module _ (l : tie.After-label-at) where
-  abbrev found : tie.After-room-before
+module _ (l : tie.After-label_at-answer) where
+  abbrev found : tie.After-room_before-room
   found = l.before.before
 
   asked : let a = (start found).args in
-      said l.label_at.result l.label_at.last.1.1.0
+      said l.label_at-answer.result l.label_at-answer.last.1.1.0
       ≡ label_or (resolved_at a.csv.now a.place) (drop (before (heading found) (length a.out.now)) a.out.now)
   asked =
       let a = (start found).args in
-      rw (lent a.out.now found.room-before.result) at l.label_at.ensures
+      rw (lent a.out.now found.room_before-room.result) at l.label_at-answer.ensures
       ∙ ap (λ (n : ℕ). label_or (resolved_at a.csv.now a.place) (drop n a.out.now)) (room found)
 
-part-label-at-start : tie.Need-slice-bounds-label-at-start
+part-label-at-start : tie.Need-slice_bounds-label_at-start
 part-label-at-start c = let h = within c in search rules
 
-headed-item-requires : tie.Need-headed-item-requires
+headed-item-requires : tie.Need-headed_item-requires
 headed-item-requires c κs =
     let l = c.before.before.before in
     let s = start (found l) in (
-      rw (line-is (found l)) (ap-short (line-is (found l)) (line (found l)).worded-line.ensures),
+      rw (line-is (found l)) (ap-short (line-is (found l)) (line (found l)).worded_line-line.ensures),
       asked-small s.args.csv.now s.args.place s.args.row s.args.out.now s.pre (asked l),
     )
 
 returns : tie.Need-returns
 returns c =
-    let whole = c.before.before in
+    let whole = c in
     let l = whole.before.before.before.before in
     let s = start (found l) in
     let a = s.args in
-    rw (line-is (found l)) at whole.headed-item.ensures
-    ∙ (ap (headed (heading (found l)) l.label_at.result)
-    (given_back a.out.now _ (found l).room-before.result
-    ∙ ap (λ (n : ℕ). take n a.out.now ++ l.label_at.new.1.1.0) (room (found l)))
+    rw (line-is (found l)) at whole.headed_item.ensures
+    ∙ (ap (headed (heading (found l)) l.label_at-answer.result)
+    (given_back a.out.now _ (found l).room_before-room.result
+    ∙ ap (λ (n : ℕ). take n a.out.now ++ l.label_at-answer.new.1.1.0) (room (found l)))
     ∙ asked-item a.csv.now a.place a.row a.out.now s.pre (asked l))
 
-pub item-at-spec : {M : Type 1} → statement M
-item-at-spec =
+pub item_at_spec : {M : Type 1} → statement M
+item_at_spec =
     tie.close
     (tie.spec (search rules) (search rules) (search rules) slice-aggregate-heading (search rules) within
     part-label-at-start (search rules) (λ c κs. search rules) headed-item-requires (search rules) returns)

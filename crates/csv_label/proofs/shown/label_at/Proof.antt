@@ -10,42 +10,42 @@ use Rattle.csv_label.proofs.ShownLaws.{label-none, label-refused, label-printed}
 use Rattle.csv_label.proofs.shown.label_at.Statement.{statement}
 use Rattle.csv_label.proofs.shown.label_at.Tie as tie
 
-returns : tie.Need-returns
+returns : tie.Need-returns-then-csv-place
 returns c =
-    let a = c.before.before.before.args in
-    sym (label-none a.csv.now a.place a.out.now c.if1.true)
+    let a = c.args in
+    sym (label-none a.csv.now a.place a.out.now c.if-csv-place.true)
 
-row-spans-requires : tie.Need-row-spans-requires
-row-spans-requires c κs = c.before.before.before.requires.good c.if1.false
+row-spans-requires : tie.Need-row_spans-spans-requires
+row-spans-requires c κs = c.requires.good c.if-csv-place.false
 
 -- the elements of the row
-module _ (f : tie.After-forbidden-in) where
-  abbrev read : tie.After-row-spans
+module _ (f : tie.After-forbidden_in-rule) where
+  abbrev read : tie.After-row_spans-spans
   read = f.before
 
   abbrev start : tie.Start
   start = read.before.before.before.before
 
-  rule : f.forbidden-in.result ≡ forbidden_in (row_elements (fields_of (drop start.args.place start.args.csv.now)))
-  rule = f.forbidden-in.ensures ∙ ap forbidden_in read.row-spans.ensures
+  rule : f.forbidden_in-rule.result ≡ forbidden_in (row_elements (fields_of (drop start.args.place start.args.csv.now)))
+  rule = f.forbidden_in-rule.ensures ∙ ap forbidden_in read.row_spans-spans.ensures
 
-returns-2 : tie.Need-returns-2
+returns-2 : tie.Need-returns-then-rule-ne0
 returns-2 c =
     let f = c.before in
     let a = (start f).args in
-    sym (label-refused a.csv.now a.place a.out.now (read f).before.if1.false (rule f) c.if2.true)
+    sym (label-refused a.csv.now a.place a.out.now (read f).if-csv-place.false (rule f) c.if-rule-ne0.true)
 
-returns-3 : tie.Need-returns-3
+returns-3 : tie.Need-returns
 returns-3 c =
-    let p = c.before.before in
-    let e = p.before.before in
+    let p = c in
+    let e = p in
     let f = e.before in
     let a = (start f).args in
-    p.print-label.ensures
-    ∙ (ap (λ (x : Elements). room_outcome (label_of x) a.out.now) (read f).row-spans.ensures
-    ∙ sym (label-printed a.csv.now a.place a.out.now (read f).before.if1.false (sym (rule f) ∙ e.if2.false)))
+    p.print_label.ensures
+    ∙ (ap (λ (x : Elements). room_outcome (label_of x) a.out.now) (read f).row_spans-spans.ensures
+    ∙ sym (label-printed a.csv.now a.place a.out.now (read f).if-csv-place.false (sym (rule f) ∙ e.if-rule-ne0.false)))
 
-pub label-at-spec : {M : Type 1} → statement M
-label-at-spec =
+pub label_at_spec : {M : Type 1} → statement M
+label_at_spec =
     tie.close
     (tie.spec returns row-spans-requires (search rules) returns-2 (search rules) (search rules) returns-3)

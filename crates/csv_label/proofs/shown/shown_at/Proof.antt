@@ -6,23 +6,23 @@ use Rattle.csv_label.specs.Shown.{resolved_at, shown_of}
 use Rattle.csv_label.proofs.shown.shown_at.Statement.{statement}
 use Rattle.csv_label.proofs.shown.shown_at.Tie as tie
 
-returns : tie.Need-returns
+returns : tie.Need-returns-then-listed
 returns c =
-    let item = c.before.before in
-    let listed = item.before.before in
-    let a = listed.before.before.before.args in
-    item.item-at.ensures
-    ∙ sym (ap (λ (t : Bool). shown_of t a.row (resolved_at a.csv.now a.place) a.out.now) listed.if1.true)
+    let item = c in
+    let listed = item in
+    let a = listed.args in
+    item.item_at.ensures
+    ∙ sym (ap (λ (t : Bool). shown_of t a.row (resolved_at a.csv.now a.place) a.out.now) listed.if-listed.true)
 
-returns-2 : tie.Need-returns-2
+returns-2 : tie.Need-returns
 returns-2 c =
-    let label = c.before.before in
-    let alone = label.before.before in
-    let a = alone.before.before.before.args in
+    let label = c in
+    let alone = label in
+    let a = alone.args in
     label.label_at.ensures
-    ∙ sym (ap (λ (t : Bool). shown_of t a.row (resolved_at a.csv.now a.place) a.out.now) alone.if1.false)
+    ∙ sym (ap (λ (t : Bool). shown_of t a.row (resolved_at a.csv.now a.place) a.out.now) alone.if-listed.false)
 
-pub shown-at-spec : {M : Type 1} → statement M
-shown-at-spec =
+pub shown_at_spec : {M : Type 1} → statement M
+shown_at_spec =
     tie.close
     (tie.spec (λ c κs. search rules) (search rules) returns (λ c κs. search rules) (search rules) returns-2)

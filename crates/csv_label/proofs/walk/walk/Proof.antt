@@ -21,17 +21,17 @@ use Rattle.csv_label.proofs.ShownLaws.{shown-within, shown-there}
 use Rattle.csv_label.proofs.walk.walk.Statement.{statement}
 use Rattle.csv_label.proofs.walk.walk.Tie as tie
 
-abbrev invariant-loop : tie.invariant-loop
+abbrev invariant-loop : tie.invariant-loop-done
 invariant-loop csv rows listed first count out₀ place₀ row₀ at₀ done₀ out place row at done =
     (row ≡ first + done)
     × (((place ≤ length csv) × (row_from (drop place csv) ≡ kth_of (rows_of csv) row))
     × (Going (shown_row listed csv) first count out₀ done at out × (length out ≡ length out₀)))
 
-abbrev decreases-loop : tie.decreases-loop
+abbrev decreases-loop : tie.decreases-loop-done
 decreases-loop csv rows listed first count out₀ place₀ row₀ at₀ done₀ out place row at done = count - done
 
 -- a turn of the loop
-module _ (l : tie.At-loop invariant-loop decreases-loop) where
+module _ (l : tie.At-loop-done invariant-loop decreases-loop) where
   abbrev start : tie.Start invariant-loop decreases-loop
   start = l.before.before.before.before
 
@@ -41,111 +41,111 @@ module _ (l : tie.At-loop invariant-loop decreases-loop) where
   abbrev asking : Asking
   asking = shown_row start.args.listed csv
 
-  here : RowPlace csv l.loop.place
-  here = row_here csv start.pre l.loop.row l.loop.place l.loop.inv.1.0.0 l.loop.inv.1.0.1
+  here : RowPlace csv l.loop-done.place
+  here = row_here csv start.pre l.loop-done.row l.loop-done.place l.loop-done.invariant.1.0.0 l.loop-done.invariant.1.0.1
 
-  going : Going asking start.args.first start.args.count start.args.out.now l.loop.done l.loop.at l.loop.out
-  going = l.loop.inv.1.1.0
+  going : Going asking start.args.first start.args.count start.args.out.now l.loop-done.done l.loop-done.at l.loop-done.out
+  going = l.loop-done.invariant.1.1.0
 
   fit : Fitting asking
   fit k out b e = shown-within start.args.listed k (resolved_of (kth_of (rows_of csv) k)) out b e
 
 -- what was asked, by its number
-module _ (m : tie.After-shown-behind invariant-loop decreases-loop) where
-  abbrev at-loop : tie.At-loop invariant-loop decreases-loop
+module _ (m : tie.After-shown_behind invariant-loop decreases-loop) where
+  abbrev at-loop : tie.At-loop-done invariant-loop decreases-loop
   at-loop = m.before.before.before
 
-  shown : said m.shown-behind.result m.shown-behind.last.1.1.1.1.1.0
-      ≡ asked_behind at-loop.loop.at at-loop.loop.out
-      (shown_of (start at-loop).args.listed at-loop.loop.row (resolved_at (csv at-loop) at-loop.loop.place))
-  shown = m.shown-behind.ensures
+  shown : said m.shown_behind.result m.shown_behind.last.1.1.1.1.1.0
+      ≡ asked_behind at-loop.loop-done.at at-loop.loop-done.out
+      (shown_of (start at-loop).args.listed at-loop.loop-done.row (resolved_at (csv at-loop) at-loop.loop-done.place))
+  shown = m.shown_behind.ensures
 
-  asked : said m.shown-behind.result m.shown-behind.last.1.1.1.1.1.0
-      ≡ asked_behind at-loop.loop.at at-loop.loop.out
-      (asking at-loop ((start at-loop).args.first + at-loop.loop.done))
+  asked : said m.shown_behind.result m.shown_behind.last.1.1.1.1.1.0
+      ≡ asked_behind at-loop.loop-done.at at-loop.loop-done.out
+      (asking at-loop ((start at-loop).args.first + at-loop.loop-done.done))
   asked =
       let l = at-loop in
-      let behind = asked_behind l.loop.at l.loop.out in
+      let behind = asked_behind l.loop-done.at l.loop-done.out in
       shown
-      ∙ (ap (λ (o : Option (List ℕ)). behind (shown_of (start l).args.listed l.loop.row (resolved_of o))) l.loop.inv.1.0.1
-      ∙ ap (λ (k : ℕ). behind (asking l k)) l.loop.inv.0)
+      ∙ (ap (λ (o : Option (List ℕ)). behind (shown_of (start l).args.listed l.loop-done.row (resolved_of o))) l.loop-done.invariant.1.0.1
+      ∙ ap (λ (k : ℕ). behind (asking l k)) l.loop-done.invariant.0)
 
   -- a label or an item was written, so the row is there
-  there : {b : ℕ} → m.shown-behind.result ≡ Value b → at-loop.loop.place < length (csv at-loop)
+  there : {b : ℕ} → m.shown_behind.result ≡ Value b → at-loop.loop-done.place < length (csv at-loop)
   there {b} is =
-      shown-there (start at-loop).args.listed (csv at-loop) at-loop.loop.row at-loop.loop.place
-      (drop at-loop.loop.at at-loop.loop.out) b (sym (answer-of shown) ∙ is)
+      shown-there (start at-loop).args.listed (csv at-loop) at-loop.loop-done.row at-loop.loop-done.place
+      (drop at-loop.loop-done.at at-loop.loop-done.out) b (sym (answer-of shown) ∙ is)
 
-loop-holds : tie.Need-loop-init invariant-loop decreases-loop
+loop-holds : tie.Need-loop-done-init invariant-loop decreases-loop
 loop-holds c =
-    let s = c.before.before.before in
+    let s = c in
     let a = s.args in (
       sym (add-zero a.first),
-      (c.row-place.ensures, (going_start (shown_row a.listed a.csv.now) a.first a.count a.out.now, refl)),
+      (c.row_place-place.ensures, (going_start (shown_row a.listed a.csv.now) a.first a.count a.out.now, refl)),
     )
 
-shown-behind-requires : tie.Need-shown-behind-requires invariant-loop decreases-loop
+shown-behind-requires : tie.Need-shown_behind-requires invariant-loop decreases-loop
 shown-behind-requires c κs =
     let l = c.before.before in
     ((going l).within, here l)
 
-add_at : tie.Need-overflow-add-at invariant-loop decreases-loop
+add_at : tie.Need-overflow_add-at invariant-loop decreases-loop
 add_at c =
-    let m = c.before.before.before.before.before in
+    let m = c.before.before.before in
     let l = at-loop m in
     omega (
       arith,
-      going-fits (going l) (fit l) (omega arith) (asked m) c.before.bytes.given.1,
-      m.shown-behind.auto.1.1.1.1.1.0,
-      l.loop.inv.1.1.1,
+      going-fits (going l) (fit l) (omega arith) (asked m) c.in-Value.is,
+      m.shown_behind.auto.1.1.1.1.1.0,
+      l.loop-done.invariant.1.1.1,
       (start l).good.1.1.1.1.1.0.0,
     )
 
-returns : tie.Need-returns invariant-loop decreases-loop
+returns : tie.Need-returns-in-Refused invariant-loop decreases-loop
 returns c =
-    let m = c.before.before.before.before.before in
+    let m = c.before.before.before in
     let l = at-loop m in
-    going-stop (going l) (fit l) (omega arith) (asked m) c.before.reason.given.1
+    going-stop (going l) (fit l) (omega arith) (asked m) c.in-Refused.is
 
-row-behind-requires : tie.Need-row-behind-requires invariant-loop decreases-loop
-row-behind-requires c κs = (at-loop c.before.before.before.before.before).loop.inv.1.0.0
+row-behind-requires : tie.Need-row_behind-place-requires invariant-loop decreases-loop
+row-behind-requires c κs = (at-loop c.before.before.before).loop-done.invariant.1.0.0
 
-add_row : tie.Need-overflow-add-row invariant-loop decreases-loop
+add_row : tie.Need-overflow_add-row invariant-loop decreases-loop
 add_row c =
-    let n = c.before in
-    let m = n.before.before.before.before.before in
+    let n = c in
+    let m = n.before.before.before in
     let l = at-loop m in
     omega (
       arith,
-      number-within (csv l) l.loop.row l.loop.place (there m n.before.bytes.given.1) l.loop.inv.1.0.1,
+      number-within (csv l) l.loop-done.row l.loop-done.place (there m n.in-Value.is) l.loop-done.invariant.1.0.1,
       (start l).good.0.1,
     )
 
-loop-again : tie.Need-loop-preserved invariant-loop decreases-loop
+loop-again : tie.Need-loop-done-preserved invariant-loop decreases-loop
 loop-again c =
-    let n = c.before in
-    let m = n.before.before.before.before.before in
+    let n = c in
+    let m = n.before.before.before in
     let l = at-loop m in
-    let is = n.before.bytes.given.1 in (
-      omega (arith, l.loop.inv.0),
+    let is = n.in-Value.is in (
+      omega (arith, l.loop-done.invariant.0),
       (
         (
-          c.row-behind.ensures.0,
-          kth-next (csv l) l.loop.row l.loop.place c.row-behind.result (there m is) l.loop.inv.1.0.1
-              c.row-behind.ensures.1.1,
+          c.row_behind-place.ensures.0,
+          kth-next (csv l) l.loop-done.row l.loop-done.place c.row_behind-place.result (there m is) l.loop-done.invariant.1.0.1
+              c.row_behind-place.ensures.1.1,
         ),
         (
           going_step (going l) (fit l) (omega arith) (asked m) is,
-          m.shown-behind.auto.1.1.1.1.1.0 ∙ l.loop.inv.1.1.1,
+          m.shown_behind.auto.1.1.1.1.1.0 ∙ l.loop-done.invariant.1.1.1,
         ),
       ),
     )
 
-returns-2 : tie.Need-returns-2 invariant-loop decreases-loop
+returns-2 : tie.Need-returns invariant-loop decreases-loop
 returns-2 c = going_end (going c.before) (omega arith)
 
-pub walk-spec : {M : Type 1} → statement M
-walk-spec =
+pub walk_spec : {M : Type 1} → statement M
+walk_spec =
     tie.close
     (tie.spec invariant-loop decreases-loop (search rules) loop-holds shown-behind-requires (search rules) add_at (search rules)
     (search rules) returns row-behind-requires add_row (search rules) (search rules) loop-again (search rules) returns-2)

@@ -10,35 +10,35 @@ use Rattle.csv_read.proofs.Cut.{length-stop, length-step, length-end}
 use Rattle.csv_read.proofs.fields.field_end.Statement.{statement}
 use Rattle.csv_read.proofs.fields.field_end.Tie as tie
 
-abbrev invariant-loop : tie.invariant-loop
+abbrev invariant-loop : tie.invariant-loop-i
 invariant-loop csv at i₀ i = field_end csv at ≡ i + field_length (drop i csv)
 
-abbrev decreases-loop : tie.decreases-loop
+abbrev decreases-loop : tie.decreases-loop-i
 decreases-loop csv at i₀ i = length csv - i
 
-loop-holds : tie.Need-loop-init invariant-loop decreases-loop
+loop-holds : tie.Need-loop-i-init invariant-loop decreases-loop
 unfolding field_end
 loop-holds c = refl
 
-returns : tie.Need-returns invariant-loop decreases-loop
+returns : tie.Need-returns-then-ends_field invariant-loop decreases-loop
 returns c =
-    let l = c.before.before.before in
-    let csv = l.before.before.args.csv.now in
-    omega (arith, l.loop.invariant, length-stop csv l.loop.i (omega arith) (sym c.before.ends-field.ensures ∙ c.if1.true))
+    let l = c in
+    let csv = l.args.csv.now in
+    omega (arith, l.loop-i.invariant, length-stop csv l.loop-i.i (omega arith) (sym c.ends_field.ensures ∙ c.if-ends_field.true))
 
-loop-again : tie.Need-loop-preserved invariant-loop decreases-loop
+loop-again : tie.Need-loop-i-preserved invariant-loop decreases-loop
 loop-again c =
-    let l = c.before.before.before in
-    let csv = l.before.before.args.csv.now in
-    omega (arith, l.loop.invariant, length-step csv l.loop.i (omega arith) (sym c.before.ends-field.ensures ∙ c.if1.false))
+    let l = c in
+    let csv = l.args.csv.now in
+    omega (arith, l.loop-i.invariant, length-step csv l.loop-i.i (omega arith) (sym c.ends_field.ensures ∙ c.if-ends_field.false))
 
-returns-2 : tie.Need-returns-2 invariant-loop decreases-loop
+returns-2 : tie.Need-returns invariant-loop decreases-loop
 returns-2 c =
-    let l = c.before in
-    let csv = l.before.before.args.csv.now in
-    omega (arith, l.loop.invariant, length-end csv l.loop.i (omega arith))
+    let l = c in
+    let csv = l.args.csv.now in
+    omega (arith, l.loop-i.invariant, length-end csv l.loop-i.i (omega arith))
 
-pub field-end-spec : {M : Type 1} → statement M
-field-end-spec =
+pub field_end_spec : {M : Type 1} → statement M
+field_end_spec =
     tie.close
     (tie.spec invariant-loop decreases-loop loop-holds (search rules) returns (search rules) (search rules) loop-again returns-2)

@@ -5,15 +5,15 @@ use Rattle.csv_read.proofs.FormLaws.{get_d-there, get_d-none}
 use Rattle.csv_read.proofs.forms.byte_or_space.Statement.{statement}
 use Rattle.csv_read.proofs.forms.byte_or_space.Tie as tie
 
-returns : tie.Need-returns
+returns : tie.Need-returns-then-i-o
 returns c =
-    let a = c.before.before.args in
-    get_d-there a.o.now a.i 0 32 c.before.if1.true
+    let a = c.args in
+    get_d-there a.o.now a.i 0 32 c.if-i-o.true
 
-returns-2 : tie.Need-returns-2
+returns-2 : tie.Need-returns-else-i-o
 returns-2 c =
-    let a = c.before.args in
-    sym (get_d-none a.o.now a.i 32 c.if1.false)
+    let a = c.args in
+    sym (get_d-none a.o.now a.i 32 c.if-i-o.false)
 
-pub byte-or-space-spec : {M : Type 1} → statement M
-byte-or-space-spec = tie.close (tie.spec (search rules) returns returns-2)
+pub byte_or_space_spec : {M : Type 1} → statement M
+byte_or_space_spec = tie.close (tie.spec (search rules) returns returns-2)

@@ -7,9 +7,9 @@ use Rattle.csv_read.proofs.forms.is_indicator.Tie as tie
 
 returns : tie.Need-returns
 returns c =
-    let space = c.before.before in
-    let f = space.before.before.before.args.f.now in
-    rw (c.same-bytes2.ensures, space.same_bytes.ensures, same_none f) refl
+    let space = c in
+    let f = space.args.f.now in
+    rw (c.same_bytes-yes.ensures, space.same_bytes-space.ensures, same_none f) refl
 
-pub is-indicator-spec : {M : Type 1} → statement M
-is-indicator-spec = tie.close (tie.spec (search rules) (search rules) (search rules) (search rules) returns)
+pub is_indicator_spec : {M : Type 1} → statement M
+is_indicator_spec = tie.close (tie.spec (search rules) (search rules) (search rules) (search rules) returns)

@@ -13,16 +13,16 @@ use Rattle.csv_read.proofs.forms.is_outward.Tie as tie
 
 returns : tie.Need-returns
 returns c =
-    let fourth = c.before.before.before in
-    let third = fourth.before in
-    let start = third.before.before.before.before in
+    let fourth = c in
+    let third = fourth in
+    let start = third in
     let o = start.args.o.now in
-    rw c.outward-fault.ensures
+    rw c.outward_fault.ensures
     (ap (λ (code : List ℕ). not (eqb (from_end o 1) 32) && eqb (outward_fault code) 0)
-    (code_is o _ _ start.requires third.byte-or-space.ensures fourth.byte-or-space2.ensures))
+    (code_is o _ _ start.requires third.byte_or_space.ensures fourth.byte_or_space-2.ensures))
 
-pub is-outward-spec : {M : Type 1} → statement M
-is-outward-spec =
+pub is_outward_spec : {M : Type 1} → statement M
+is_outward_spec =
     tie.close
     (tie.spec (search rules) (search rules) (search rules) (search rules) (search rules) (search rules) (search rules)
     (search rules) returns)

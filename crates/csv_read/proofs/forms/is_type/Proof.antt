@@ -5,7 +5,7 @@ use Rattle.csv_read.proofs.forms.is_type.Statement.{statement}
 use Rattle.csv_read.proofs.forms.is_type.Tie as tie
 
 returns : tie.Need-returns
-returns c = rw (c.same-bytes2.ensures, c.before.before.same_bytes.ensures) refl
+returns c = rw (c.same_bytes-large.ensures, c.same_bytes-small.ensures) refl
 
-pub is-type-spec : {M : Type 1} → statement M
-is-type-spec = tie.close (tie.spec (search rules) (search rules) (search rules) (search rules) returns)
+pub is_type_spec : {M : Type 1} → statement M
+is_type_spec = tie.close (tie.spec (search rules) (search rules) (search rules) (search rules) returns)

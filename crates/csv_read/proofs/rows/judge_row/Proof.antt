@@ -19,28 +19,28 @@ use Rattle.csv_read.proofs.Reading.{reading-start, surplus, malformed, reading-o
 use Rattle.csv_read.proofs.rows.judge_row.Statement.{statement}
 use Rattle.csv_read.proofs.rows.judge_row.Tie as tie
 
-abbrev invariant-loop : tie.invariant-loop
+abbrev invariant-loop : tie.invariant-loop-n
 invariant-loop csv at fit₀ before₀ start₀ n₀ fit before start n = (n ≤ 16) × Reading csv at n start before fit
 
-abbrev decreases-loop : tie.decreases-loop
+abbrev decreases-loop : tie.decreases-loop-n
 decreases-loop csv at fit₀ before₀ start₀ n₀ fit before start n = 16 - n
 
-loop-holds : tie.Need-loop-init invariant-loop decreases-loop
+loop-holds : tie.Need-loop-n-init invariant-loop decreases-loop
 loop-holds c =
-    let s = c.before.before in
-    (omega arith, reading-start s.args.csv.now s.args.at c.part_of.ensures s.requires)
+    let s = c in
+    (omega arith, reading-start s.args.csv.now s.args.at c.part_of-before.ensures s.requires)
 
-is-formed-requires : tie.Need-is-formed-requires invariant-loop decreases-loop
+is-formed-requires : tie.Need-is_formed-requires invariant-loop decreases-loop
 is-formed-requires c κs =
-    let turn = c.before.before in
-    (turn.loop-test.true, turn.before.loop.invariant.1.within)
+    let turn = c in
+    (turn.loop-n-test.true, turn.loop-n.invariant.1.within)
 
 -- a field, once it is known whether it is well formed
-module _ (m : tie.After-is-formed invariant-loop decreases-loop) where
-  abbrev found : tie.After-field-end invariant-loop decreases-loop
+module _ (m : tie.After-is_formed invariant-loop decreases-loop) where
+  abbrev found : tie.After-field_end-end invariant-loop decreases-loop
   found = m.before.before
 
-  abbrev at-loop : tie.At-loop invariant-loop decreases-loop
+  abbrev at-loop : tie.At-loop-n invariant-loop decreases-loop
   at-loop = found.before.before
 
   abbrev start : tie.Start invariant-loop decreases-loop
@@ -53,96 +53,96 @@ module _ (m : tie.After-is-formed invariant-loop decreases-loop) where
   at = start.args.at
 
   abbrev n : ℕ
-  n = at-loop.loop.n
+  n = at-loop.loop-n.n
 
   abbrev end : ℕ
-  end = found.field-end.result
+  end = found.field_end-end.result
 
-  reading : Reading csv at n at-loop.loop.start at-loop.loop.before.now at-loop.loop.fit
-  reading = at-loop.loop.inv.1
+  reading : Reading csv at n at-loop.loop-n.start at-loop.loop-n.before.now at-loop.loop-n.fit
+  reading = at-loop.loop-n.invariant.1
 
-  formed : m.is-formed.result ≡ get_or (forms_for (fields_of (drop at csv))) n no_form (part csv at-loop.loop.start end)
+  formed : m.is_formed.result ≡ get_or (forms_for (fields_of (drop at csv))) n no_form (part csv at-loop.loop-n.start end)
   formed =
-      m.is-formed.ensures (fields_of (drop at csv)) reading.last reading.fields
-      ∙ ap (get_or (forms_for (fields_of (drop at csv))) n no_form) m.before.part-of2.ensures
+      m.is_formed.ensures (fields_of (drop at csv)) reading.last reading.fields
+      ∙ ap (get_or (forms_for (fields_of (drop at csv))) n no_form) m.part_of-f.ensures
 
-returns : tie.Need-returns invariant-loop decreases-loop
+returns : tie.Need-returns-then-not-is_formed invariant-loop decreases-loop
 returns c =
     let m = c.before.before in
     judged-faulty (csv m) (at m) (n m) (c.faulty.ensures ∙ ap faulty_row (add-one (n m)))
-    (malformed (reading m) m.before.before.before.loop-test.true (end m) (found m).field-end.ensures
-    (sym (not-true _ c.before.if1.true) ∙ formed m))
+    (malformed (reading m) m.loop-n-test.true (end m) (found m).field_end-end.ensures
+    (sym (c.if-not-is_formed.true) ∙ formed m))
 
 -- a field that is well formed
-module _ (w : tie.After-width-of invariant-loop decreases-loop) where
-  abbrev judged : tie.After-is-formed invariant-loop decreases-loop
+module _ (w : tie.After-width_of invariant-loop decreases-loop) where
+  abbrev judged : tie.After-is_formed invariant-loop decreases-loop
   judged = w.before.before
 
   abbrev f : List ℕ
-  f = part (csv judged) (at-loop judged).loop.start (end judged)
+  f = part (csv judged) (at-loop judged).loop-n.start (end judged)
 
   good : true ≡ get_or (forms_for (fields_of (drop (at judged) (csv judged)))) (n judged) no_form f
-  good = sym (not-false _ w.before.if1.left) ∙ formed judged
+  good = sym (not-false _ w.if-not-is_formed.left) ∙ formed judged
 
   below : n judged < 16
-  below = judged.before.before.before.loop-test.taken
+  below = judged.loop-n-test.taken
 
-  short : leb (length judged.before.part-of2.result.now) w.width_of_lem.result ≡ leb (length f) (get_or widths (n judged) 0)
+  short : leb (length judged.part_of-f.result.now) w.width_of.result ≡ leb (length f) (get_or widths (n judged) 0)
   short =
-      ap₂ (λ (g : List ℕ) (width : ℕ). leb (length g) width) judged.before.part-of2.ensures w.width_of_lem.ensures
+      ap₂ (λ (g : List ℕ) (width : ℕ). leb (length g) width) judged.part_of-f.ensures w.width_of.ensures
 
-width-of-requires : tie.Need-width-of-requires invariant-loop decreases-loop
-width-of-requires c κs = c.before.before.before.before.loop-test.true
+width-of-requires : tie.Need-width_of-requires invariant-loop decreases-loop
+width-of-requires c κs = c.loop-n-test.true
 
-ended-row-requires : tie.Need-ended-row-requires invariant-loop decreases-loop
+ended-row-requires : tie.Need-ended_row-requires invariant-loop decreases-loop
 ended-row-requires c κs =
     let w = c.before.before in
     let j = judged w in (
       below w,
-      omega (arith, (found j).field-end.ensures, end-within (csv j) (at-loop j).loop.start (reading j).within),
+      omega (arith, (found j).field_end-end.ensures, end-within (csv j) (at-loop j).loop-n.start (reading j).within),
     )
 
-returns-2 : tie.Need-returns-2 invariant-loop decreases-loop
+returns-2 : tie.Need-returns-then-byte_of-ne44 invariant-loop decreases-loop
 returns-2 c =
-    let b = c.before.before in
+    let b = c in
     let w = b.before in
     let j = judged w in
     subst (Judges (csv j) (at j))
-    (sym (c.ended-row.ensures ∙ ap (λ (t : Bool). ended_row (csv j) (n j) (end j) ((at-loop j).loop.fit && t)) (short w)))
-    (reading-ends (reading j) (below w) (end j) (found j).field-end.ensures (good w)
-    (λ z. c.before.if2.true (b.byte_of.ensures ∙ z)))
+    (sym (c.ended_row.ensures ∙ ap (λ (t : Bool). ended_row (csv j) (n j) (end j) ((at-loop j).loop-n.fit && t)) (short w)))
+    (reading-ends (reading j) (below w) (end j) (found j).field_end-end.ensures (good w)
+    (λ z. c.if-byte_of-ne44.true (b.byte_of.ensures ∙ z)))
 
 -- with a comma behind it
-module _ (c : tie.Else2 invariant-loop decreases-loop) where
-  abbrev fitted : tie.After-width-of invariant-loop decreases-loop
+module _ (c : tie.Else-byte_of-ne44 invariant-loop decreases-loop) where
+  abbrev fitted : tie.After-width_of invariant-loop decreases-loop
   fitted = c.before.before
 
   comma : get_or (csv (judged fitted)) (end (judged fitted)) 0 ≡ 44
-  comma = sym c.before.byte_of.ensures ∙ c.if2.false
+  comma = sym c.byte_of.ensures ∙ c.if-byte_of-ne44.false
 
-add_start : tie.Need-overflow-add-start invariant-loop decreases-loop
+add_start : tie.Need-overflow_add-start invariant-loop decreases-loop
 add_start c =
     let j = judged (fitted c) in
     omega (arith, comma-within (csv j) (end j) (comma c), (start j).good.0.1)
 
-loop-again : tie.Need-loop-preserved invariant-loop decreases-loop
+loop-again : tie.Need-loop-n-preserved invariant-loop decreases-loop
 loop-again c =
     let w = fitted c in
     let j = judged w in (
       omega (arith, below w),
-      reading-on (reading j) (below w) (end j) (found j).field-end.ensures (good w) (comma c)
-          j.before.part-of2.ensures (short w),
+      reading-on (reading j) (below w) (end j) (found j).field_end-end.ensures (good w) (comma c)
+          j.part_of-f.ensures (short w),
     )
 
-returns-3 : tie.Need-returns-3 invariant-loop decreases-loop
+returns-3 : tie.Need-returns invariant-loop decreases-loop
 returns-3 c =
-    let l = c.before.before in
-    let s = l.before.before.before in
-    judged-faulty s.args.csv.now s.args.at 16 c.faulty2.ensures
-    (surplus l.loop.invariant.1 (omega (arith, l.loop.invariant.0, c.before.loop-test.false)))
+    let l = c in
+    let s = l in
+    judged-faulty s.args.csv.now s.args.at 16 c.faulty-2.ensures
+    (surplus l.loop-n.invariant.1 (omega (arith, l.loop-n.invariant.0, c.loop-n-test.false)))
 
-pub judge-row-spec : {M : Type 1} → statement M
-judge-row-spec =
+pub judge_row_spec : {M : Type 1} → statement M
+judge_row_spec =
     tie.close
     (tie.spec invariant-loop decreases-loop (search rules) loop-holds (search rules) (search rules) is-formed-requires (search rules)
     (search rules) returns width-of-requires (search rules) ended-row-requires returns-2 add_start (search rules)

@@ -14,14 +14,14 @@ use Rattle.csv_spans.proofs.fields.cut_field.Statement.{statement}
 use Rattle.csv_spans.proofs.fields.cut_field.Tie as tie
 
 -- the text that was read
-module _ (c : tie.After-read-text) where
+module _ (c : tie.After-read_text-text) where
   abbrev start : tie.Start
   start = c.before.before.before
 
-  text : c.read-text.result.now ≡ text_in start.args.csv.now start.args.start (field_end start.args.csv.now start.args.start)
-  text = c.read-text.ensures ∙ ap (text_in start.args.csv.now start.args.start) c.before.field-end.ensures
+  text : c.read_text-text.result.now ≡ text_in start.args.csv.now start.args.start (field_end start.args.csv.now start.args.start)
+  text = c.read_text-text.ensures ∙ ap (text_in start.args.csv.now start.args.start) c.field_end-end.ensures
 
-cast-t6 : tie.Need-overflow-cast-t6
+cast-t6 : tie.Need-overflow_cast-result
 cast-t6 c =
     let s = start c in
     let a = s.args in
@@ -32,11 +32,11 @@ cast-t6 c =
       s.pre.1,
     )
 
-add-t8 : tie.Need-overflow-add-t8
+add-t8 : tie.Need-overflow_add-result
 add-t8 c =
     let s = start c in
     let a = s.args in
-    omega (arith, c.before.field-end.ensures, end-within a.csv.now a.start s.pre.0, s.good.0.1)
+    omega (arith, c.field_end-end.ensures, end-within a.csv.now a.start s.pre.0, s.good.0.1)
 
 returns : tie.Need-returns
 returns c =
@@ -45,8 +45,8 @@ returns c =
     let e = field_end a.csv.now a.start in (
       ap (λ (t : List ℕ). part a.csv.now a.start (a.start + length t)) (text c)
           ∙ front-text a.csv.now a.start e,
-      add-one c.before.field-end.result ∙ ap suc c.before.field-end.ensures,
+      add-one c.field_end-end.result ∙ ap suc c.field_end-end.ensures,
     )
 
-pub cut-field-spec : {M : Type 1} → statement M
-cut-field-spec = tie.close (tie.spec (search rules) (search rules) cast-t6 add-t8 returns)
+pub cut_field_spec : {M : Type 1} → statement M
+cut_field_spec = tie.close (tie.spec (search rules) (search rules) cast-t6 add-t8 returns)

@@ -10,5 +10,5 @@ use Rattle.csv_spans.proofs.fields.inward_span.Tie as tie
 returns : tie.Need-returns
 returns c = λ a b. ap (part a (c.args.end - 3)) (let q : c.args.end - 3 + 3 ≡ c.args.end = omega (arith, c.requires) in q)
 
-pub inward-span-spec : {M : Type 1} → statement M
-inward-span-spec = tie.close (tie.spec (search rules) returns)
+pub inward_span_spec : {M : Type 1} → statement M
+inward_span_spec = tie.close (tie.spec (search rules) returns)

@@ -12,5 +12,5 @@ returns c =
     let a = c.args in
     λ s t. ap (part s a.at) (let q : a.at + (a.end - a.at - 4) ≡ a.end - 4 = omega (arith, c.requires) in q)
 
-pub outward-span-spec : {M : Type 1} → statement M
-outward-span-spec = tie.close (tie.spec (search rules) (search rules) (search rules) returns)
+pub outward_span_spec : {M : Type 1} → statement M
+outward_span_spec = tie.close (tie.spec (search rules) (search rules) (search rules) returns)

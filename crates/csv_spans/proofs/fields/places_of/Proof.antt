@@ -17,55 +17,55 @@ module _ (s : tie.Start) where
   abbrev at : ℕ
   at = s.args.at
 
-cut-field-requires : tie.Need-cut-field-requires
-cut-field-requires c κs = cut-here c.before.requires.0 1 (omega arith) c.before.requires.1
+cut-field-requires : tie.Need-cut_field-first-requires
+cut-field-requires c κs = cut-here c.requires.0 1 (omega arith) c.requires.1
 
-module _ (c : tie.After-cut-field) where
+module _ (c : tie.After-cut_field-first) where
   abbrev start : tie.Start
   start = c.before.before
 
   on : c.Cut-field.result.next ≡ field_start (csv start) (at start) 2
   on = next_here start.pre.0 1 (omega arith) start.pre.1 c.Cut-field.ensures.1
 
-cut-field-requires-2 : tie.Need-cut-field-requires-2
+cut-field-requires-2 : tie.Need-cut_field-second-requires
 cut-field-requires-2 c κs = cut-here (start c.before).pre.0 2 (omega arith) (on c.before)
 
-module _ (c : tie.After-cut-field2) where
+module _ (c : tie.After-cut_field-second) where
   abbrev start2 : tie.Start
   start2 = start c.before.before
 
-  on2 : c.cut-field2.result.next ≡ field_start (csv start2) (at start2) 3
-  on2 = next_here start2.pre.0 2 (omega arith) (on c.before.before) c.cut-field2.ensures.1
+  on2 : c.cut_field-second.result.next ≡ field_start (csv start2) (at start2) 3
+  on2 = next_here start2.pre.0 2 (omega arith) (on c.before.before) c.cut_field-second.ensures.1
 
-cut-field-requires-3 : tie.Need-cut-field-requires-3
+cut-field-requires-3 : tie.Need-cut_field-third-requires
 cut-field-requires-3 c κs = cut-here (start2 c.before).pre.0 3 (omega arith) (on2 c.before)
 
-module _ (c : tie.After-cut-field3) where
+module _ (c : tie.After-cut_field-third) where
   abbrev start3 : tie.Start
   start3 = start2 c.before.before
 
-  on3 : c.cut-field3.result.next ≡ field_start (csv start3) (at start3) 4
-  on3 = next_here start3.pre.0 3 (omega arith) (on2 c.before.before) c.cut-field3.ensures.1
+  on3 : c.cut_field-third.result.next ≡ field_start (csv start3) (at start3) 4
+  on3 = next_here start3.pre.0 3 (omega arith) (on2 c.before.before) c.cut_field-third.ensures.1
 
-cut-field-requires-4 : tie.Need-cut-field-requires-4
+cut-field-requires-4 : tie.Need-cut_field-fourth-requires
 cut-field-requires-4 c κs = cut-here (start3 c.before).pre.0 4 (omega arith) (on3 c.before)
 
-module _ (c : tie.After-cut-field4) where
+module _ (c : tie.After-cut_field-fourth) where
   abbrev start4 : tie.Start
   start4 = start3 c.before.before
 
-  on4 : c.cut-field4.result.next ≡ field_start (csv start4) (at start4) 5
-  on4 = next_here start4.pre.0 4 (omega arith) (on3 c.before.before) c.cut-field4.ensures.1
+  on4 : c.cut_field-fourth.result.next ≡ field_start (csv start4) (at start4) 5
+  on4 = next_here start4.pre.0 4 (omega arith) (on3 c.before.before) c.cut_field-fourth.ensures.1
 
-cut-field-requires-5 : tie.Need-cut-field-requires-5
+cut-field-requires-5 : tie.Need-cut_field-fifth-requires
 cut-field-requires-5 c κs = cut-here (start4 c.before).pre.0 5 (omega arith) (on4 c.before)
 
-module _ (c : tie.After-cut-field5) where
+module _ (c : tie.After-cut_field-fifth) where
   abbrev start5 : tie.Start
   start5 = start4 c.before.before
 
-  on5 : c.cut-field5.result.next ≡ field_start (csv start5) (at start5) 6
-  on5 = next_here start5.pre.0 5 (omega arith) (on4 c.before.before) c.cut-field5.ensures.1
+  on5 : c.cut_field-fifth.result.next ≡ field_start (csv start5) (at start5) 6
+  on5 = next_here start5.pre.0 5 (omega arith) (on4 c.before.before) c.cut_field-fifth.ensures.1
 
 returns : tie.Need-returns
 returns c =
@@ -78,15 +78,15 @@ returns c =
     let row = s.pre.0 in
     record {
       town = said_here row 1 (omega arith) s.pre.1 first.Cut-field.ensures.0;
-      dependent_locality = said_here row 2 (omega arith) (on first) second.cut-field2.ensures.0;
-      double_locality = said_here row 3 (omega arith) (on2 second) third.cut-field3.ensures.0;
-      thoroughfare = said_here row 4 (omega arith) (on3 third) fourth.cut-field4.ensures.0;
-      dependent = said_here row 5 (omega arith) (on4 fourth) fifth.cut-field5.ensures.0;
+      dependent_locality = said_here row 2 (omega arith) (on first) second.cut_field-second.ensures.0;
+      double_locality = said_here row 3 (omega arith) (on2 second) third.cut_field-third.ensures.0;
+      thoroughfare = said_here row 4 (omega arith) (on3 third) fourth.cut_field-fourth.ensures.0;
+      dependent = said_here row 5 (omega arith) (on4 fourth) fifth.cut_field-fifth.ensures.0;
       next = on5 fifth;
     }
 
-pub places-of-spec : {M : Type 1} → statement M
-places-of-spec =
+pub places_of_spec : {M : Type 1} → statement M
+places_of_spec =
     tie.close
     (tie.spec cut-field-requires cut-field-requires-2 cut-field-requires-3 cut-field-requires-4 cut-field-requires-5
     returns)

@@ -15,8 +15,8 @@ use Rattle.csv_spans.proofs.fields.premises_of.Statement.{statement}
 use Rattle.csv_spans.proofs.fields.premises_of.Tie as tie
 
 -- the row, and where its number ends
-module _ (v : tie.After-value-of) where
-  abbrev ended : tie.After-field-end
+module _ (v : tie.After-value_of-number) where
+  abbrev ended : tie.After-field_end-end
   ended = v.before.before
 
   abbrev start : tie.Start
@@ -28,76 +28,76 @@ module _ (v : tie.After-value-of) where
   abbrev at : ℕ
   at = start.args.at
 
-  number-field : v.before.part_of.result.now ≡ get_or (fields_of (drop at csv)) 6 []
+  number-field : v.part_of.result.now ≡ get_or (fields_of (drop at csv)) 6 []
   number-field =
-      v.before.part_of.ensures ∙ field-here start.pre.0 6 (omega arith) start.pre.1 ended.field-end.ensures
+      v.part_of.ensures ∙ field-here start.pre.0 6 (omega arith) start.pre.1 ended.field_end-end.ensures
 
-  begun : ended.field-end.result + 1 ≡ field_start csv at 7
+  begun : ended.field_end-end.result + 1 ≡ field_start csv at 7
   begun =
       next_here start.pre.0 6 (omega arith) start.pre.1
-      (add-one ended.field-end.result ∙ ap suc ended.field-end.ensures)
+      (add-one ended.field_end-end.result ∙ ap suc ended.field_end-end.ensures)
 
-add-cut-field : tie.Need-overflow-add-cut-field
+add-cut-field : tie.Need-overflow_add-end
 add-cut-field c =
     let s = start c in
-    omega (arith, (ended c).field-end.ensures, end-high s.pre.0 6 (omega arith) s.pre.1, s.good.0.1)
+    omega (arith, (ended c).field_end-end.ensures, end-high s.pre.0 6 (omega arith) s.pre.1, s.good.0.1)
 
-cut-field-requires : tie.Need-cut-field-requires
+cut-field-requires : tie.Need-cut_field-first-requires
 cut-field-requires c κs = cut-here (start c).requires.0 7 (omega arith) (begun c)
 
-module _ (c : tie.After-cut-field) where
+module _ (c : tie.After-cut_field-first) where
   abbrev start1 : tie.Start
   start1 = start c.before
 
   on1 : c.Cut-field.result.next ≡ field_start (csv c.before) (at c.before) 8
   on1 = next_here start1.pre.0 7 (omega arith) (begun c.before) c.Cut-field.ensures.1
 
-cut-field-requires-2 : tie.Need-cut-field-requires-2
+cut-field-requires-2 : tie.Need-cut_field-second-requires
 cut-field-requires-2 c κs = cut-here (start1 c.before).pre.0 8 (omega arith) (on1 c.before)
 
-module _ (c : tie.After-cut-field2) where
+module _ (c : tie.After-cut_field-second) where
   abbrev start2 : tie.Start
   start2 = start1 c.before.before
 
-  on2 : c.cut-field2.result.next ≡ field_start start2.args.csv.now start2.args.at 9
-  on2 = next_here start2.pre.0 8 (omega arith) (on1 c.before.before) c.cut-field2.ensures.1
+  on2 : c.cut_field-second.result.next ≡ field_start start2.args.csv.now start2.args.at 9
+  on2 = next_here start2.pre.0 8 (omega arith) (on1 c.before.before) c.cut_field-second.ensures.1
 
-cut-field-requires-3 : tie.Need-cut-field-requires-3
+cut-field-requires-3 : tie.Need-cut_field-third-requires
 cut-field-requires-3 c κs = cut-here (start2 c.before).pre.0 9 (omega arith) (on2 c.before)
 
-module _ (c : tie.After-cut-field3) where
+module _ (c : tie.After-cut_field-third) where
   abbrev start3 : tie.Start
   start3 = start2 c.before.before
 
-  on3 : c.cut-field3.result.next ≡ field_start start3.args.csv.now start3.args.at 10
-  on3 = next_here start3.pre.0 9 (omega arith) (on2 c.before.before) c.cut-field3.ensures.1
+  on3 : c.cut_field-third.result.next ≡ field_start start3.args.csv.now start3.args.at 10
+  on3 = next_here start3.pre.0 9 (omega arith) (on2 c.before.before) c.cut_field-third.ensures.1
 
-cut-field-requires-4 : tie.Need-cut-field-requires-4
+cut-field-requires-4 : tie.Need-cut_field-fourth-requires
 cut-field-requires-4 c κs = cut-here (start3 c.before).pre.0 10 (omega arith) (on3 c.before)
 
-module _ (c : tie.After-cut-field4) where
+module _ (c : tie.After-cut_field-fourth) where
   abbrev start4 : tie.Start
   start4 = start3 c.before.before
 
-  on4 : c.cut-field4.result.next ≡ field_start start4.args.csv.now start4.args.at 11
-  on4 = next_here start4.pre.0 10 (omega arith) (on3 c.before.before) c.cut-field4.ensures.1
+  on4 : c.cut_field-fourth.result.next ≡ field_start start4.args.csv.now start4.args.at 11
+  on4 = next_here start4.pre.0 10 (omega arith) (on3 c.before.before) c.cut_field-fourth.ensures.1
 
-cut-field-requires-5 : tie.Need-cut-field-requires-5
+cut-field-requires-5 : tie.Need-cut_field-fifth-requires
 cut-field-requires-5 c κs = cut-here (start4 c.before).pre.0 11 (omega arith) (on4 c.before)
 
-cast-t18 : tie.Need-overflow-cast-t18
+cast-t18 : tie.Need-overflow_cast-result
 cast-t18 c =
     let v = c.before.before.before.before.before.before.before.before.before.before in
     omega (
       arith,
-      v.value_of_lem.ensures,
+      v.value_of-number.ensures,
       ap value (number-field v),
       four-digits (get_or (fields_of (drop (at v) (csv v))) 6 []) (short (start v).requires.0 6 (omega arith)),
     )
 
 returns : tie.Need-returns
 returns c =
-    let fifth = c.before in
+    let fifth = c in
     let fourth = fifth.before.before in
     let third = fourth.before.before in
     let second = third.before.before in
@@ -105,16 +105,16 @@ returns c =
     let v = first.before in
     let row = (start v).requires.0 in
     record {
-      number = v.value_of_lem.ensures ∙ ap value (number-field v);
+      number = v.value_of-number.ensures ∙ ap value (number-field v);
       building = said_here row 7 (omega arith) (begun v) first.Cut-field.ensures.0;
-      sub_building = said_here row 8 (omega arith) (on1 first) second.cut-field2.ensures.0;
-      box = said_here row 9 (omega arith) (on2 second) third.cut-field3.ensures.0;
-      department = said_here row 10 (omega arith) (on3 third) fourth.cut-field4.ensures.0;
-      organisation = said_here row 11 (omega arith) (on4 fourth) fifth.cut-field5.ensures.0;
+      sub_building = said_here row 8 (omega arith) (on1 first) second.cut_field-second.ensures.0;
+      box = said_here row 9 (omega arith) (on2 second) third.cut_field-third.ensures.0;
+      department = said_here row 10 (omega arith) (on3 third) fourth.cut_field-fourth.ensures.0;
+      organisation = said_here row 11 (omega arith) (on4 fourth) fifth.cut_field-fifth.ensures.0;
     }
 
-pub premises-of-spec : {M : Type 1} → statement M
-premises-of-spec =
+pub premises_of_spec : {M : Type 1} → statement M
+premises_of_spec =
     tie.close
     (tie.spec (search rules) (search rules) (search rules) add-cut-field cut-field-requires cut-field-requires-2
     cut-field-requires-3 cut-field-requires-4 cut-field-requires-5 cast-t18 returns)

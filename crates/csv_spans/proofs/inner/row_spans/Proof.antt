@@ -15,7 +15,7 @@ use Rattle.csv_spans.proofs.inner.row_spans.Statement.{statement}
 use Rattle.csv_spans.proofs.inner.row_spans.Tie as tie
 
 -- the row, and where its postcode ends
-module _ (e : tie.After-field-end) where
+module _ (e : tie.After-field_end-end) where
   abbrev start : tie.Start
   start = e.before.before
 
@@ -25,70 +25,70 @@ module _ (e : tie.After-field-end) where
   abbrev at : ℕ
   at = start.args.at
 
-  begun : e.field-end.result + 1 ≡ field_start csv at 1
-  begun = add-one e.field-end.result ∙ ap suc e.field-end.ensures
+  begun : e.field_end-end.result + 1 ≡ field_start csv at 1
+  begun = add-one e.field_end-end.result ∙ ap suc e.field_end-end.ensures
 
-add-places-of : tie.Need-overflow-add-places-of
+add-places-of : tie.Need-overflow_add-end
 add-places-of c =
-    omega (arith, c.field-end.ensures, end-high (start c).requires 0 (omega arith) refl, (start c).well_formed.0.1)
+    omega (arith, c.field_end-end.ensures, end-high (start c).requires 0 (omega arith) refl, (start c).well_formed.0.1)
 
-places-of-requires : tie.Need-places-of-requires
+places-of-requires : tie.Need-places_of-places-requires
 places-of-requires c κs = ((start c).requires, begun c)
 
-premises-of-requires : tie.Need-premises-of-requires
-premises-of-requires c κs = ((start c.before).pre, c.places_of.ensures.next)
+premises-of-requires : tie.Need-premises_of-premises-requires
+premises-of-requires c κs = ((start c.before).pre, c.places_of-places.ensures.next)
 
 -- once the texts are read
-module _ (b : tie.After-building) where
-  abbrev premises : tie.After-premises-of
+module _ (b : tie.After-building-1) where
+  abbrev premises : tie.After-premises_of-premises
   premises = b.before.before.before.before.before.before.before.before.before.before
 
-  abbrev ended : tie.After-field-end
+  abbrev ended : tie.After-field_end-end
   ended = premises.before.before
 
-  sized : (at ended + 6 ≤ ended.field-end.result) × (ended.field-end.result ≤ at ended + 8)
-  sized = code-sized (start ended).pre ended.field-end.ensures
+  sized : (at ended + 6 ≤ ended.field_end-end.result) × (ended.field_end-end.result ≤ at ended + 8)
+  sized = code-sized (start ended).pre ended.field_end-end.ensures
 
-outward-span-requires : tie.Need-outward-span-requires
+outward-span-requires : tie.Need-outward_span-requires
 outward-span-requires c κs = sized c.before.before
 
-inward-span-requires : tie.Need-inward-span-requires
-inward-span-requires c κs = omega (arith, sized c.before.before.before)
+inward-span-requires : tie.Need-inward_span-requires
+inward-span-requires c κs = omega (arith, sized c)
 
 returns : tie.Need-returns
 unfolding row_elements
 returns c =
-    let o = c.before in
-    let second = o.before in
-    let first = second.before in
+    let o = c in
+    let second = o in
+    let first = second in
     let b = first.before in
     let q = premises b in
     let e = ended b in
-    let p = q.before in
+    let p = q in
     let row = (start e).pre in
     let bytes = csv e in
     all-stand bytes bytes _ (row_elements (fields_of (drop (at e) bytes)))
     record {
-      organisation = q.premises-of.ensures.organisation;
-      department = q.premises-of.ensures.department;
-      box = q.premises-of.ensures.box;
-      sub_building = q.premises-of.ensures.sub_building;
-      building = q.premises-of.ensures.building;
-      number = q.premises-of.ensures.number;
+      organisation = q.premises_of-premises.ensures.organisation;
+      department = q.premises_of-premises.ensures.department;
+      box = q.premises_of-premises.ensures.box;
+      sub_building = q.premises_of-premises.ensures.sub_building;
+      building = q.premises_of-premises.ensures.building;
+      number = q.premises_of-premises.ensures.number;
       concatenation = refl;
-      dependent = p.places_of.ensures.dependent;
+      dependent = p.places_of-places.ensures.dependent;
       dependent_descriptor = first.no_text.ensures bytes bytes;
-      thoroughfare = p.places_of.ensures.thoroughfare;
-      descriptor = second.no-text2.ensures bytes bytes;
-      double_locality = p.places_of.ensures.double_locality;
-      dependent_locality = p.places_of.ensures.dependent_locality;
-      town = p.places_of.ensures.town;
-      outward = o.outward-span.ensures bytes bytes ∙ outward-here row e.field-end.ensures;
-      inward = c.inward-span.ensures bytes bytes ∙ inward-here row e.field-end.ensures;
+      thoroughfare = p.places_of-places.ensures.thoroughfare;
+      descriptor = second.no_text-2.ensures bytes bytes;
+      double_locality = p.places_of-places.ensures.double_locality;
+      dependent_locality = p.places_of-places.ensures.dependent_locality;
+      town = p.places_of-places.ensures.town;
+      outward = o.outward_span.ensures bytes bytes ∙ outward-here row e.field_end-end.ensures;
+      inward = c.inward_span.ensures bytes bytes ∙ inward-here row e.field_end-end.ensures;
     }
 
-pub row-spans-spec : {M : Type 1} → statement M
-row-spans-spec =
+pub row_spans_spec : {M : Type 1} → statement M
+row_spans_spec =
     tie.close
     (tie.spec (search rules) add-places-of places-of-requires premises-of-requires (search rules) (search rules)
     outward-span-requires inward-span-requires returns)

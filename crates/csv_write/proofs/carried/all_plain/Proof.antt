@@ -11,30 +11,30 @@ use Rattle.csv.specs.Row.{plain_byte, plain}
 use Rattle.csv_write.proofs.carried.all_plain.Statement.{statement}
 use Rattle.csv_write.proofs.carried.all_plain.Tie as tie
 
-abbrev invariant-loop : tie.invariant-loop
+abbrev invariant-loop : tie.invariant-loop-i
 invariant-loop s bad₀ i₀ bad i = (i ≤ length s) × (plain s ≡ not bad && plain (drop i s))
 
-abbrev decreases-loop : tie.decreases-loop
+abbrev decreases-loop : tie.decreases-loop-i
 decreases-loop s bad₀ i₀ bad i = length s - i
 
-loop-holds : tie.Need-loop-init invariant-loop decreases-loop
+loop-holds : tie.Need-loop-i-init invariant-loop decreases-loop
 loop-holds c = (search rules, refl)
 
-loop-again : tie.Need-loop-preserved invariant-loop decreases-loop
+loop-again : tie.Need-loop-i-preserved invariant-loop decreases-loop
 loop-again c =
-    let l = c.before.before.before in
-    rw c.is-marked.ensures (
+    let l = c in
+    rw c.is_marked-bad.ensures (
       omega arith,
-      l.loop.invariant.1 ∙ every-step plain_byte l.before.before.args.s.now l.loop.i l.loop.bad (omega arith),
+      l.loop-i.invariant.1 ∙ every-step plain_byte l.args.s.now l.loop-i.i l.loop-i.bad (omega arith),
     )
 
 returns : tie.Need-returns invariant-loop decreases-loop
 returns c =
-    let l = c.before in
-    sym (l.loop.invariant.1 ∙ every-end plain_byte l.before.before.args.s.now l.loop.i l.loop.bad (omega arith))
+    let l = c in
+    sym (l.loop-i.invariant.1 ∙ every-end plain_byte l.args.s.now l.loop-i.i l.loop-i.bad (omega arith))
 
-pub all-plain-spec : {M : Type 1} → statement M
-all-plain-spec =
+pub all_plain_spec : {M : Type 1} → statement M
+all_plain_spec =
     tie.close
     (tie.spec invariant-loop decreases-loop loop-holds (search rules) (search rules) (search rules) (search rules) loop-again
     returns)

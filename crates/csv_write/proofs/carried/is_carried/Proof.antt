@@ -8,17 +8,17 @@ use Rattle.csv_write.proofs.carried.is_carried.Tie as tie
 returns : tie.Need-returns
 unfolding elements_in
 returns c =
-    let street = c.before in
-    let premises = street.before in
-    let places = premises.before in
-    let g = places.before.before.before.args in
+    let street = c in
+    let premises = street in
+    let places = premises in
+    let g = places.args in
     rw (
-      places.places-plain.ensures,
-      premises.premises-plain.ensures,
-      street.street-fits.ensures,
-      c.street-fits2.ensures,
+      places.places_plain-places.ensures,
+      premises.premises_plain-premises.ensures,
+      street.street_fits-street.ensures,
+      c.street_fits-beside.ensures,
     ) (carried-parts (elements_in g.a.now g.b.now g.e))
 
-pub is-carried-spec : {M : Type 1} → statement M
-is-carried-spec =
+pub is_carried_spec : {M : Type 1} → statement M
+is_carried_spec =
     tie.close (tie.spec (search rules) (search rules) (search rules) (search rules) returns)

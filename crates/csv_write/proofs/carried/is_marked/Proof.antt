@@ -13,5 +13,5 @@ neither false false = refl
 returns : tie.Need-returns
 returns c = neither (eqb c.args.b 44) (eqb c.args.b 34)
 
-pub is-marked-spec : {M : Type 1} → statement M
-is-marked-spec = tie.close (tie.spec returns)
+pub is_marked_spec : {M : Type 1} → statement M
+is_marked_spec = tie.close (tie.spec returns)

@@ -4,7 +4,7 @@ use Rattle.csv_write.proofs.carried.is_plain.Statement.{statement}
 use Rattle.csv_write.proofs.carried.is_plain.Tie as tie
 
 returns : tie.Need-returns
-returns c = rw c.before.text_of.ensures at c.all_plain.ensures
+returns c = rw c.text_of-t.ensures at c.all_plain.ensures
 
-pub is-plain-spec : {M : Type 1} → statement M
-is-plain-spec = tie.close (tie.spec (search rules) (search rules) returns)
+pub is_plain_spec : {M : Type 1} → statement M
+is_plain_spec = tie.close (tie.spec (search rules) (search rules) returns)

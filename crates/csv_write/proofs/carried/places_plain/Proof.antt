@@ -8,24 +8,24 @@ use Rattle.csv_write.proofs.carried.places_plain.Tie as tie
 returns : tie.Need-returns
 unfolding places_plain elements_in
 returns c =
-    let dependent = c.before in
-    let descriptor = dependent.before in
-    let thoroughfare = descriptor.before in
-    let double = thoroughfare.before in
-    let locality = double.before in
-    let town = locality.before in
+    let dependent = c in
+    let descriptor = dependent in
+    let thoroughfare = descriptor in
+    let double = thoroughfare in
+    let locality = double in
+    let town = locality in
     rw (
-      town.is_plain.ensures,
-      locality.is-plain2.ensures,
-      double.is-plain3.ensures,
-      thoroughfare.is-plain4.ensures,
-      descriptor.is-plain5.ensures,
-      dependent.is-plain6.ensures,
-      c.is-plain7.ensures,
+      town.is_plain-town.ensures,
+      locality.is_plain-dependent_locality.ensures,
+      double.is_plain-double_locality.ensures,
+      thoroughfare.is_plain-thoroughfare.ensures,
+      descriptor.is_plain-descriptor.ensures,
+      dependent.is_plain-dependent.ensures,
+      c.is_plain-beside.ensures,
     )
 
-pub places-plain-spec : {M : Type 1} → statement M
-places-plain-spec =
+pub places_plain_spec : {M : Type 1} → statement M
+places_plain_spec =
     tie.close
     (tie.spec (search rules) (search rules) (search rules) (search rules) (search rules) (search rules) (search rules)
     returns)

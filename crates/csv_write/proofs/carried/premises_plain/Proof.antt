@@ -8,19 +8,19 @@ use Rattle.csv_write.proofs.carried.premises_plain.Tie as tie
 returns : tie.Need-returns
 unfolding premises_plain elements_in
 returns c =
-    let department = c.before in
-    let box = department.before in
-    let sub_building = box.before in
-    let building = sub_building.before in
+    let department = c in
+    let box = department in
+    let sub_building = box in
+    let building = sub_building in
     rw (
-      building.is_plain.ensures,
-      sub_building.is-plain2.ensures,
-      box.is-plain3.ensures,
-      department.is-plain4.ensures,
-      c.is-plain5.ensures,
+      building.is_plain-building.ensures,
+      sub_building.is_plain-sub_building.ensures,
+      box.is_plain-po_box.ensures,
+      department.is_plain-department.ensures,
+      c.is_plain-organisation.ensures,
     )
 
-pub premises-plain-spec : {M : Type 1} → statement M
-premises-plain-spec =
+pub premises_plain_spec : {M : Type 1} → statement M
+premises_plain_spec =
     tie.close
     (tie.spec (search rules) (search rules) (search rules) (search rules) (search rules) returns)

@@ -4,7 +4,7 @@ use Rattle.csv_write.proofs.carried.street_fits.Statement.{statement}
 use Rattle.csv_write.proofs.carried.street_fits.Tie as tie
 
 returns : tie.Need-returns
-returns c = rw c.street-len.ensures.0
+returns c = rw c.street_len.ensures.0
 
-pub street-fits-spec : {M : Type 1} → statement M
-street-fits-spec = tie.close (tie.spec (search rules) returns)
+pub street_fits_spec : {M : Type 1} → statement M
+street_fits_spec = tie.close (tie.spec (search rules) returns)

@@ -5,9 +5,9 @@ use Rattle.csv_write.proofs.fields.ending_at.Tie as tie
 
 returns : tie.Need-returns
 returns c =
-    let put = c.before.before in
-    rw put.before.before.before.mark_of.ensures at put.bytes-at.ensures
+    let put = c in
+    rw put.mark_of-mark.ensures at put.bytes_at.ensures
 
-pub ending-at-spec : {M : Type 1} → statement M
-ending-at-spec =
+pub ending_at_spec : {M : Type 1} → statement M
+ending_at_spec =
     tie.close (tie.spec (search rules) (search rules) (search rules) (search rules) returns)

@@ -10,19 +10,19 @@ at-text : (c : tie.Start) → let g = c.args in let a = g.a.now in let b = g.b.n
     Begun (field_in a b g.s) (field_pieces a b g.s) g.out.now g.at
 at-text c = begun (field-made _ _ c.args.s) c.requires
 
-text-at-requires : tie.Need-text-at-requires
-text-at-requires c κs = room (at-text c.before.before.before.before)
+text-at-requires : tie.Need-text_at-i-requires
+text-at-requires c κs = room (at-text c)
 
-byte-at-requires : tie.Need-byte-at-requires
+byte-at-requires : tie.Need-byte_at-requires
 byte-at-requires c κs =
-    let text = c.before.before.before in
-    room (step (at-text text.before.before.before.before.before) text.text_at.ensures)
+    let text = c in
+    room (step (at-text text.before.before.before.before.before) text.text_at-i.ensures)
 
 returns : tie.Need-returns
 returns c =
-    let comma = c.before.before in
-    let text = comma.before.before.before.before in
-    last (step (at-text text.before.before.before.before.before) text.text_at.ensures) comma.byte_at.ensures
+    let comma = c in
+    let text = comma in
+    last (step (at-text text.before.before.before.before.before) text.text_at-i.ensures) comma.byte_at.ensures
 
-pub field-at-spec : {M : Type 1} → statement M
-field-at-spec = tie.close (tie.spec text-at-requires byte-at-requires (search rules) returns)
+pub field_at_spec : {M : Type 1} → statement M
+field_at_spec = tie.close (tie.spec text-at-requires byte-at-requires (search rules) returns)

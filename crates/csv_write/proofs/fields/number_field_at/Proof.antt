@@ -9,19 +9,19 @@ use Rattle.csv_write.proofs.fields.number_field_at.Tie as tie
 at-number : (c : tie.Start) → let g = c.args in Begun (number_field g.n) (number_pieces g.n) g.out.now g.at
 at-number c = begun (number-made c.args.n) c.requires
 
-number-at-requires : tie.Need-number-at-requires
-number-at-requires c κs = room (at-number c.before.before)
+number-at-requires : tie.Need-number_at-i-requires
+number-at-requires c κs = room (at-number c)
 
-byte-at-requires : tie.Need-byte-at-requires
+byte-at-requires : tie.Need-byte_at-requires
 byte-at-requires c κs =
-    let number = c.before.before.before in
-    room (step (at-number number.before.before.before) number.number_at.ensures)
+    let number = c in
+    room (step (at-number number.before.before.before) number.number_at-i.ensures)
 
 returns : tie.Need-returns
 returns c =
-    let comma = c.before.before in
-    let number = comma.before.before.before.before in
-    last (step (at-number number.before.before.before) number.number_at.ensures) comma.byte_at.ensures
+    let comma = c in
+    let number = comma in
+    last (step (at-number number.before.before.before) number.number_at-i.ensures) comma.byte_at.ensures
 
-pub number-field-at-spec : {M : Type 1} → statement M
-number-field-at-spec = tie.close (tie.spec number-at-requires byte-at-requires (search rules) returns)
+pub number_field_at_spec : {M : Type 1} → statement M
+number_field_at_spec = tie.close (tie.spec number-at-requires byte-at-requires (search rules) returns)

@@ -11,32 +11,32 @@ at-outward : (c : tie.Start) → let g = c.args in let a = g.a.now in let b = g.
     Begun (postcode_in a b g.outward g.inward) (postcode_pieces a b g.outward g.inward) g.out.now g.at
 at-outward c = begun (postcode-made _ _ c.args.outward c.args.inward) c.requires
 
-text-at-requires : tie.Need-text-at-requires
-text-at-requires c κs = room (at-outward c.before.before.before.before)
+text-at-requires : tie.Need-text_at-i-requires
+text-at-requires c κs = room (at-outward c)
 
-byte-at-requires : tie.Need-byte-at-requires
+byte-at-requires : tie.Need-byte_at-j-requires
 byte-at-requires c κs =
-    let outward = c.before.before.before in
-    room (step (at-outward outward.before.before.before.before.before) outward.text_at.ensures)
+    let outward = c in
+    room (step (at-outward outward.before.before.before.before.before) outward.text_at-i.ensures)
 
-field-at-requires : tie.Need-field-at-requires
+field-at-requires : tie.Need-field_at-requires
 field-at-requires c κs =
-    let space = c.before.before.before in
+    let space = c in
     let outward = space.before.before.before.before in
     room
-    (step (step (at-outward outward.before.before.before.before.before) outward.text_at.ensures)
-    space.byte_at.ensures)
+    (step (step (at-outward outward.before.before.before.before.before) outward.text_at-i.ensures)
+    space.byte_at-j.ensures)
 
 returns : tie.Need-returns
 returns c =
-    let inward = c.before.before in
-    let space = inward.before.before.before.before in
-    let outward = space.before.before.before.before in
+    let inward = c in
+    let space = inward in
+    let outward = space in
     last
-    (step (step (at-outward outward.before.before.before.before.before) outward.text_at.ensures)
-    space.byte_at.ensures)
+    (step (step (at-outward outward.before.before.before.before.before) outward.text_at-i.ensures)
+    space.byte_at-j.ensures)
     inward.field_at.ensures
 
-pub postcode-at-spec : {M : Type 1} → statement M
-postcode-at-spec =
+pub postcode_at_spec : {M : Type 1} → statement M
+postcode_at_spec =
     tie.close (tie.spec text-at-requires byte-at-requires field-at-requires (search rules) returns)

@@ -10,30 +10,30 @@ at_name : (c : tie.Start) → let g = c.args in let a = g.a.now in let b = g.b.n
     Begun (street_in a b g.name g.descriptor) (street_pieces a b g.name g.descriptor) g.out.now g.at
 at_name c = begun (street-made _ _ c.args.name c.args.descriptor) c.requires
 
-text-at-requires : tie.Need-text-at-requires
-text-at-requires c κs = room (at_name c.before.before.before.before)
+text-at-requires : tie.Need-text_at-i-requires
+text-at-requires c κs = room (at_name c)
 
-tail-at-requires : tie.Need-tail-at-requires
+tail-at-requires : tie.Need-tail_at-j-requires
 tail-at-requires c κs =
-    let name = c.before.before.before in
-    room (step (at_name name.before.before.before.before.before) name.text_at.ensures)
+    let name = c in
+    room (step (at_name name.before.before.before.before.before) name.text_at-i.ensures)
 
-byte-at-requires : tie.Need-byte-at-requires
+byte-at-requires : tie.Need-byte_at-requires
 byte-at-requires c κs =
-    let beside = c.before.before.before in
+    let beside = c in
     let name = beside.before.before.before.before in
     room
-    (step (step (at_name name.before.before.before.before.before) name.text_at.ensures) beside.tail_at.ensures)
+    (step (step (at_name name.before.before.before.before.before) name.text_at-i.ensures) beside.tail_at-j.ensures)
 
 returns : tie.Need-returns
 returns c =
-    let comma = c.before.before in
-    let beside = comma.before.before.before.before in
-    let name = beside.before.before.before.before in
+    let comma = c in
+    let beside = comma in
+    let name = beside in
     last
-    (step (step (at_name name.before.before.before.before.before) name.text_at.ensures) beside.tail_at.ensures)
+    (step (step (at_name name.before.before.before.before.before) name.text_at-i.ensures) beside.tail_at-j.ensures)
     comma.byte_at.ensures
 
-pub street-at-spec : {M : Type 1} → statement M
-street-at-spec =
+pub street_at_spec : {M : Type 1} → statement M
+street_at_spec =
     tie.close (tie.spec text-at-requires tail-at-requires byte-at-requires (search rules) returns)

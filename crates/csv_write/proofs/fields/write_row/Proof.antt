@@ -11,33 +11,33 @@ at_places : (c : tie.Start) → let g = c.args in let a = g.a.now in let b = g.b
     Begun (row_in a b g.e g.x) (row_pieces a b g.e g.x) g.out.now 0
 at_places c = begun-front (row_made _ _ c.args.e c.args.x) c.requires
 
-places-at-requires : tie.Need-places-at-requires
-places-at-requires c κs = room (at_places c.before.before.before.before)
+places-at-requires : tie.Need-places_at-i-requires
+places-at-requires c κs = room (at_places c)
 
-premises-at-requires : tie.Need-premises-at-requires
+premises-at-requires : tie.Need-premises_at-j-requires
 premises-at-requires c κs =
-    let places = c.before.before.before in
-    room (step (at_places places.before.before.before.before.before) places.places-at.ensures)
+    let places = c in
+    room (step (at_places places.before.before.before.before.before) places.places_at-i.ensures)
 
-ending-at-requires : tie.Need-ending-at-requires
+ending-at-requires : tie.Need-ending_at-requires
 ending-at-requires c κs =
-    let premises = c.before.before.before in
+    let premises = c in
     let places = premises.before.before.before.before in
     room
-    (step (step (at_places places.before.before.before.before.before) places.places-at.ensures)
-    premises.premises-at.ensures)
+    (step (step (at_places places.before.before.before.before.before) places.places_at-i.ensures)
+    premises.premises_at-j.ensures)
 
 returns : tie.Need-returns
 returns c =
-    let ending = c.before.before in
-    let premises = ending.before.before.before.before in
-    let places = premises.before.before.before.before in
+    let ending = c in
+    let premises = ending in
+    let places = premises in
     wrote
     (last
-    (step (step (at_places places.before.before.before.before.before) places.places-at.ensures)
-    premises.premises-at.ensures)
+    (step (step (at_places places.before.before.before.before.before) places.places_at-i.ensures)
+    premises.premises_at-j.ensures)
     ending.Ending-at.ensures)
 
-pub write-row-spec : {M : Type 1} → statement M
-write-row-spec =
+pub write_row_spec : {M : Type 1} → statement M
+write_row_spec =
     tie.close (tie.spec places-at-requires premises-at-requires ending-at-requires (search rules) returns)

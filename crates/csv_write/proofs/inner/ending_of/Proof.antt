@@ -7,12 +7,12 @@ use Rattle.csv_write.proofs.inner.ending_of.Tie as tie
 
 returns : tie.Need-returns
 returns c =
-    let start = c.before.before in
+    let start = c in
     record {
       kind = refl;
       indicator = refl;
       suffix = suffix-bytes start.args.own.now start.args.p.suffix start.requires;
     }
 
-pub ending-of-spec : {M : Type 1} → statement M
-ending-of-spec = tie.close (tie.spec (search rules) (search rules) (search rules) returns)
+pub ending_of_spec : {M : Type 1} → statement M
+ending_of_spec = tie.close (tie.spec (search rules) (search rules) (search rules) returns)

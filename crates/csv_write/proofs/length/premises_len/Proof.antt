@@ -7,36 +7,36 @@ use Rattle.csv_write.proofs.length.premises_len.Tie as tie
 
 returns : tie.Need-returns
 returns c =
-    let department = c.before in
-    let box = department.before in
-    let sub_building = box.before in
-    let building = sub_building.before in
-    let number = building.before in
-    let g = number.before.before.before.args in
+    let department = c in
+    let box = department in
+    let sub_building = box in
+    let building = sub_building in
+    let number = building in
+    let g = number.args in
     let size = premises-size g.a.now g.b.now g.e in (
       omega (
         arith,
         size,
-        number.number-len.ensures.0,
-        building.text-len.ensures.0,
-        sub_building.text-len2.ensures.0,
-        box.text-len3.ensures.0,
-        department.text-len4.ensures.0,
-        c.text-len5.ensures.0,
+        number.number_len-number.ensures.0,
+        building.text_len-building.ensures.0,
+        sub_building.text_len-sub_building.ensures.0,
+        box.text_len-po_box.ensures.0,
+        department.text_len-department.ensures.0,
+        c.text_len-organisation.ensures.0,
       ),
       omega (
         arith,
-        number.number-len.ensures.1,
-        building.text-len.ensures.1,
-        sub_building.text-len2.ensures.1,
-        box.text-len3.ensures.1,
-        department.text-len4.ensures.1,
-        c.text-len5.ensures.1,
+        number.number_len-number.ensures.1,
+        building.text_len-building.ensures.1,
+        sub_building.text_len-sub_building.ensures.1,
+        box.text_len-po_box.ensures.1,
+        department.text_len-department.ensures.1,
+        c.text_len-organisation.ensures.1,
       ),
     )
 
-pub premises-len-spec : {M : Type 1} → statement M
-premises-len-spec =
+pub premises_len_spec : {M : Type 1} → statement M
+premises_len_spec =
     tie.close
     (tie.spec (search rules) (search rules) (search rules) (search rules) (search rules) (search rules) (search rules)
     (search rules) (search rules) (search rules) (search rules) (search rules) returns)

@@ -9,11 +9,11 @@ use Rattle.csv_write.proofs.length.row_len.Tie as tie
 
 returns : tie.Need-returns
 returns c x =
-    let places = c.before in
-    let g = places.before.before.before.args in
-    (three-sized {w = 9} {n = 4096} (row_made g.a.now g.b.now g.e x) places.places-len.ensures
-    c.premises-len.ensures (refl, omega arith) (omega arith)).0
+    let places = c in
+    let g = places.args in
+    (three-sized {w = 9} {n = 4096} (row_made g.a.now g.b.now g.e x) places.places_len-i.ensures
+    c.premises_len.ensures (refl, omega arith) (omega arith)).0
 
-pub row-len-spec : {M : Type 1} → statement M
-row-len-spec =
+pub row_len_spec : {M : Type 1} → statement M
+row_len_spec =
     tie.close (tie.spec (search rules) (search rules) (search rules) (search rules) returns)

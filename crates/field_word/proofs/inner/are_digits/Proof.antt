@@ -6,11 +6,11 @@ use Rattle.field_word.proofs.inner.are_digits.Tie as tie
 
 returns : tie.Need-returns
 returns c =
-    let word = c.before in
-    let start = word.before.before in
+    let word = c in
+    let start = word in
     λ e.
-    c.others-in.ensures _ (part-eight start.args.s.now start.args.i start.requires) word.eight-at.ensures
+    c.others_in.ensures _ (part-eight start.args.s.now start.args.i start.requires) word.eight_at.ensures
     (eqb-true _ 0 e)
 
-pub are-digits-spec : {M : Type 1} → statement M
-are-digits-spec = tie.close (tie.spec (search rules) (search rules) returns)
+pub are_digits_spec : {M : Type 1} → statement M
+are_digits_spec = tie.close (tie.spec (search rules) (search rules) returns)

@@ -4,33 +4,33 @@ use Rattle.field_word.proofs.Laws.{eight-word, four-fits}
 use Rattle.field_word.proofs.inner.eight_at.Statement.{statement}
 use Rattle.field_word.proofs.inner.eight_at.Tie as tie
 
-mul-result : tie.Need-overflow-mul-result
+mul-result : tie.Need-overflow_mul-result
 mul-result c =
-    let start = c.before.before.before in
+    let start = c in
     omega (
       arith,
-      four-fits start.args.s.now (start.args.i + 4) c.four-at2.result (omega arith) c.four-at2.ensures,
+      four-fits start.args.s.now (start.args.i + 4) c.four_at-2.result (omega arith) c.four_at-2.ensures,
     )
 
-add-result : tie.Need-overflow-add-result
+add-result : tie.Need-overflow_add-result
 add-result c =
-    let first = c.before in
-    let start = first.before.before in
+    let first = c in
+    let start = first in
     let s = start.args.s.now in
     let i = start.args.i in
     omega (
       arith,
-      four-fits s i first.four-at.result (omega arith) first.four-at.ensures,
-      four-fits s (i + 4) c.four-at2.result (omega arith) c.four-at2.ensures,
+      four-fits s i first.four_at.result (omega arith) first.four_at.ensures,
+      four-fits s (i + 4) c.four_at-2.result (omega arith) c.four_at-2.ensures,
     )
 
 returns : tie.Need-returns
 returns c =
-    let first = c.before in
-    let start = first.before.before in
-    eight-word start.args.s.now start.args.i _ _ start.requires first.four-at.ensures c.four-at2.ensures
+    let first = c in
+    let start = first in
+    eight-word start.args.s.now start.args.i _ _ start.requires first.four_at.ensures c.four_at-2.ensures
 
-pub eight-at-spec : {M : Type 1} → statement M
-eight-at-spec =
+pub eight_at_spec : {M : Type 1} → statement M
+eight_at_spec =
     tie.close
     (tie.spec (search rules) (search rules) (search rules) mul-result add-result returns)

@@ -7,9 +7,9 @@ use Rattle.field_word.proofs.inner.eight_zero.Tie as tie
 
 returns : tie.Need-returns
 returns c =
-    let start = c.before.before in
+    let start = c in
     only-is 48 (lit< tt) (part start.args.s.now start.args.i (start.args.i + 8)) 8 _
-    (part-eight start.args.s.now start.args.i start.requires) c.eight-at.ensures
+    (part-eight start.args.s.now start.args.i start.requires) c.eight_at.ensures
 
-pub eight-zero-spec : {M : Type 1} → statement M
-eight-zero-spec = tie.close (tie.spec (search rules) returns)
+pub eight_zero_spec : {M : Type 1} → statement M
+eight_zero_spec = tie.close (tie.spec (search rules) returns)

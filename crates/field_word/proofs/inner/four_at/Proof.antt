@@ -6,15 +6,15 @@ use Rattle.field_word.proofs.inner.four_at.Tie as tie
 
 returns : tie.Need-returns
 returns c =
-    let third = c.before in
-    let second = third.before in
-    let first = second.before in
-    let start = first.before.before in
-    four-word start.args.s.now start.args.i _ _ _ _ start.requires first.byte_at.ensures second.byte-at2.ensures
-    third.byte-at3.ensures c.byte-at4.ensures
+    let third = c in
+    let second = third in
+    let first = second in
+    let start = first in
+    four-word start.args.s.now start.args.i _ _ _ _ start.requires first.byte_at.ensures second.byte_at-2.ensures
+    third.byte_at-3.ensures c.byte_at-4.ensures
 
-pub four-at-spec : {M : Type 1} → statement M
-four-at-spec =
+pub four_at_spec : {M : Type 1} → statement M
+four_at_spec =
     tie.close
     (tie.spec
     (search rules)

@@ -7,9 +7,9 @@ use Rattle.field_word.proofs.inner.four_blank.Tie as tie
 
 returns : tie.Need-returns
 returns c =
-    let start = c.before.before in
+    let start = c in
     only-is 32 (lit< tt) (part start.args.s.now start.args.i (start.args.i + 4)) 4 _
-    (part-four start.args.s.now start.args.i start.requires) c.four-at.ensures
+    (part-four start.args.s.now start.args.i start.requires) c.four_at.ensures
 
-pub four-blank-spec : {M : Type 1} → statement M
-four-blank-spec = tie.close (tie.spec (search rules) returns)
+pub four_blank_spec : {M : Type 1} → statement M
+four_blank_spec = tie.close (tie.spec (search rules) returns)

@@ -7,7 +7,7 @@ use Rattle.field_word.proofs.inner.others_in.Tie as tie
 returns : tie.Need-returns
 returns c =
     λ s n p e.
-    all_digits s c.before.args.w n p (rw c.wrapping-add-usize.ensures at e)
+    all_digits s c.args.w n p (rw c.wrapping_add_usize-more.ensures at e)
 
-pub others-in-spec : {M : Type 1} → statement M
-others-in-spec = tie.close (tie.spec (search rules) returns)
+pub others_in_spec : {M : Type 1} → statement M
+others_in_spec = tie.close (tie.spec (search rules) returns)

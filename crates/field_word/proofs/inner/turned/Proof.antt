@@ -7,8 +7,8 @@ use Rattle.field_word.proofs.inner.turned.Tie as tie
 returns : tie.Need-returns
 returns c = λ s e p. turned-is s _ _ e p (omega arith)
 
-pub turned-spec : {M : Type 1} → statement M
-turned-spec =
+pub turned_spec : {M : Type 1} → statement M
+turned_spec =
     tie.close
     (tie.spec
     (search rules)

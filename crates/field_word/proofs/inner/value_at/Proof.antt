@@ -6,22 +6,22 @@ use Rattle.field_word.proofs.Digits.{eight-between, eight-value}
 use Rattle.field_word.proofs.inner.value_at.Statement.{statement}
 use Rattle.field_word.proofs.inner.value_at.Tie as tie
 
-between : (c : tie.After-eight-at) → (row 48 8 ≤ c.eight-at.result) × (c.eight-at.result ≤ row 57 8)
+between : (c : tie.After-eight_at-digits) → (row 48 8 ≤ c.eight_at-digits.result) × (c.eight_at-digits.result ≤ row 57 8)
 between c =
-    let start = c.before.before in
+    let start = c in
     let s = start.args.s.now in
     let i = start.args.i in
-    eight-between (part s i (i + 8)) _ (part-eight s i start.requires.0) start.requires.1 c.eight-at.ensures
+    eight-between (part s i (i + 8)) _ (part-eight s i start.requires.0) start.requires.1 c.eight_at-digits.ensures
 
 returns : tie.Need-returns
 returns c =
-    let start = c.before.before in
+    let start = c in
     let s = start.args.s.now in
     let i = start.args.i in
-    eight-value (part s i (i + 8)) _ (part-eight s i start.requires.0) start.requires.1 c.eight-at.ensures
+    eight-value (part s i (i + 8)) _ (part-eight s i start.requires.0) start.requires.1 c.eight_at-digits.ensures
 
-pub value-at-spec : {M : Type 1} → statement M
-value-at-spec =
+pub value_at_spec : {M : Type 1} → statement M
+value_at_spec =
     tie.close
     (tie.spec
     (search rules)

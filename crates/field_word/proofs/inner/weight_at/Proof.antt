@@ -6,12 +6,12 @@ use Rattle.field_word.proofs.inner.weight_at.Tie as tie
 
 returns : tie.Need-returns
 returns c =
-    let eight = c.before in
-    let start = eight.before.before in
+    let eight = c in
+    let start = eight in
     record {
-      is = c.turned.ensures _ (part-eight start.args.s.now start.args.i start.requires) eight.eight-at.ensures;
-      small = eight.eight-at.ensures.small;
+      is = c.turned.ensures _ (part-eight start.args.s.now start.args.i start.requires) eight.eight_at.ensures;
+      small = eight.eight_at.ensures.small;
     }
 
-pub weight-at-spec : {M : Type 1} → statement M
-weight-at-spec = tie.close (tie.spec (search rules) (search rules) returns)
+pub weight_at_spec : {M : Type 1} → statement M
+weight_at_spec = tie.close (tie.spec (search rules) (search rules) returns)

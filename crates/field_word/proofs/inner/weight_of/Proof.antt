@@ -6,10 +6,10 @@ use Rattle.field_word.proofs.inner.weight_of.Tie as tie
 
 returns : tie.Need-returns
 returns c =
-    let high = c.before in
-    let start = high.before in
-    rw (high.four-digits.ensures.0, c.four-digits2.ensures.0) (eight-weigh start.args.v start.requires)
+    let high = c in
+    let start = high in
+    rw (high.four_digits.ensures.0, c.four_digits-2.ensures.0) (eight-weigh start.args.v start.requires)
 
-pub weight-of-spec : {M : Type 1} → statement M
-weight-of-spec =
+pub weight_of_spec : {M : Type 1} → statement M
+weight_of_spec =
     tie.close (tie.spec (search rules) (search rules) (search rules) (search rules) returns)

@@ -7,12 +7,12 @@ use Rattle.file.proofs.follow.needed_next.Tie as tie
 returns : tie.Need-returns
 unfolding needed
 returns c =
-    let z = c.before in
-    let p = z.before in
-    let u = p.before in
-    let t = u.before in
-    rw (c.needed-by.ensures, z.says-zero.ensures, p.part_of.ensures, u.byte-of2.ensures, t.byte_of.ensures)
+    let z = c in
+    let p = z in
+    let u = p in
+    let t = u in
+    rw (c.needed_by.ensures, z.says_zero.ensures, p.part_of-key.ensures, u.byte_of-large.ensures, t.byte_of-view.ensures)
 
-pub needed-next-spec : {M : Type 1} → statement M
-needed-next-spec =
+pub needed_next_spec : {M : Type 1} → statement M
+needed_next_spec =
     tie.close (tie.spec (search rules) (search rules) (search rules) (search rules) (search rules) returns)

@@ -6,19 +6,19 @@ use Rattle.file_compare.proofs.Words.{eight-decides}
 use Rattle.file_compare.proofs.above.is_above_behind.Statement.{statement}
 use Rattle.file_compare.proofs.above.is_above_behind.Tie as tie
 
-returns : tie.Need-returns
+returns : tie.Need-returns-then-x-y
 returns c =
-    let y = c.before in
-    let x = y.before in
-    let start = x.before.before.before.before.before in
+    let y = c in
+    let x = y in
+    let start = x in
     eight-decides start.args.a.now start.args.b.now start.args.i (search rules) (search rules) _ _
-    x.weight-at.ensures y.weight-at2.ensures start.requires.decided c.if2.true
+    x.weight_at-x.ensures y.weight_at-y.ensures start.requires.decided c.if-x-y.true
 
-returns-2 : tie.Need-returns-2
-returns-2 c = ap (λ n. eqb n 2) c.order-of.ensures
+returns-2 : tie.Need-returns
+returns-2 c = ap (λ n. eqb n 2) c.order_of.ensures
 
-pub is-above-behind-spec : {M : Type 1} → statement M
-is-above-behind-spec =
+pub is_above_behind_spec : {M : Type 1} → statement M
+is_above_behind_spec =
     tie.close
     (tie.spec
     (search rules)

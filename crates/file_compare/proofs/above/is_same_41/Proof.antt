@@ -12,31 +12,31 @@ use Rattle.file_compare.proofs.above.is_same_41.Tie as tie
 
 returns : tie.Need-returns
 returns c =
-    let fifth = c.before.before in
-    let fourth = fifth.before in
-    let third = fourth.before in
-    let second = third.before in
-    let first = second.before in
-    let start = first.before.before.before in
+    let fifth = c in
+    let fourth = fifth in
+    let third = fourth in
+    let second = third in
+    let first = second in
+    let start = first in
     let a = start.args.a.now in
     let b = start.args.b.now in
-    let front = first.eight-same.result && second.eight-same2.result in
-    let middle = third.eight-same3.result && fourth.eight-same4.result in
+    let front = first.eight_same.result && second.eight_same-2.result in
+    let middle = third.eight_same-3.result && fourth.eight_same-4.result in
     let last = eqb (get_or a 40 0) (get_or b 40 0) in
-    let back = fifth.eight-same5.result && last in
+    let back = fifth.eight_same-5.result && last in
     λ e.
     let f = and_left front (middle && back) e in
     let m = and_left middle back (and_right front (middle && back) e) in
     let l = and_right middle back (and_right front (middle && back) e) in
     same-to-the-end a b start.requires.0 start.requires.1
-    (first.eight-same.ensures (and_left _ _ f)
-    ∙ (second.eight-same2.ensures (and_right first.eight-same.result _ f)
-    ∙ (third.eight-same3.ensures (and_left _ _ m)
-    ∙ (fourth.eight-same4.ensures (and_right third.eight-same3.result _ m) ∙ fifth.eight-same5.ensures (and_left _ _ l)))))
-    (eqb-true _ _ (and_right fifth.eight-same5.result last l))
+    (first.eight_same.ensures (and_left _ _ f)
+    ∙ (second.eight_same-2.ensures (and_right first.eight_same.result _ f)
+    ∙ (third.eight_same-3.ensures (and_left _ _ m)
+    ∙ (fourth.eight_same-4.ensures (and_right third.eight_same-3.result _ m) ∙ fifth.eight_same-5.ensures (and_left _ _ l)))))
+    (eqb-true _ _ (and_right fifth.eight_same-5.result last l))
 
-pub is-same-41-spec : {M : Type 1} → statement M
-is-same-41-spec =
+pub is_same_41_spec : {M : Type 1} → statement M
+is_same_41_spec =
     tie.close
     (tie.spec
     (search rules)

@@ -9,14 +9,14 @@ placed-requires : tie.Need-placed-requires
 placed-requires c κs =
     let p = c.before in
     let s = p.before.before in
-    rw (c.digits-fault.ensures, p.part_of.ensures)
+    rw (c.digits_fault.ensures, p.part_of.ensures)
     (in-record s.args.rec.now s.args.start s.args.end s.requires.0 s.requires.1 _ (digits-bound _))
 
 returns : tie.Need-returns
 returns c =
-    let f = c.before in
-    rw (c.placed.ensures, f.digits-fault.ensures, f.before.part_of.ensures)
+    let f = c in
+    rw (c.placed.ensures, f.digits_fault.ensures, f.part_of.ensures)
 
-pub digits-at-spec : {M : Type 1} → statement M
-digits-at-spec =
+pub digits_at_spec : {M : Type 1} → statement M
+digits_at_spec =
     tie.close (tie.spec (λ c κs. search rules) (λ c κs. search rules) placed-requires returns)

@@ -10,14 +10,14 @@ placed-requires : tie.Need-placed-requires
 placed-requires c κs =
     let p = c.before in
     let s = p.before.before in
-    rw (c.filled-fault.ensures, p.part_of.ensures)
+    rw (c.filled_fault.ensures, p.part_of.ensures)
     (in-record s.args.rec.now s.args.start s.args.end s.requires.0 s.requires.1 _ (filled-bound _))
 
 returns : tie.Need-returns
 returns c =
-    let f = c.before in
-    rw (c.placed.ensures, f.filled-fault.ensures, f.before.part_of.ensures)
+    let f = c in
+    rw (c.placed.ensures, f.filled_fault.ensures, f.part_of.ensures)
 
-pub filled-at-spec : {M : Type 1} → statement M
-filled-at-spec =
+pub filled_at_spec : {M : Type 1} → statement M
+filled_at_spec =
     tie.close (tie.spec (λ c κs. search rules) (λ c κs. search rules) placed-requires returns)

@@ -8,5 +8,5 @@ use Rattle.file_fault.proofs.at.is_postcode_type.Tie as tie
 returns : tie.Need-returns
 returns c = rw (or-false (eqb c.args.b 76))
 
-pub is-postcode-type-spec : {M : Type 1} → statement M
-is-postcode-type-spec = tie.close (tie.spec returns)
+pub is_postcode_type_spec : {M : Type 1} → statement M
+is_postcode_type_spec = tie.close (tie.spec returns)

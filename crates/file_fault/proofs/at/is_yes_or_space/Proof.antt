@@ -8,5 +8,5 @@ use Rattle.file_fault.proofs.at.is_yes_or_space.Tie as tie
 returns : tie.Need-returns
 returns c = rw (or-false (eqb c.args.b 32))
 
-pub is-yes-or-space-spec : {M : Type 1} → statement M
-is-yes-or-space-spec = tie.close (tie.spec returns)
+pub is_yes_or_space_spec : {M : Type 1} → statement M
+is_yes_or_space_spec = tie.close (tie.spec returns)

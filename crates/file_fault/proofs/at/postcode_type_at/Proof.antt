@@ -8,11 +8,11 @@ use Rattle.file_fault.proofs.at.postcode_type_at.Tie as tie
 
 returns : tie.Need-returns
 returns c =
-    let t = c.before in
-    let b = t.before in
-    let a = b.before.before.args in
-    rw (c.byte-fault.ensures, t.is-postcode-type.ensures, b.byte_of.ensures, one_byte (83 ∷ 76 ∷ []) a.rec.now a.at)
+    let t = c in
+    let b = t in
+    let a = b.args in
+    rw (c.byte_fault.ensures, t.is_postcode_type.ensures, b.byte_of.ensures, one_byte (83 ∷ 76 ∷ []) a.rec.now a.at)
 
-pub postcode-type-at-spec : {M : Type 1} → statement M
-postcode-type-at-spec =
+pub postcode_type_at_spec : {M : Type 1} → statement M
+postcode_type_at_spec =
     tie.close (tie.spec (λ c κs. search rules) (λ c κs. search rules) (λ c κs. search rules) returns)

@@ -8,11 +8,11 @@ use Rattle.file_fault.proofs.at.yes_at.Tie as tie
 
 returns : tie.Need-returns
 returns c =
-    let t = c.before in
-    let b = t.before in
-    let a = b.before.before.args in
-    rw (c.byte-fault.ensures, t.is-yes-or-space.ensures, b.byte_of.ensures, one_byte (89 ∷ 32 ∷ []) a.rec.now a.at)
+    let t = c in
+    let b = t in
+    let a = b.args in
+    rw (c.byte_fault.ensures, t.is_yes_or_space.ensures, b.byte_of.ensures, one_byte (89 ∷ 32 ∷ []) a.rec.now a.at)
 
-pub yes-at-spec : {M : Type 1} → statement M
-yes-at-spec =
+pub yes_at_spec : {M : Type 1} → statement M
+yes_at_spec =
     tie.close (tie.spec (λ c κs. search rules) (λ c κs. search rules) (λ c κs. search rules) returns)

@@ -8,15 +8,15 @@ use Rattle.file_fault.proofs.fine.are_names.Tie as tie
 
 returns : tie.Need-returns
 returns c =
-    let other = c.before in
-    let most = other.before in
-    let part = most.before in
+    let other = c in
+    let most = other in
+    let part = most in
     λ e.
-    let front = most.are-text.result in
-    let back = c.are-text2.result in
-    names-text part.before.before.args.rec.now part.before.before.args.name
-    (rw part.part_of.ensures at (sym most.are-text.ensures ∙ and_left front back e))
-    (rw other.part-of2.ensures at (sym c.are-text2.ensures ∙ and_right front back e))
+    let front = most.are_text-most.result in
+    let back = c.are_text-rest.result in
+    names-text part.args.rec.now part.args.name
+    (rw part.part_of.ensures at (sym most.are_text-most.ensures ∙ and_left front back e))
+    (rw other.part_of-2.ensures at (sym c.are_text-rest.ensures ∙ and_right front back e))
 
-pub are-names-spec : {M : Type 1} → statement M
-are-names-spec = tie.close (tie.spec (search rules) (search rules) (search rules) (search rules) (search rules) (search rules) (search rules) returns)
+pub are_names_spec : {M : Type 1} → statement M
+are_names_spec = tie.close (tie.spec (search rules) (search rules) (search rules) (search rules) (search rules) (search rules) (search rules) returns)

@@ -8,15 +8,15 @@ use Rattle.file_fault.proofs.fine.are_places.Tie as tie
 
 returns : tie.Need-returns
 returns c =
-    let q = c.before in
-    let m = q.before in
-    let p = m.before in
+    let q = c in
+    let m = q in
+    let p = m in
     λ e.
-    let most = m.are-text.result in
-    let rest = c.are-text2.result in
-    three-texts p.before.before.args.rec.now p.before.before.args.town
-    (rw p.part_of.ensures at (sym m.are-text.ensures ∙ and_left most rest e))
-    (rw q.part-of2.ensures at (sym c.are-text2.ensures ∙ and_right most rest e))
+    let most = m.are_text-most.result in
+    let rest = c.are_text-rest.result in
+    three-texts p.args.rec.now p.args.town
+    (rw p.part_of.ensures at (sym m.are_text-most.ensures ∙ and_left most rest e))
+    (rw q.part_of-2.ensures at (sym c.are_text-rest.ensures ∙ and_right most rest e))
 
-pub are-places-spec : {M : Type 1} → statement M
-are-places-spec = tie.close (tie.spec (search rules) (search rules) (search rules) (search rules) (search rules) (search rules) (search rules) returns)
+pub are_places_spec : {M : Type 1} → statement M
+are_places_spec = tie.close (tie.spec (search rules) (search rules) (search rules) (search rules) (search rules) (search rules) (search rules) returns)

@@ -11,30 +11,30 @@ use Rattle.file_fault.proofs.fine.is_blank_28.Tie as tie
 
 returns : tie.Need-returns
 returns c =
-    let third = c.before in
-    let second = third.before in
-    let first = second.before in
-    let start = first.before.before in
+    let third = c in
+    let second = third in
+    let first = second in
+    let start = first in
     let rec = start.args.rec.now in
     let s = start.args.start in
-    let b = first.eight-blank.result in
-    let d = second.eight-blank2.result in
-    let f = third.eight-blank3.result in
-    let g = c.four-blank.result in
+    let b = first.eight_blank.result in
+    let d = second.eight_blank-2.result in
+    let f = third.eight_blank-3.result in
+    let g = c.four_blank.result in
     let end : s + 24 + 4 ≡ s + 28 = omega arith in
     λ e.
     let front = and_left (b && d) (f && g) e in
     let back = and_right (b && d) (f && g) e in
     blank-on rec s (s + 8) (s + 28) (s + 8) refl (omega arith) (omega arith)
-    (sym first.eight-blank.ensures ∙ and_left b d front)
+    (sym first.eight_blank.ensures ∙ and_left b d front)
     (blank-on rec (s + 8) (s + 16) (s + 28) (s + 8 + 8) (omega arith) (omega arith) (omega arith)
-    (sym second.eight-blank2.ensures ∙ and_right b d front)
+    (sym second.eight_blank-2.ensures ∙ and_right b d front)
     (blank-on rec (s + 16) (s + 24) (s + 28) (s + 16 + 8) (omega arith) (omega arith) (omega arith)
-    (sym third.eight-blank3.ensures ∙ and_left f g back)
-    (rw end at (sym c.four-blank.ensures ∙ and_right f g back))))
+    (sym third.eight_blank-3.ensures ∙ and_left f g back)
+    (rw end at (sym c.four_blank.ensures ∙ and_right f g back))))
 
-pub is-blank-28-spec : {M : Type 1} → statement M
-is-blank-28-spec =
+pub is_blank_28_spec : {M : Type 1} → statement M
+is_blank_28_spec =
     tie.close
     (tie.spec
     (search rules)

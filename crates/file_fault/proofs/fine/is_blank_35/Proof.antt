@@ -11,19 +11,19 @@ use Rattle.file_fault.proofs.fine.is_blank_35.Tie as tie
 
 returns : tie.Need-returns
 returns c =
-    let q = c.before in
-    let m = q.before in
-    let p = m.before in
-    let a = p.before.before.args in
+    let q = c in
+    let m = q in
+    let p = m in
+    let a = p.args in
     λ e.
-    let most = m.all_are.result in
-    let rest = c.all-are2.result in
+    let most = m.all_are-most.result in
+    let rest = c.all_are-rest.result in
     overlap a.rec.now (λ x. eqb x 32) a.start (a.start + 19) (a.start + 32) (a.start + 35)
     (omega arith)
     (omega arith)
     (omega arith)
-    (rw p.part_of.ensures at (sym m.all_are.ensures ∙ and_left most rest e))
-    (rw q.part-of2.ensures at (sym c.all-are2.ensures ∙ and_right most rest e))
+    (rw p.part_of.ensures at (sym m.all_are-most.ensures ∙ and_left most rest e))
+    (rw q.part_of-2.ensures at (sym c.all_are-rest.ensures ∙ and_right most rest e))
 
-pub is-blank-35-spec : {M : Type 1} → statement M
-is-blank-35-spec = tie.close (tie.spec (search rules) (search rules) (search rules) (search rules) (search rules) (search rules) (search rules) returns)
+pub is_blank_35_spec : {M : Type 1} → statement M
+is_blank_35_spec = tie.close (tie.spec (search rules) (search rules) (search rules) (search rules) (search rules) (search rules) (search rules) returns)

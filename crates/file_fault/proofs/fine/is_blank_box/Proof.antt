@@ -8,13 +8,13 @@ use Rattle.file_fault.proofs.fine.is_blank_box.Tie as tie
 
 returns : tie.Need-returns
 returns c =
-    let first = c.before in
-    let start = first.before.before in
+    let first = c in
+    let start = first in
     λ e.
     box-blank start.args.rec.now start.args.start
-    (sym first.four-blank.ensures ∙ and_left first.four-blank.result c.four-blank2.result e)
-    (sym c.four-blank2.ensures ∙ and_right first.four-blank.result c.four-blank2.result e)
+    (sym first.four_blank.ensures ∙ and_left first.four_blank.result c.four_blank-2.result e)
+    (sym c.four_blank-2.ensures ∙ and_right first.four_blank.result c.four_blank-2.result e)
 
-pub is-blank-box-spec : {M : Type 1} → statement M
-is-blank-box-spec =
+pub is_blank_box_spec : {M : Type 1} → statement M
+is_blank_box_spec =
     tie.close (tie.spec (search rules) (search rules) (search rules) returns)

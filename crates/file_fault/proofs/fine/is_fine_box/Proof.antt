@@ -10,23 +10,23 @@ use mathlib.Core.Bool.{false≢true}
 use Rattle.file_fault.proofs.fine.is_fine_box.Statement.{statement}
 use Rattle.file_fault.proofs.fine.is_fine_box.Tie as tie
 
-returns : tie.Need-returns
+returns : tie.Need-returns-then-not-are_text
 returns c = λ e. absurd (false≢true e)
 
-returns-2 : tie.Need-returns-2
+returns-2 : tie.Need-returns
 returns-2 c =
-    let begins = c.before in
-    let part = begins.before in
-    let left = part.before in
-    let texts = left.before in
-    let all = texts.before in
-    let at-start = all.before.before in
+    let begins = c in
+    let part = begins in
+    let left = part in
+    let texts = left in
+    let all = texts in
+    let at-start = all in
     let a = at-start.args in
     λ e.
-    begun-or-known begins.starts-blank.result c.is-blank-box.result _
-    (rw part.part-of2.ensures at (sym begins.starts-blank.ensures)) c.is-blank-box.ensures e
+    begun-or-known begins.starts_blank-begins.result c.is_blank_box.result _
+    (rw part.part_of-2.ensures at (sym begins.starts_blank-begins.ensures)) c.is_blank_box.ensures e
     (inside a.rec.now text_byte a.from a.start (a.start + 6) (a.from + 16) at-start.requires.0 (omega arith) at-start.requires.1
-    (rw all.part_of.ensures at (sym texts.are-text.ensures ∙ not-false _ left.if1.false)))
+    (rw all.part_of.ensures at (sym texts.are_text.ensures ∙ left.if-not-are_text.false)))
 
-pub is-fine-box-spec : {M : Type 1} → statement M
-is-fine-box-spec = tie.close (tie.spec (search rules) (search rules) (search rules) returns (search rules) (search rules) (search rules) (search rules) returns-2)
+pub is_fine_box_spec : {M : Type 1} → statement M
+is_fine_box_spec = tie.close (tie.spec (search rules) (search rules) (search rules) returns (search rules) (search rules) (search rules) (search rules) returns-2)

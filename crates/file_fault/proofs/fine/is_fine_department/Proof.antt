@@ -7,11 +7,11 @@ use Rattle.file_fault.proofs.fine.is_fine_department.Tie as tie
 
 returns : tie.Need-returns
 returns c =
-    let begins = c.before in
-    let part = begins.before in
+    let begins = c in
+    let part = begins in
     λ e texts.
-    begun-or-known begins.starts-blank.result c.is-blank-60.result _
-    (rw part.part_of.ensures at (sym begins.starts-blank.ensures)) c.is-blank-60.ensures e texts
+    begun-or-known begins.starts_blank-begins.result c.is_blank_60.result _
+    (rw part.part_of.ensures at (sym begins.starts_blank-begins.ensures)) c.is_blank_60.ensures e texts
 
-pub is-fine-department-spec : {M : Type 1} → statement M
-is-fine-department-spec = tie.close (tie.spec (search rules) (search rules) (search rules) (search rules) returns)
+pub is_fine_department_spec : {M : Type 1} → statement M
+is_fine_department_spec = tie.close (tie.spec (search rules) (search rules) (search rules) (search rules) returns)

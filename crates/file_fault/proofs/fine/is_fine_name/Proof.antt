@@ -8,21 +8,21 @@ use mathlib.Core.Path.{sym, ◌∙◌}
 use Rattle.file_fault.proofs.fine.is_fine_name.Statement.{statement}
 use Rattle.file_fault.proofs.fine.is_fine_name.Tie as tie
 
-returns : tie.Need-returns
+returns : tie.Need-returns-then-not-starts_blank
 returns c =
-    let begins = c.before in
-    let part = begins.before in
+    let begins = c in
+    let part = begins in
     λ e texts.
-    begun-name part.before.before.args.small _
-    (rw part.part_of.ensures at (sym begins.starts-blank.ensures ∙ not-true _ c.if1.true)) texts
+    begun-name part.args.small _
+    (rw part.part_of.ensures at (sym begins.starts_blank.ensures ∙ c.if-not-starts_blank.true)) texts
 
-returns-2 : tie.Need-returns-2
+returns-2 : tie.Need-returns-then-small
 returns-2 c = λ e. absurd (false≢true e)
 
-returns-3 : tie.Need-returns-3
+returns-3 : tie.Need-returns
 returns-3 c =
-    let large = c.before in
-    λ e texts. rw large.if2.false (blank-text _ (c.is-blank-60.ensures e))
+    let large = c in
+    λ e texts. rw large.if-small.false (blank-text _ (c.is_blank_60.ensures e))
 
-pub is-fine-name-spec : {M : Type 1} → statement M
-is-fine-name-spec = tie.close (tie.spec (search rules) (search rules) (search rules) returns returns-2 (search rules) returns-3)
+pub is_fine_name_spec : {M : Type 1} → statement M
+is_fine_name_spec = tie.close (tie.spec (search rules) (search rules) (search rules) returns returns-2 (search rules) returns-3)

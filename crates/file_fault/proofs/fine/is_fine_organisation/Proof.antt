@@ -8,25 +8,25 @@ use native.Mathlib.Omega.{arith}
 use Rattle.file_fault.proofs.fine.is_fine_organisation.Statement.{statement}
 use Rattle.file_fault.proofs.fine.is_fine_organisation.Tie as tie
 
-returns : tie.Need-returns
+returns : tie.Need-returns-then-not-are_names
 returns c = λ e. absurd (false≢true e)
 
-returns-2 : tie.Need-returns-2
+returns-2 : tie.Need-returns-then-not-is_fine_name
 returns-2 c = λ e. absurd (false≢true e)
 
-returns-3 : tie.Need-returns-3
+returns-3 : tie.Need-returns
 returns-3 c =
-    let named = c.before in
-    let name = named.before in
-    let written = name.before in
-    let texts = written.before in
-    let a = texts.before.before.args in
+    let named = c in
+    let name = named in
+    let written = name in
+    let texts = written in
+    let a = texts.args in
     let end : a.name + 60 + 60 ≡ a.name + 120 = omega arith in
     λ e.
-    let each = texts.are-names.ensures (not-false _ written.if1.false) in
-    (name.is-fine-name.ensures (not-false _ named.if2.false) each.0, rw end at (c.is-fine-department.ensures e) each.1)
+    let each = texts.are_names.ensures (written.if-not-are_names.false) in
+    (name.is_fine_name.ensures (named.if-not-is_fine_name.false) each.0, rw end at (c.is_fine_department.ensures e) each.1)
 
-pub is-fine-organisation-spec : {M : Type 1} → statement M
-is-fine-organisation-spec =
+pub is_fine_organisation_spec : {M : Type 1} → statement M
+is_fine_organisation_spec =
     tie.close
     (tie.spec (search rules) returns (search rules) returns-2 (search rules) (search rules) returns-3)

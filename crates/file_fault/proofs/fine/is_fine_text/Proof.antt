@@ -13,24 +13,24 @@ use Rattle.file_fault.proofs.fine.is_fine_text.Tie as tie
 
 returns : tie.Need-returns
 returns c =
-    let r = c.before in
-    let b = r.before in
-    let q = b.before in
-    let f = q.before in
-    let p = f.before in
-    let a = p.before.before.args in
+    let r = c in
+    let b = r in
+    let q = b in
+    let f = q in
+    let p = f in
+    let a = p.args in
     λ e.
-    let each = three f.are-text.result b.are-text2.result (not c.starts-blank.result) e in
-    begun-filled _ (rw r.part-of3.ensures at (sym c.starts-blank.ensures ∙ not-true _ each.2))
+    let each = three f.are_text-front.result b.are_text-back.result (not c.starts_blank-begins.result) e in
+    begun-filled _ (rw r.part_of-3.ensures at (sym c.starts_blank-begins.ensures ∙ not-true _ each.2))
     (overlap a.rec.now text_byte a.start (a.end - 16) a.most a.end
     (omega arith)
     (omega arith)
     (omega arith)
-    (rw p.part_of.ensures at (sym f.are-text.ensures ∙ each.0))
-    (rw q.part-of2.ensures at (sym b.are-text2.ensures ∙ each.1)))
+    (rw p.part_of.ensures at (sym f.are_text-front.ensures ∙ each.0))
+    (rw q.part_of-2.ensures at (sym b.are_text-back.ensures ∙ each.1)))
 
-pub is-fine-text-spec : {M : Type 1} → statement M
-is-fine-text-spec =
+pub is_fine_text_spec : {M : Type 1} → statement M
+is_fine_text_spec =
     tie.close
     (tie.spec
     (λ c κs. search rules)

@@ -4,7 +4,7 @@ use Rattle.file_formats.proofs.inner.is_above.Statement.{statement}
 use Rattle.file_formats.proofs.inner.is_above.Tie as tie
 
 returns : tie.Need-returns
-returns c = rw c.is-higher.ensures
+returns c = rw c.is_higher-higher.ensures
 
-pub is-above-spec : {M : Type 1} → statement M
-is-above-spec = tie.close (tie.spec (λ c κs. search rules) returns)
+pub is_above_spec : {M : Type 1} → statement M
+is_above_spec = tie.close (tie.spec (λ c κs. search rules) returns)

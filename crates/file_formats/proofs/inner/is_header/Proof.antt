@@ -3,14 +3,14 @@ use borrow.Author.Rules.{rules}
 use Rattle.file_formats.proofs.inner.is_header.Statement.{statement}
 use Rattle.file_formats.proofs.inner.is_header.Tie as tie
 
-returns : tie.Need-returns
-returns c = rw c.before.before.enum_told.given.1 c.header_ok.ensures
+returns : tie.Need-returns-in-Table
+returns c = rw c.in-Table.is c.header_ok.ensures
 
-returns-2 : tie.Need-returns-2
-returns-2 c = rw c.before.before.enum-told2.given.1 c.header-ok2.ensures
+returns-2 : tie.Need-returns-in-Points
+returns-2 c = rw c.in-Points.is c.header_ok-in-Points.ensures
 
-returns-3 : tie.Need-returns-3
-returns-3 c = rw c.before.before.kind.given.1 c.is-header.ensures
+returns-3 : tie.Need-returns-in-Main
+returns-3 c = rw c.in-Main.is c.is_header.ensures
 
-pub is-header-spec : {M : Type 1} → statement M
-is-header-spec = tie.close (tie.spec (search rules) (search rules) (search rules) (search rules) (search rules) (search rules) (search rules) (search rules) returns returns-2 returns-3)
+pub is_header_spec : {M : Type 1} → statement M
+is_header_spec = tie.close (tie.spec (search rules) (search rules) (search rules) (search rules) (search rules) (search rules) (search rules) (search rules) returns returns-2 returns-3)

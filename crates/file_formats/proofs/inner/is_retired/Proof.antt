@@ -5,17 +5,17 @@ use Rattle.file.proofs.Laws.{main-current}
 use Rattle.file_formats.proofs.inner.is_retired.Statement.{statement}
 use Rattle.file_formats.proofs.inner.is_retired.Tie as tie
 
-returns : tie.Need-returns
-returns c = rw c.before.enum_told.given.1 c.is-retired.ensures
+returns : tie.Need-returns-in-Table
+returns c = rw c.in-Table.is c.is_retired.ensures
 
-returns-2 : tie.Need-returns-2
-returns-2 c = rw c.before.enum-told2.given.1 c.is-retired2.ensures
+returns-2 : tie.Need-returns-in-Points
+returns-2 c = rw c.in-Points.is c.is_retired-in-Points.ensures
 
-returns-3 : tie.Need-returns-3
-returns-3 c = rw c.before.kind.given.1 (sym (main-current c.before.kind.given.0.0 c.before.before.before.before.args.rec.now))
+returns-3 : tie.Need-returns-in-Main
+returns-3 c = rw c.in-Main.is (sym (main-current c.in-Main.main c.args.rec.now))
 
-pub is-retired-spec : {M : Type 1} → statement M
-is-retired-spec =
+pub is_retired_spec : {M : Type 1} → statement M
+is_retired_spec =
     tie.close
     (tie.spec
     (search rules)

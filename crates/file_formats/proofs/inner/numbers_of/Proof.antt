@@ -5,14 +5,14 @@ use Rattle.file.proofs.Laws.{main-limit}
 use Rattle.file_formats.proofs.inner.numbers_of.Statement.{statement}
 use Rattle.file_formats.proofs.inner.numbers_of.Tie as tie
 
-returns-3 : tie.Need-returns-3
+returns-3 : tie.Need-returns-in-Main
 returns-3 c =
-    let file = c.before in
-    let main = file.before.before in
-    rw main.kind.given.1 (file.file-of.ensures, (c.width_of_lem.ensures, sym (main-limit main.kind.given.0.0)))
+    let file = c in
+    let main = file in
+    rw main.in-Main.is (file.file_of.ensures, (c.width_of.ensures, sym (main-limit main.in-Main.main)))
 
-pub numbers-of-spec : {M : Type 1} → statement M
-numbers-of-spec =
+pub numbers_of_spec : {M : Type 1} → statement M
+numbers_of_spec =
     tie.close
     (tie.spec
     (search rules)

@@ -4,11 +4,11 @@ use Rattle.file.proofs.Laws.{width_some}
 use Rattle.file_formats.proofs.inner.records_in.Statement.{statement}
 use Rattle.file_formats.proofs.inner.records_in.Tie as tie
 
-div-result : tie.Need-nonzero-div-result
-div-result c = rw c.Numbers-of.ensures.1.0 (width_some c.before.before.args.kind)
+div-result : tie.Need-nonzero_div-result
+div-result c = rw c.Numbers-of.ensures.1.0 (width_some c.args.kind)
 
 returns : tie.Need-returns
 returns c = rw c.Numbers-of.ensures.1.0
 
-pub records-in-spec : {M : Type 1} → statement M
-records-in-spec = tie.close (tie.spec (λ c κs. search rules) div-result returns)
+pub records_in_spec : {M : Type 1} → statement M
+records_in_spec = tie.close (tie.spec (λ c κs. search rules) div-result returns)

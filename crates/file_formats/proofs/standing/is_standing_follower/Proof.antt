@@ -18,11 +18,11 @@ use Rattle.file_formats.proofs.Places.{owned, above-owner, owner-placed, followe
 use Rattle.file_formats.proofs.standing.is_standing_follower.Statement.{statement}
 use Rattle.file_formats.proofs.standing.is_standing_follower.Tie as tie
 
-returns : tie.Need-returns
+returns : tie.Need-returns-then-i-needed_next
 returns c = λ e. absurd (false≢true e)
 
 -- the record before needs one behind it, stands as it must, and so this is the one
-module _ (here : tie.After-whole-record2) where
+module _ (here : tie.After-whole_record) where
   abbrev start : tie.Start
   start = here.before.before.before.before.before
 
@@ -35,13 +35,13 @@ module _ (here : tie.After-whole-record2) where
   abbrev owner : List ℕ
   owner = at point_format file (i - 1)
 
-  neither-was : (eqb i 1 ≡ false) × (eqb here.before.before.needed-next.result 0 ≡ false)
-  neither-was = neither (eqb i 1) (eqb here.before.before.needed-next.result 0) here.before.if1.left
+  neither-was : (eqb i 1 ≡ false) × (eqb here.needed_next.result 0 ≡ false)
+  neither-was = neither (eqb i 1) (eqb here.needed_next.result 0) here.if-i-needed_next.left
 
   needing : needed owner ≡ 0 → ⊥
   needing =
-      let need = here.before.before in
-      rw (need.needed-next.ensures, need.before.whole-record.ensures) at (eqb-false need.needed-next.result 0 neither-was.1)
+      let need = here in
+      rw (need.needed_next.ensures, need.whole_record-before.ensures) at (eqb-false need.needed_next.result 0 neither-was.1)
 
   was : FineRecord point_format file (i - 1)
   was = judged-record point_format file (i - 1) (start.pre.0.last_fine (eqb-false i 1 neither-was.0))
@@ -49,25 +49,25 @@ module _ (here : tie.After-whole-record2) where
   follower : follows owner (at point_format file i) ≡ true
   follower = owner-placed file i start.pre.0.low was.in_place needing
 
-is-fine-follower-requires : tie.Need-is-fine-follower-requires
+is-fine-follower-requires : tie.Need-is_fine_follower-requires
 is-fine-follower-requires here κs =
-    rw (here.before.before.before.whole-record.ensures, here.whole-record2.ensures)
+    rw (here.whole_record-before.ensures, here.whole_record.ensures)
     (owned (owner here) (at point_format (file here) (i here)) (needing here) (follower here) (was here).well-formed-2)
 
-returns-2 : tie.Need-returns-2
+returns-2 : tie.Need-returns
 returns-2 c =
     let here = c.before in
     let rec = at point_format (file here) (i here) in
     let high = (start here).requires.0.high in
     λ e.
-    judged-fine point_format (file here) (i here) (rw here.whole-record2.ensures at (c.is-fine-follower.ensures e))
+    judged-fine point_format (file here) (i here) (rw here.whole_record.ensures at (c.is_fine_follower.ensures e))
     (risen (eqb (i here) 1) _
     (above-owner (owner here) rec (needing here) (follower here) (record-length 168 (file here) (i here - 1) (omega (arith, high)))
     (record-length 168 (file here) (i here) (omega (arith, high)))))
     (follower-placed (owner here) rec (at point_format (file here) (i here + 1)) (start here).requires.1 (follower here))
 
-pub is-standing-follower-spec : {M : Type 1} → statement M
-is-standing-follower-spec =
+pub is_standing_follower_spec : {M : Type 1} → statement M
+is_standing_follower_spec =
     tie.close
     (tie.spec
     (search rules)

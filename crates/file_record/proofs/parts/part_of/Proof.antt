@@ -8,24 +8,24 @@ use Rattle.field.proofs.Texts.{part-within, part_none}
 use Rattle.file_record.proofs.parts.part_of.Statement.{statement}
 use Rattle.file_record.proofs.parts.part_of.Tie as tie
 
-part-result-end : tie.Need-slice-bounds-result-end
+part-result-end : tie.Need-slice_bounds-result-end
 part-result-end c =
-    let a = c.before.before.before.args in
-    rw c.before.lesser.ensures (min-le_right a.end (length a.rec.now))
+    let a = c.args in
+    rw c.lesser-e.ensures (min-le_right a.end (length a.rec.now))
 
-returns : tie.Need-returns
+returns : tie.Need-returns-then-start-e
 returns c =
-    let l = c.before.before in
-    let a = l.before.before.args in
-    rw l.lesser.ensures (part-within a.rec.now a.start a.end)
+    let l = c in
+    let a = l.args in
+    rw l.lesser-e.ensures (part-within a.rec.now a.start a.end)
 
-returns-2 : tie.Need-returns-2
+returns-2 : tie.Need-returns-else-start-e
 returns-2 c =
-    let l = c.before.before in
-    let a = l.before.before.args in
-    sym (part_none a.rec.now a.start l.lesser.result c.before.if1.false)
-    ∙ rw l.lesser.ensures (part-within a.rec.now a.start a.end)
+    let l = c in
+    let a = l.args in
+    sym (part_none a.rec.now a.start l.lesser-e.result c.if-start-e.false)
+    ∙ rw l.lesser-e.ensures (part-within a.rec.now a.start a.end)
 
-pub part-of-spec : {M : Type 1} → statement M
-part-of-spec =
+pub part_of_spec : {M : Type 1} → statement M
+part_of_spec =
     tie.close (tie.spec (search rules) (search rules) (search rules) part-result-end (search rules) returns returns-2)

@@ -5,12 +5,12 @@ use Rattle.file_record.specs.Parts.{record_at}
 use Rattle.file_record.proofs.parts.point_record.Statement.{statement}
 use Rattle.file_record.proofs.parts.point_record.Tie as tie
 
-returns : tie.Need-returns
-returns c = c.whole-record.ensures
+returns : tie.Need-returns-then-i-file
+returns c = c.whole_record.ensures
 
-returns-2 : tie.Need-returns-2
+returns-2 : tie.Need-returns-else-i-file
 unfolding record_at
-returns-2 c = simp (le-ltb _ _ c.before.if1.false)
+returns-2 c = simp (le-ltb _ _ c.if-i-file.false)
 
-pub point-record-spec : {M : Type 1} → statement M
-point-record-spec = tie.close (tie.spec (search rules) (search rules) returns returns-2)
+pub point_record_spec : {M : Type 1} → statement M
+point_record_spec = tie.close (tie.spec (search rules) (search rules) returns returns-2)

@@ -7,8 +7,8 @@ use Rattle.file_record.proofs.parts.whole_record.Tie as tie
 
 returns : tie.Need-returns
 unfolding record_at
-returns c = simp (lt-ltb _ _ c.before.requires.0)
+returns c = simp (lt-ltb _ _ c.requires.0)
 
-pub whole-record-spec : {M : Type 1} → statement M
-whole-record-spec =
+pub whole_record_spec : {M : Type 1} → statement M
+whole_record_spec =
     tie.close (tie.spec (search rules) (search rules) (search rules) (search rules) (search rules) returns)

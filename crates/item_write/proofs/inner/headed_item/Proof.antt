@@ -6,35 +6,35 @@ use Rattle.item_write.specs.Headed.{headed}
 use Rattle.item_write.proofs.inner.headed_item.Statement.{statement}
 use Rattle.item_write.proofs.inner.headed_item.Tie as tie
 
-over-label-requires : tie.Need-over-label-requires
+over-label-requires : tie.Need-over_label-requires
 over-label-requires c κs =
     let value = c.before.before in
     let start = value.before.before.before.before in
-    (start.requires.0, rw value.answer.given.1 at start.requires.1)
+    (start.requires.0, rw value.in-Value.is at start.requires.1)
 
-over-refusal-requires : tie.Need-over-refusal-requires
+over-refusal-requires : tie.Need-over_refusal-requires
 over-refusal-requires c κs =
     let refused = c.before.before in
     let start = refused.before.before.before.before in
-    (start.requires.0, rw refused.answer2.given.1 at start.requires.1)
+    (start.requires.0, rw refused.in-Refused.is at start.requires.1)
 
-returns : tie.Need-returns
+returns : tie.Need-returns-in-Value
 returns c =
-    let written = c.before.before in
-    let value = written.before.before.before in
-    let a = value.before.before.before.before.args in
-    written.over-label.ensures ∙ sym (ap (λ (r : Answer). headed a.heading.now r a.out.now) value.answer.given.1)
+    let written = c in
+    let value = written in
+    let a = value.args in
+    written.over_label.ensures ∙ sym (ap (λ (r : Answer). headed a.heading.now r a.out.now) value.in-Value.is)
 
-returns-2 : tie.Need-returns-2
+returns-2 : tie.Need-returns-in-Refused
 returns-2 c =
-    let written = c.before.before in
-    let refused = written.before.before.before in
-    let a = refused.before.before.before.before.args in
-    written.over-refusal.ensures
-    ∙ sym (ap (λ (r : Answer). headed a.heading.now r a.out.now) refused.answer2.given.1)
+    let written = c in
+    let refused = written in
+    let a = refused.args in
+    written.over_refusal.ensures
+    ∙ sym (ap (λ (r : Answer). headed a.heading.now r a.out.now) refused.in-Refused.is)
 
-pub headed-item-spec : {M : Type 1} → statement M
-headed-item-spec =
+pub headed_item_spec : {M : Type 1} → statement M
+headed_item_spec =
     tie.close
     (tie.spec (search rules) over-label-requires (search rules) over-refusal-requires (search rules) returns
     (search rules) returns-2)

@@ -4,13 +4,13 @@ use Rattle.item_write.specs.Headed.{before}
 use Rattle.item_write.proofs.inner.room_before.Statement.{statement}
 use Rattle.item_write.proofs.inner.room_before.Tie as tie
 
-returns : tie.Need-returns
+returns : tie.Need-returns-then-heading-room
 unfolding before
-returns c = simp (le-leb _ _ c.if1.true)
+returns c = simp (le-leb _ _ c.if-heading-room.true)
 
-returns-2 : tie.Need-returns-2
+returns-2 : tie.Need-returns
 unfolding before
-returns-2 c = simp (lt-leb _ _ c.if1.false)
+returns-2 c = simp (lt-leb _ _ c.if-heading-room.false)
 
-pub room-before-spec : {M : Type 1} → statement M
-room-before-spec = tie.close (tie.spec returns returns-2)
+pub room_before_spec : {M : Type 1} → statement M
+room_before_spec = tie.close (tie.spec returns returns-2)

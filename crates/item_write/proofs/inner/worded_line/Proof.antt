@@ -20,30 +20,30 @@ module _ (c : tie.Start) where
       Begun (worded a.word.now a.n) (a.word.now ∷ spaced_number a.n ∷ (10 ∷ []) ∷ []) (replicate 80 0) 0
   begun = begun-front (record { is = refl }) (omega (arith, short))
 
-bytes-at-requires : tie.Need-bytes-at-requires
-bytes-at-requires c κs = room (begun c.before.before)
+bytes-at-requires : tie.Need-bytes_at-i-requires
+bytes-at-requires c κs = room (begun c)
 
-spaced-at-requires : tie.Need-spaced-at-requires
+spaced-at-requires : tie.Need-spaced_at-j-requires
 spaced-at-requires c κs =
-    let word = c.before.before in
-    room (step (begun word.before.before.before) word.bytes-at.ensures)
+    let word = c in
+    room (step (begun word.before.before.before) word.bytes_at-i.ensures)
 
-byte-at-requires : tie.Need-byte-at-requires
+byte-at-requires : tie.Need-byte_at-len-requires
 byte-at-requires c κs =
-    let number = c.before.before in
+    let number = c in
     let word = number.before.before.before in
-    room (step (step (begun word.before.before.before) word.bytes-at.ensures) number.spaced-at.ensures)
+    room (step (step (begun word.before.before.before) word.bytes_at-i.ensures) number.spaced_at-j.ensures)
 
 returns : tie.Need-returns
 returns c =
-    let end = c.before in
-    let number = end.before.before.before in
-    let word = number.before.before.before in
+    let end = c in
+    let number = end in
+    let word = number in
     let s = word.before.before.before in
     line-holds _ (short s)
-    (last (step (step (begun s) word.bytes-at.ensures) number.spaced-at.ensures) end.byte_at.ensures)
+    (last (step (step (begun s) word.bytes_at-i.ensures) number.spaced_at-j.ensures) end.byte_at-len.ensures)
 
-pub worded-line-spec : {M : Type 1} → statement M
-worded-line-spec =
+pub worded_line_spec : {M : Type 1} → statement M
+worded_line_spec =
     tie.close
     (tie.spec (search rules) bytes-at-requires (search rules) spaced-at-requires (search rules) byte-at-requires returns)

@@ -5,24 +5,24 @@ use Rattle.item.proofs.Lines.{byte-none, byte-some}
 use Rattle.item_write.proofs.pieces.fault_at.Statement.{statement}
 use Rattle.item_write.proofs.pieces.fault_at.Tie as tie
 
-returns : tie.Need-returns
+returns : tie.Need-returns-then-number-ne4
 returns c =
-    let a = c.before.before.args in
-    put_as (byte-none a.number a.second c.if1.true) (put-none a.out.now a.at)
+    let a = c.args in
+    put_as (byte-none a.number a.second c.if-number-ne4.true) (put-none a.out.now a.at)
 
-spaced-at-requires : tie.Need-spaced-at-requires
+spaced-at-requires : tie.Need-spaced_at-requires
 spaced-at-requires c κs =
-    let four = c.before in
-    let start = four.before.before in
+    let four = c in
+    let start = four in
     let a = start.args in
-    room_as a.out.now a.at (byte-some a.number a.second four.if1.false) start.requires
+    room_as a.out.now a.at (byte-some a.number a.second four.if-number-ne4.false) start.requires
 
-returns-2 : tie.Need-returns-2
+returns-2 : tie.Need-returns
 returns-2 c =
-    let written = c.before.before in
-    let four = written.before.before in
-    let a = four.before.before.args in
-    put_as (byte-some a.number a.second four.if1.false) written.spaced-at.ensures
+    let written = c in
+    let four = written in
+    let a = four.args in
+    put_as (byte-some a.number a.second four.if-number-ne4.false) written.spaced_at.ensures
 
-pub fault-at-spec : {M : Type 1} → statement M
-fault-at-spec = tie.close (tie.spec returns spaced-at-requires (search rules) returns-2)
+pub fault_at_spec : {M : Type 1} → statement M
+fault_at_spec = tie.close (tie.spec returns spaced-at-requires (search rules) returns-2)

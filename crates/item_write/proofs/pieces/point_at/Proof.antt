@@ -12,29 +12,29 @@ at-start : (c : tie.Start) → let a = c.args in
 unfolding point_line
 at-start c = begun (record { is = refl }) c.requires
 
-bytes-at-requires : tie.Need-bytes-at-requires
-bytes-at-requires c κs = room (at-start c.before.before.before)
+bytes-at-requires : tie.Need-bytes_at-i-requires
+bytes-at-requires c κs = room (at-start c)
 
-spaced-at-requires : tie.Need-spaced-at-requires
+spaced-at-requires : tie.Need-spaced_at-j-requires
 spaced-at-requires c κs =
-    let word = c.before.before.before in
-    room (step (at-start word.before.before.before.before) word.bytes-at.ensures)
+    let word = c in
+    room (step (at-start word.before.before.before.before) word.bytes_at-i.ensures)
 
-byte-at-requires : tie.Need-byte-at-requires
+byte-at-requires : tie.Need-byte_at-requires
 byte-at-requires c κs =
-    let number = c.before.before.before in
+    let number = c in
     let word = number.before.before.before.before in
-    room (step (step (at-start word.before.before.before.before) word.bytes-at.ensures) number.spaced-at.ensures)
+    room (step (step (at-start word.before.before.before.before) word.bytes_at-i.ensures) number.spaced_at-j.ensures)
 
 returns : tie.Need-returns
 returns c =
-    let end = c.before.before in
-    let number = end.before.before.before.before in
-    let word = number.before.before.before.before in
-    last (step (step (at-start word.before.before.before.before) word.bytes-at.ensures) number.spaced-at.ensures)
+    let end = c in
+    let number = end in
+    let word = number in
+    last (step (step (at-start word.before.before.before.before) word.bytes_at-i.ensures) number.spaced_at-j.ensures)
     end.byte_at.ensures
 
-pub point-at-spec : {M : Type 1} → statement M
-point-at-spec =
+pub point_at_spec : {M : Type 1} → statement M
+point_at_spec =
     tie.close
     (tie.spec (search rules) bytes-at-requires spaced-at-requires byte-at-requires (search rules) returns)

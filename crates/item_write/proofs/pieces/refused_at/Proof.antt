@@ -15,49 +15,49 @@ at-start : (c : tie.Start) → let a = c.args in
 unfolding refused_text
 at-start c = begun (record { is = refl }) c.requires
 
-bytes-at-requires : tie.Need-bytes-at-requires
-bytes-at-requires c κs = room (at-start c.before.before.before)
+bytes-at-requires : tie.Need-bytes_at-i-requires
+bytes-at-requires c κs = room (at-start c)
 
-spaced-at-requires : tie.Need-spaced-at-requires
+spaced-at-requires : tie.Need-spaced_at-j-requires
 spaced-at-requires c κs =
-    let word = c.before.before.before in
-    room (step (at-start word.before.before.before.before) word.bytes-at.ensures)
+    let word = c in
+    room (step (at-start word.before.before.before.before) word.bytes_at-i.ensures)
 
-spaced-at-requires-2 : tie.Need-spaced-at-requires-2
+spaced-at-requires-2 : tie.Need-spaced_at-k-requires
 spaced-at-requires-2 c κs =
-    let number = c.before.before.before in
+    let number = c in
     let word = number.before.before.before.before in
-    room (step (step (at-start word.before.before.before.before) word.bytes-at.ensures) number.spaced-at.ensures)
+    room (step (step (at-start word.before.before.before.before) word.bytes_at-i.ensures) number.spaced_at-j.ensures)
 
-fault-at-requires : tie.Need-fault-at-requires
+fault-at-requires : tie.Need-fault_at-l-requires
 fault-at-requires c κs =
-    let detail = c.before.before.before in
+    let detail = c in
     let number = detail.before.before.before.before in
     let word = number.before.before.before.before in
-    let said = step (step (at-start word.before.before.before.before) word.bytes-at.ensures) number.spaced-at.ensures in
-    room (step said detail.spaced-at2.ensures)
+    let said = step (step (at-start word.before.before.before.before) word.bytes_at-i.ensures) number.spaced_at-j.ensures in
+    room (step said detail.spaced_at-k.ensures)
 
-byte-at-requires : tie.Need-byte-at-requires
+byte-at-requires : tie.Need-byte_at-requires
 byte-at-requires c κs =
-    let fault = c.before.before.before in
+    let fault = c in
     let detail = fault.before.before.before.before in
     let number = detail.before.before.before.before in
     let word = number.before.before.before.before in
-    let said = step (step (at-start word.before.before.before.before) word.bytes-at.ensures) number.spaced-at.ensures in
-    room (step (step said detail.spaced-at2.ensures) fault.fault-at.ensures)
+    let said = step (step (at-start word.before.before.before.before) word.bytes_at-i.ensures) number.spaced_at-j.ensures in
+    room (step (step said detail.spaced_at-k.ensures) fault.fault_at-l.ensures)
 
 returns : tie.Need-returns
 returns c =
-    let end = c.before.before in
-    let fault = end.before.before.before.before in
-    let detail = fault.before.before.before.before in
-    let number = detail.before.before.before.before in
-    let word = number.before.before.before.before in
-    let said = step (step (at-start word.before.before.before.before) word.bytes-at.ensures) number.spaced-at.ensures in
-    last (step (step said detail.spaced-at2.ensures) fault.fault-at.ensures) end.byte_at.ensures
+    let end = c in
+    let fault = end in
+    let detail = fault in
+    let number = detail in
+    let word = number in
+    let said = step (step (at-start word.before.before.before.before) word.bytes_at-i.ensures) number.spaced_at-j.ensures in
+    last (step (step said detail.spaced_at-k.ensures) fault.fault_at-l.ensures) end.byte_at.ensures
 
-pub refused-at-spec : {M : Type 1} → statement M
-refused-at-spec =
+pub refused_at_spec : {M : Type 1} → statement M
+refused_at_spec =
     tie.close
     (tie.spec (search rules) bytes-at-requires spaced-at-requires spaced-at-requires-2 fault-at-requires
     byte-at-requires (search rules) returns)

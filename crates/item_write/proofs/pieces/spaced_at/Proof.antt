@@ -6,9 +6,9 @@ use Rattle.item_write.proofs.pieces.spaced_at.Tie as tie
 
 returns : tie.Need-returns
 returns c =
-    let digits = c.before.before in
-    let space = digits.before.before.before.before in
-    put_then space.byte_at.ensures digits.decimal-at.ensures space.before.before.before.requires
+    let digits = c in
+    let space = digits in
+    put_then space.byte_at-i.ensures digits.decimal_at.ensures space.requires
 
-pub spaced-at-spec : {M : Type 1} → statement M
-spaced-at-spec = tie.close (tie.spec (search rules) (search rules) (search rules) returns)
+pub spaced_at_spec : {M : Type 1} → statement M
+spaced_at_spec = tie.close (tie.spec (search rules) (search rules) (search rules) returns)

@@ -9,20 +9,20 @@ use Rattle.label.proofs.Places.{box-none, box-some}
 use Rattle.label_length.proofs.inner.box_len.Statement.{statement}
 use Rattle.label_length.proofs.inner.box_len.Tie as tie
 
-returns : tie.Need-returns
+returns : tie.Need-returns-then-n-eq0
 returns c =
-    let g = c.before.before.before.before.args in
+    let g = c.args in
     let t = text_in2 g.a.now g.b.now g.s in
-    (ap length (box-none t (sym c.before.text-len.ensures.0 ∙ c.if1.true)), omega arith)
+    (ap length (box-none t (sym c.text_len-n.ensures.0 ∙ c.if-n-eq0.true)), omega arith)
 
-returns-2 : tie.Need-returns-2
+returns-2 : tie.Need-returns-else-n-eq0
 returns-2 c =
-    let text = c.before.text-len.ensures in
-    let g = c.before.before.before.before.args in
+    let text = c.text_len-n.ensures in
+    let g = c.args in
     let t = text_in2 g.a.now g.b.now g.s in
-    let made = box-some t (λ z. c.if1.false (text.0 ∙ z)) in
+    let made = box-some t (λ z. c.if-n-eq0.false (text.0 ∙ z)) in
     (omega (arith, simp length-append at (ap length made), text.0), omega (arith, text.1))
 
-pub box-len-spec : {M : Type 1} → statement M
-box-len-spec =
+pub box_len_spec : {M : Type 1} → statement M
+box_len_spec =
     tie.close (tie.spec (search rules) (search rules) returns returns-2)

@@ -9,13 +9,13 @@ use Rattle.label_length.proofs.inner.front_len.Tie as tie
 
 returns : tie.Need-returns
 returns c =
-    let text = c.before in
-    let number = text.before in
-    let g = number.before.before.before.before.before.args in
-    three-sized (front-made g.a.now g.b.now g.f) number.number-len.ensures text.text-len.ensures
-    c.tail-len.ensures (omega arith)
+    let text = c in
+    let number = text in
+    let g = number.args in
+    three-sized (front-made g.a.now g.b.now g.f) number.number_len-n.ensures text.text_len-m.ensures
+    c.tail_len.ensures (omega arith)
 
-pub front-len-spec : {M : Type 1} → statement M
-front-len-spec =
+pub front_len_spec : {M : Type 1} → statement M
+front_len_spec =
     tie.close
     (tie.spec (search rules) (search rules) (search rules) (search rules) (search rules) returns)

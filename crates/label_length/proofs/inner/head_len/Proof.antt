@@ -9,13 +9,13 @@ use Rattle.label_length.proofs.inner.head_len.Tie as tie
 
 returns : tie.Need-returns
 returns c =
-    let department = c.before in
-    let organisation = department.before in
-    let g = organisation.before.before.before.before.before.before.args in
-    three-sized (head-made g.a.now g.b.now g.e) organisation.line-len.ensures
-    department.line-len2.ensures c.box-len.ensures (omega arith)
+    let department = c in
+    let organisation = department in
+    let g = organisation.args in
+    three-sized (head-made g.a.now g.b.now g.e) organisation.line_len-i.ensures
+    department.line_len-j.ensures c.box_len.ensures (omega arith)
 
-pub head-len-spec : {M : Type 1} → statement M
-head-len-spec =
+pub head_len_spec : {M : Type 1} → statement M
+head_len_spec =
     tie.close
     (tie.spec (search rules) (search rules) (search rules) (search rules) (search rules) returns)

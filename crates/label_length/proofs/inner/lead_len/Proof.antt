@@ -11,25 +11,25 @@ use Rattle.label.proofs.Walk.{two_sized}
 use Rattle.label_length.proofs.inner.lead_len.Statement.{statement}
 use Rattle.label_length.proofs.inner.lead_len.Tie as tie
 
-returns : tie.Need-returns
+returns : tie.Need-returns-then-n-eq0
 returns c =
-    let pending = c.before.before in
-    let g = pending.before.before.before.args in
+    let pending = c in
+    let g = pending.args in
     let f = front_text g.a.now g.b.now g.f in
-    rw pending.if1.true
-    (ap length (lead-none f (sym c.before.front-len.ensures.0 ∙ c.if2.true)), omega arith)
+    rw pending.if-f.true
+    (ap length (lead-none f (sym c.front_len-n.ensures.0 ∙ c.if-n-eq0.true)), omega arith)
 
-returns-2 : tie.Need-returns-2
+returns-2 : tie.Need-returns-then-f
 returns-2 c =
-    let pending = c.before.before in
-    let g = pending.before.before.before.args in
-    let front = c.before.front-len.ensures in
-    two_sized {v = 1} (lead-made g.a.now g.b.now g.f pending.if1.true (λ z. c.if2.false (front.0 ∙ z))) front
+    let pending = c in
+    let g = pending.args in
+    let front = c.front_len-n.ensures in
+    two_sized {v = 1} (lead-made g.a.now g.b.now g.f pending.if-f.true (λ z. c.if-n-eq0.false (front.0 ∙ z))) front
     (refl, omega arith) (omega arith)
 
-returns-3 : tie.Need-returns-3
-returns-3 c = rw c.if1.false (refl, omega arith)
+returns-3 : tie.Need-returns
+returns-3 c = rw c.if-f.false (refl, omega arith)
 
-pub lead-len-spec : {M : Type 1} → statement M
-lead-len-spec =
+pub lead_len_spec : {M : Type 1} → statement M
+lead_len_spec =
     tie.close (tie.spec (search rules) returns (search rules) returns-2 returns-3)

@@ -9,19 +9,19 @@ use Rattle.label_length.proofs.inner.localities_len.Tie as tie
 
 returns : tie.Need-returns
 returns c =
-    let dependent = c.before in
-    let double = dependent.before in
-    let later = double.before in
-    let after = later.before in
-    let none = after.before in
-    let g = none.before.before.before.before.before.before.args in
+    let dependent = c in
+    let double = dependent in
+    let later = double in
+    let after = later in
+    let none = after in
+    let g = none.args in
     three-sized
-    (localities-made g.a.now g.b.now g.f g.e none.no_text.ensures after.front-after.ensures
-    later.front-after2.ensures)
-    double.place-len.ensures dependent.place-len2.ensures c.place-len3.ensures (omega arith)
+    (localities-made g.a.now g.b.now g.f g.e none.no_text-none.ensures after.front_after-g.ensures
+    later.front_after-h.ensures)
+    double.place_len-i.ensures dependent.place_len-j.ensures c.place_len.ensures (omega arith)
 
-pub localities-len-spec : {M : Type 1} → statement M
-localities-len-spec =
+pub localities_len_spec : {M : Type 1} → statement M
+localities_len_spec =
     tie.close
     (tie.spec (search rules) (search rules) (search rules) (search rules) (search rules) (search rules)
     (search rules) (search rules) returns)

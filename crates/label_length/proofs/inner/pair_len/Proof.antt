@@ -10,13 +10,13 @@ use Rattle.label_length.proofs.inner.pair_len.Tie as tie
 
 returns : tie.Need-returns
 returns c =
-    let first = c.before.text-len.ensures in
-    let second = c.text-len2.ensures in
-    let g = c.before.before.before.before.args in
+    let first = c.text_len-n.ensures in
+    let second = c.text_len.ensures in
+    let g = c.args in
     let made = pair_made g.a.now g.b.now g.s g.t in
     let size = four-sized {j = 1} {l = 1} made first.0 refl second.0 refl in
     (omega (arith, size), omega (arith, first.1, second.1))
 
-pub pair-len-spec : {M : Type 1} → statement M
-pair-len-spec =
+pub pair_len_spec : {M : Type 1} → statement M
+pair_len_spec =
     tie.close (tie.spec (search rules) (search rules) (search rules) (search rules) returns)

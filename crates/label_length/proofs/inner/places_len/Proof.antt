@@ -9,17 +9,17 @@ use Rattle.label_length.proofs.inner.places_len.Tie as tie
 
 returns : tie.Need-returns
 returns c =
-    let street = c.before in
-    let dependent = street.before in
-    let later = dependent.before in
-    let after = later.before in
-    let g = after.before.before.before.before.before.before.before.args in
+    let street = c in
+    let dependent = street in
+    let later = dependent in
+    let after = later in
+    let g = after.args in
     three-sized
-    (places-made g.a.now g.b.now g.f g.e after.front-after.ensures later.front-after2.ensures)
-    dependent.place-len.ensures street.place-len2.ensures c.localities-len.ensures (omega arith)
+    (places-made g.a.now g.b.now g.f g.e after.front_after-g.ensures later.front_after-h.ensures)
+    dependent.place_len-i.ensures street.place_len-j.ensures c.localities_len.ensures (omega arith)
 
-pub places-len-spec : {M : Type 1} → statement M
-places-len-spec =
+pub places_len_spec : {M : Type 1} → statement M
+places_len_spec =
     tie.close
     (tie.spec (search rules) (search rules) (search rules) (search rules) (search rules) (search rules)
     (search rules) returns)

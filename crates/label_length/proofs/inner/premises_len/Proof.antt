@@ -9,12 +9,12 @@ use Rattle.label_length.proofs.inner.premises_len.Tie as tie
 
 returns : tie.Need-returns
 returns c =
-    let upper = c.before in
-    let none = upper.before in
-    let g = none.before.before.before.before.before.before.args in
-    two_sized (premises-made g.a.now g.b.now g.l none.no_front.ensures) upper.place-len.ensures
-    c.line-len.ensures (omega arith)
+    let upper = c in
+    let none = upper in
+    let g = none.args in
+    two_sized (premises-made g.a.now g.b.now g.l none.no_front-none.ensures) upper.place_len-i.ensures
+    c.line_len.ensures (omega arith)
 
-pub premises-len-spec : {M : Type 1} → statement M
-premises-len-spec =
+pub premises_len_spec : {M : Type 1} → statement M
+premises_len_spec =
     tie.close (tie.spec (search rules) (search rules) (search rules) (search rules) returns)

@@ -9,20 +9,20 @@ use Rattle.label.proofs.Places.{tail_none, tail-some}
 use Rattle.label_length.proofs.inner.tail_len.Statement.{statement}
 use Rattle.label_length.proofs.inner.tail_len.Tie as tie
 
-returns : tie.Need-returns
+returns : tie.Need-returns-then-n-eq0
 returns c =
-    let g = c.before.before.before.before.args in
+    let g = c.args in
     let t = text_in2 g.a.now g.b.now g.s in
-    (ap length (tail_none t (sym c.before.text-len.ensures.0 ∙ c.if1.true)), omega arith)
+    (ap length (tail_none t (sym c.text_len-n.ensures.0 ∙ c.if-n-eq0.true)), omega arith)
 
-returns-2 : tie.Need-returns-2
+returns-2 : tie.Need-returns-else-n-eq0
 returns-2 c =
-    let text = c.before.text-len.ensures in
-    let g = c.before.before.before.before.args in
+    let text = c.text_len-n.ensures in
+    let g = c.args in
     let t = text_in2 g.a.now g.b.now g.s in
-    let made = tail-some t (λ z. c.if1.false (text.0 ∙ z)) in
+    let made = tail-some t (λ z. c.if-n-eq0.false (text.0 ∙ z)) in
     (omega (arith, ap length made, text.0), omega (arith, text.1))
 
-pub tail-len-spec : {M : Type 1} → statement M
-tail-len-spec =
+pub tail_len_spec : {M : Type 1} → statement M
+tail_len_spec =
     tie.close (tie.spec (search rules) (search rules) returns returns-2)

@@ -9,9 +9,9 @@ use Rattle.label_length.proofs.inner.text_len.Tie as tie
 
 returns : tie.Need-returns
 returns c =
-    let g = c.before.before.before.args in
-    let is = ap length c.text_of.ensures in
+    let g = c.args in
+    let is = ap length c.text_of-t.ensures in
     (is, omega (arith, is, text-short g.a.now g.b.now g.s))
 
-pub text-len-spec : {M : Type 1} → statement M
-text-len-spec = tie.close (tie.spec (search rules) returns)
+pub text_len_spec : {M : Type 1} → statement M
+text_len_spec = tie.close (tie.spec (search rules) returns)

@@ -8,11 +8,11 @@ use Rattle.label_lines.proofs.inner.box_at.Tie as tie
 
 returns : tie.Need-returns
 returns c =
-    let lent = c.before.before.put-box in
+    let lent = c.put_box in
     put-part _ _ lent.new.1.1.1.0 _ _ (omega arith) lent.ensures
 
-pub box-at-spec : {M : Type 1} → statement M
-box-at-spec =
+pub box_at_spec : {M : Type 1} → statement M
+box_at_spec =
     tie.close
     (tie.spec (search rules) (search rules) (search rules) (search rules) (search rules)
     (search rules) returns)

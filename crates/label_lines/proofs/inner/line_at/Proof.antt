@@ -8,11 +8,11 @@ use Rattle.label_lines.proofs.inner.line_at.Tie as tie
 
 returns : tie.Need-returns
 returns c =
-    let lent = c.before.before.put-line in
+    let lent = c.put_line in
     put-part _ _ lent.new.1.1.1.0 _ _ (omega arith) lent.ensures
 
-pub line-at-spec : {M : Type 1} → statement M
-line-at-spec =
+pub line_at_spec : {M : Type 1} → statement M
+line_at_spec =
     tie.close
     (tie.spec (search rules) (search rules) (search rules) (search rules) (search rules)
     (search rules) returns)

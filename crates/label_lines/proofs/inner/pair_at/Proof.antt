@@ -8,11 +8,11 @@ use Rattle.label_lines.proofs.inner.pair_at.Tie as tie
 
 returns : tie.Need-returns
 returns c =
-    let lent = c.before.before.put-pair in
+    let lent = c.put_pair in
     put-part _ _ lent.new.1.1.1.1.0 _ _ (omega arith) lent.ensures
 
-pub pair-at-spec : {M : Type 1} → statement M
-pair-at-spec =
+pub pair_at_spec : {M : Type 1} → statement M
+pair_at_spec =
     tie.close
     (tie.spec (search rules) (search rules) (search rules) (search rules) (search rules)
     (search rules) returns)

@@ -8,11 +8,11 @@ use Rattle.label_lines.proofs.inner.place_at.Tie as tie
 
 returns : tie.Need-returns
 returns c =
-    let lent = c.before.before.put-place in
+    let lent = c.put_place in
     put-part _ _ lent.new.1.1.1.1.1.0 _ _ (omega arith) lent.ensures
 
-pub place-at-spec : {M : Type 1} → statement M
-place-at-spec =
+pub place_at_spec : {M : Type 1} → statement M
+place_at_spec =
     tie.close
     (tie.spec (search rules) (search rules) (search rules) (search rules) (search rules)
     (search rules) returns)

@@ -11,41 +11,41 @@ use Rattle.label.proofs.Walk.{Begun, begun-front, room, step, last}
 use Rattle.label_lines.proofs.inner.put_box.Statement.{statement}
 use Rattle.label_lines.proofs.inner.put_box.Tie as tie
 
-returns : tie.Need-returns
+returns : tie.Need-returns-then-text_len-eq0
 returns c =
-    let g = c.before.before.before.before.before.args in
-    wrote_as (box-none (text_in2 g.a.now g.b.now g.s) (sym c.before.text-len.ensures.0 ∙ c.if1.true))
+    let g = c.args in
+    wrote_as (box-none (text_in2 g.a.now g.b.now g.s) (sym c.text_len.ensures.0 ∙ c.if-text_len-eq0.true))
     (wrote_none g.out.now)
 
-at-box : (c : tie.Else1) → let g = c.before.before.before.before.before.args in
+at-box : (c : tie.Else-text_len-eq0) → let g = c.args in
     let a = g.a.now in let b = g.b.now in Begun (box_in a b g.s) (box_pieces a b g.s) g.out.now 0
 at-box c =
-    let start = c.before.before.before.before.before in
-    begun-front (box-made _ _ start.args.s (λ z. c.if1.false (c.before.text-len.ensures.0 ∙ z))) start.requires
+    let start = c in
+    begun-front (box-made _ _ start.args.s (λ z. c.if-text_len-eq0.false (c.text_len.ensures.0 ∙ z))) start.requires
 
-bytes-at-requires : tie.Need-bytes-at-requires
+bytes-at-requires : tie.Need-bytes_at-i-requires
 bytes-at-requires c κs = room (at-box c.before.before)
 
-text-at-requires : tie.Need-text-at-requires
+text-at-requires : tie.Need-text_at-j-requires
 text-at-requires c κs =
-    let box = c.before.before.before in
-    room (step (at-box box.before.before.before) box.bytes-at.ensures)
+    let box = c in
+    room (step (at-box box) box.bytes_at-i.ensures)
 
-byte-at-requires : tie.Need-byte-at-requires
+byte-at-requires : tie.Need-byte_at-requires
 byte-at-requires c κs =
-    let text = c.before.before.before in
-    let box = text.before.before.before.before in
-    room (step (step (at-box box.before.before.before) box.bytes-at.ensures) text.text_at.ensures)
+    let text = c in
+    let box = text in
+    room (step (step (at-box box.before.before.before) box.bytes_at-i.ensures) text.text_at-j.ensures)
 
-returns-2 : tie.Need-returns-2
+returns-2 : tie.Need-returns
 returns-2 c =
-    let end = c.before.before in
-    let text = end.before.before.before.before in
-    let box = text.before.before.before.before in
-    let two = step (step (at-box box.before.before.before) box.bytes-at.ensures) text.text_at.ensures in
+    let end = c in
+    let text = end in
+    let box = text in
+    let two = step (step (at-box box.before.before.before) box.bytes_at-i.ensures) text.text_at-j.ensures in
     wrote (last two end.byte_at.ensures)
 
-pub put-box-spec : {M : Type 1} → statement M
-put-box-spec =
+pub put_box_spec : {M : Type 1} → statement M
+put_box_spec =
     tie.close
     (tie.spec (search rules) returns (search rules) bytes-at-requires text-at-requires byte-at-requires (search rules) returns-2)

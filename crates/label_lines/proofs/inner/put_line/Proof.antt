@@ -11,33 +11,33 @@ use Rattle.label.proofs.Walk.{Begun, begun-front, room, step, last}
 use Rattle.label_lines.proofs.inner.put_line.Statement.{statement}
 use Rattle.label_lines.proofs.inner.put_line.Tie as tie
 
-returns : tie.Need-returns
+returns : tie.Need-returns-then-text_len-eq0
 returns c =
-    let g = c.before.before.before.before.before.args in
-    wrote_as (line-none (text_in2 g.a.now g.b.now g.s) (sym c.before.text-len.ensures.0 ∙ c.if1.true))
+    let g = c.args in
+    wrote_as (line-none (text_in2 g.a.now g.b.now g.s) (sym c.text_len.ensures.0 ∙ c.if-text_len-eq0.true))
     (wrote_none g.out.now)
 
-at-text : (c : tie.Else1) → let g = c.before.before.before.before.before.args in
+at-text : (c : tie.Else-text_len-eq0) → let g = c.args in
     let a = g.a.now in let b = g.b.now in Begun (line_in a b g.s) (line_pieces a b g.s) g.out.now 0
 at-text c =
-    let start = c.before.before.before.before.before in
-    begun-front (line_made _ _ start.args.s (λ z. c.if1.false (c.before.text-len.ensures.0 ∙ z))) start.requires
+    let start = c in
+    begun-front (line_made _ _ start.args.s (λ z. c.if-text_len-eq0.false (c.text_len.ensures.0 ∙ z))) start.requires
 
-text-at-requires : tie.Need-text-at-requires
+text-at-requires : tie.Need-text_at-i-requires
 text-at-requires c κs = room (at-text c.before)
 
-byte-at-requires : tie.Need-byte-at-requires
+byte-at-requires : tie.Need-byte_at-requires
 byte-at-requires c κs =
-    let text = c.before.before.before in
-    room (step (at-text text.before.before) text.text_at.ensures)
+    let text = c in
+    room (step (at-text text.before.before) text.text_at-i.ensures)
 
-returns-2 : tie.Need-returns-2
+returns-2 : tie.Need-returns
 returns-2 c =
-    let end = c.before.before in
-    let text = end.before.before.before.before in
-    wrote (last (step (at-text text.before.before) text.text_at.ensures) end.byte_at.ensures)
+    let end = c in
+    let text = end in
+    wrote (last (step (at-text text.before.before) text.text_at-i.ensures) end.byte_at.ensures)
 
-pub put-line-spec : {M : Type 1} → statement M
-put-line-spec =
+pub put_line_spec : {M : Type 1} → statement M
+put_line_spec =
     tie.close
     (tie.spec (search rules) returns text-at-requires byte-at-requires (search rules) returns-2)

@@ -11,56 +11,56 @@ use Rattle.label.proofs.Walk.{Begun, begun-front, room, step, last}
 use Rattle.label_lines.proofs.inner.put_place.Statement.{statement}
 use Rattle.label_lines.proofs.inner.put_place.Tie as tie
 
-returns : tie.Need-returns
+returns : tie.Need-returns-then-text_len-eq0
 returns c =
-    let g = c.before.before.before.before.before.args in
+    let g = c.args in
     let text = text_in2 g.a.now g.b.now in
     wrote_as
     (place_none g.f.pending (front_text g.a.now g.b.now g.f) (text g.name) (text g.tail)
-    (sym c.before.text-len.ensures.0 ∙ c.if1.true))
+    (sym c.text_len.ensures.0 ∙ c.if-text_len-eq0.true))
     (wrote_none g.out.now)
 
-at-lead : (c : tie.Else1) → let g = c.before.before.before.before.before.args in
+at-lead : (c : tie.Else-text_len-eq0) → let g = c.args in
     let a = g.a.now in let b = g.b.now in
     Begun (place_in a b g.f g.name g.tail) (place_pieces a b g.f g.name g.tail) g.out.now 0
 at-lead c =
-    let start = c.before.before.before.before.before in
+    let start = c in
     let g = start.args in
     begun-front
-    (place-made _ _ g.f g.name g.tail (λ z. c.if1.false (c.before.text-len.ensures.0 ∙ z))) start.requires
+    (place-made _ _ g.f g.name g.tail (λ z. c.if-text_len-eq0.false (c.text_len.ensures.0 ∙ z))) start.requires
 
-lead-at-requires : tie.Need-lead-at-requires
+lead-at-requires : tie.Need-lead_at-i-requires
 lead-at-requires c κs = room (at-lead c.before)
 
-text-at-requires : tie.Need-text-at-requires
+text-at-requires : tie.Need-text_at-j-requires
 text-at-requires c κs =
-    let lead = c.before.before.before in
-    room (step (at-lead lead.before.before) lead.lead-at.ensures)
+    let lead = c in
+    room (step (at-lead lead.before.before) lead.lead_at-i.ensures)
 
-tail-at-requires : tie.Need-tail-at-requires
+tail-at-requires : tie.Need-tail_at-k-requires
 tail-at-requires c κs =
-    let name = c.before.before.before in
-    let lead = name.before.before.before.before in
-    room (step (step (at-lead lead.before.before) lead.lead-at.ensures) name.text_at.ensures)
+    let name = c in
+    let lead = name in
+    room (step (step (at-lead lead.before.before) lead.lead_at-i.ensures) name.text_at-j.ensures)
 
-byte-at-requires : tie.Need-byte-at-requires
+byte-at-requires : tie.Need-byte_at-requires
 byte-at-requires c κs =
-    let tail = c.before.before.before in
-    let name = tail.before.before.before.before in
+    let tail = c in
+    let name = tail in
     let lead = name.before.before.before.before in
-    let two = step (step (at-lead lead.before.before) lead.lead-at.ensures) name.text_at.ensures in
-    room (step two tail.tail_at.ensures)
+    let two = step (step (at-lead lead.before.before) lead.lead_at-i.ensures) name.text_at-j.ensures in
+    room (step two tail.tail_at-k.ensures)
 
-returns-2 : tie.Need-returns-2
+returns-2 : tie.Need-returns
 returns-2 c =
-    let end = c.before.before in
-    let tail = end.before.before.before.before in
-    let name = tail.before.before.before.before in
-    let lead = name.before.before.before.before in
-    let two = step (step (at-lead lead.before.before) lead.lead-at.ensures) name.text_at.ensures in
-    wrote (last (step two tail.tail_at.ensures) end.byte_at.ensures)
+    let end = c in
+    let tail = end in
+    let name = tail in
+    let lead = name in
+    let two = step (step (at-lead lead.before.before) lead.lead_at-i.ensures) name.text_at-j.ensures in
+    wrote (last (step two tail.tail_at-k.ensures) end.byte_at.ensures)
 
-pub put-place-spec : {M : Type 1} → statement M
-put-place-spec =
+pub put_place_spec : {M : Type 1} → statement M
+put_place_spec =
     tie.close
     (tie.spec (search rules) returns lead-at-requires text-at-requires tail-at-requires byte-at-requires (search rules) returns-2)

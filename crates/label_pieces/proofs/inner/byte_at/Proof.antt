@@ -7,6 +7,6 @@ use Rattle.label_pieces.proofs.inner.byte_at.Tie as tie
 returns : tie.Need-returns
 returns c = put_byte c.args.out.now c.args.at c.args.b c.requires
 
-pub byte-at-spec : {M : Type 1} → statement M
-byte-at-spec =
+pub byte_at_spec : {M : Type 1} → statement M
+byte_at_spec =
     tie.close (tie.spec (search rules) (search rules) (search rules) returns)

@@ -8,10 +8,10 @@ use Rattle.label_pieces.proofs.inner.bytes_at.Tie as tie
 
 returns : tie.Need-returns
 returns c =
-    let lent = c.before.before.put-bytes in
+    let lent = c.put_bytes in
     put-part _ _ lent.new.1.0 _ _ (omega arith) lent.ensures
 
-pub bytes-at-spec : {M : Type 1} → statement M
-bytes-at-spec =
+pub bytes_at_spec : {M : Type 1} → statement M
+bytes_at_spec =
     tie.close
     (tie.spec (search rules) (search rules) (search rules) (search rules) (search rules) (search rules) returns)

@@ -10,45 +10,45 @@ use Rattle.label.proofs.Walk.{Begun, begun, room, step, last}
 use Rattle.label_pieces.proofs.inner.lead_at.Statement.{statement}
 use Rattle.label_pieces.proofs.inner.lead_at.Tie as tie
 
-returns : tie.Need-returns
+returns : tie.Need-returns-then-front_len-eq0
 returns c =
-    let pending = c.before.before in
-    let g = pending.before.before.before.before.args in
-    rw pending.if1.true
+    let pending = c in
+    let g = pending.args in
+    rw pending.if-f.true
     (put_as
-    (lead-none (front_text g.a.now g.b.now g.f) (sym c.before.front-len.ensures.0 ∙ c.if2.true))
+    (lead-none (front_text g.a.now g.b.now g.f) (sym c.front_len.ensures.0 ∙ c.if-front_len-eq0.true))
     (put-none g.out.now g.at))
 
-at_front : (c : tie.Else2) → let g = c.before.before.before.before.before.before.args in
+at_front : (c : tie.Else-front_len-eq0) → let g = c.args in
     let a = g.a.now in let b = g.b.now in
     Begun (lead_in a b g.f) (lead_pieces a b g.f) g.out.now g.at
 at_front c =
-    let pending = c.before.before in
-    let start = pending.before.before.before.before in
+    let pending = c in
+    let start = pending in
     begun
-    (lead-made _ _ start.args.f pending.if1.true (λ z. c.if2.false (c.before.front-len.ensures.0 ∙ z)))
+    (lead-made _ _ start.args.f pending.if-f.true (λ z. c.if-front_len-eq0.false (c.front_len.ensures.0 ∙ z)))
     start.requires
 
-front-text-at-requires : tie.Need-front-text-at-requires
+front-text-at-requires : tie.Need-front_text_at-i-requires
 front-text-at-requires c κs = room (at_front c.before)
 
-byte-at-requires : tie.Need-byte-at-requires
+byte-at-requires : tie.Need-byte_at-requires
 byte-at-requires c κs =
-    let front = c.before.before.before in
-    room (step (at_front front.before.before) front.front-text-at.ensures)
+    let front = c in
+    room (step (at_front front.before.before) front.front_text_at-i.ensures)
 
-returns-2 : tie.Need-returns-2
+returns-2 : tie.Need-returns-then-f
 returns-2 c =
-    let space = c.before.before in
-    let front = space.before.before.before.before in
-    last (step (at_front front.before.before) front.front-text-at.ensures) space.byte_at.ensures
+    let space = c in
+    let front = space in
+    last (step (at_front front.before.before) front.front_text_at-i.ensures) space.byte_at.ensures
 
-returns-3 : tie.Need-returns-3
+returns-3 : tie.Need-returns
 returns-3 c =
-    let g = c.before.before.before.before.args in
-    rw c.if1.false (put-none g.out.now g.at)
+    let g = c.args in
+    rw c.if-f.false (put-none g.out.now g.at)
 
-pub lead-at-spec : {M : Type 1} → statement M
-lead-at-spec =
+pub lead_at_spec : {M : Type 1} → statement M
+lead_at_spec =
     tie.close
     (tie.spec (search rules) returns front-text-at-requires byte-at-requires (search rules) returns-2 returns-3)

@@ -9,38 +9,38 @@ use Rattle.label.proofs.Puts.{copy_step, copy-all}
 use Rattle.label_pieces.proofs.inner.put_bytes.Statement.{statement}
 use Rattle.label_pieces.proofs.inner.put_bytes.Tie as tie
 
-abbrev invariant-loop : tie.invariant-loop
+abbrev invariant-loop : tie.invariant-loop-i
 invariant-loop t out₀ i₀ out i = (i ≤ length t) × (length out ≡ length out₀) × (out ≡ take i t ++ drop i out₀)
 
-abbrev decreases-loop : tie.decreases-loop
+abbrev decreases-loop : tie.decreases-loop-i
 decreases-loop t out₀ i₀ out i = length t - i
 
-loop-holds : tie.Need-loop-init invariant-loop decreases-loop
+loop-holds : tie.Need-loop-i-init invariant-loop decreases-loop
 loop-holds c = (omega arith, refl, refl)
 
-loop-again : tie.Need-loop-preserved invariant-loop decreases-loop
+loop-again : tie.Need-loop-i-preserved invariant-loop decreases-loop
 loop-again c =
-    let at-loop = c.before.before in
-    let i = at-loop.loop.i in
-    let inv = at-loop.loop.invariant in
-    let g = at-loop.before.args in (
+    let at-loop = c in
+    let i = at-loop.loop-i.i in
+    let inv = at-loop.loop-i.invariant in
+    let g = at-loop.args in (
       omega arith,
       simp length-set inv.1,
       ap (λ (x : List ℕ). set x i (get_or g.t.now i 0)) inv.2
-          ∙ copy_step g.t.now g.out.now i c.before.loop-test.true (omega arith),
+          ∙ copy_step g.t.now g.out.now i c.loop-i-test.true (omega arith),
     )
 
 returns : tie.Need-returns invariant-loop decreases-loop
 returns c =
-    let loop = c.before.loop in
-    let g = c.before.before.args in
+    let loop = c.loop-i in
+    let g = c.args in
     record {
       size = omega arith;
-      is = loop.invariant.2 ∙ copy-all g.t.now g.out.now loop.i c.loop-test.false loop.invariant.0;
+      is = loop.invariant.2 ∙ copy-all g.t.now g.out.now loop.i c.loop-i-test.false loop.invariant.0;
     }
 
-pub put-bytes-spec : {M : Type 1} → statement M
-put-bytes-spec =
+pub put_bytes_spec : {M : Type 1} → statement M
+put_bytes_spec =
     tie.close
     (tie.spec invariant-loop decreases-loop loop-holds (search rules) (search rules) (search rules) (search rules) loop-again
     (search rules) returns)

@@ -4,16 +4,16 @@ use mathlib.Core.Path.{sym}
 use Rattle.label_pieces.proofs.inner.tail_at.Statement.{statement}
 use Rattle.label_pieces.proofs.inner.tail_at.Tie as tie
 
-tail-bytes-at-requires : tie.Need-tail-bytes-at-requires
+tail-bytes-at-requires : tie.Need-tail_bytes_at-requires
 tail-bytes-at-requires c κs =
     let text = c.before in
-    rw text.text_of.ensures text.before.before.before.before.requires
+    rw text.text_of-t.ensures text.requires
 
 returns : tie.Need-returns
 returns c =
-    let put = c.before.before in
-    rw (sym put.before.before.text_of.ensures) put.tail-bytes-at.ensures
+    let put = c in
+    rw (sym put.text_of-t.ensures) put.tail_bytes_at.ensures
 
-pub tail-at-spec : {M : Type 1} → statement M
-tail-at-spec =
+pub tail_at_spec : {M : Type 1} → statement M
+tail_at_spec =
     tie.close (tie.spec (search rules) tail-bytes-at-requires (search rules) returns)

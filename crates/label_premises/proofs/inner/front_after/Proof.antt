@@ -4,8 +4,8 @@ use Rattle.label_premises.proofs.inner.front_after.Statement.{statement}
 use Rattle.label_premises.proofs.inner.front_after.Tie as tie
 
 returns : tie.Need-returns
-returns c = rw c.before.is-absent.ensures
+returns c = rw c.is_absent.ensures
 
-pub front-after-spec : {M : Type 1} → statement M
-front-after-spec =
+pub front_after_spec : {M : Type 1} → statement M
+front_after_spec =
     tie.close (tie.spec (search rules) returns)

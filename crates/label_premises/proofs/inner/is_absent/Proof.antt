@@ -6,8 +6,8 @@ use Rattle.label_premises.proofs.inner.is_absent.Statement.{statement}
 use Rattle.label_premises.proofs.inner.is_absent.Tie as tie
 
 returns : tie.Need-returns
-returns c = rw (sym c.text_of.ensures) (empty-length c.text_of.result.now)
+returns c = rw (sym c.text_of-t.ensures) (empty-length c.text_of-t.result.now)
 
-pub is-absent-spec : {M : Type 1} → statement M
-is-absent-spec =
+pub is_absent_spec : {M : Type 1} → statement M
+is_absent_spec =
     tie.close (tie.spec (search rules) returns)

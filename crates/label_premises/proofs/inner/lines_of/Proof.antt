@@ -6,38 +6,38 @@ use Rattle.label.specs.Rows.{no_text}
 use Rattle.label_premises.proofs.inner.lines_of.Statement.{statement}
 use Rattle.label_premises.proofs.inner.lines_of.Tie as tie
 
-none : (c : tie.After-no-text) → c.no_text.result ≡ no_text
-none c = c.no_text.ensures
+none : (c : tie.After-no_text-none) → c.no_text-none.result ≡ no_text
+none c = c.no_text-none.ensures
 
-bare : tie.Need-returns
-bare c = rw (c.before.enum_told.given.1, c.lines_at.ensures, none c.before.before.before.before.before)
+bare : tie.Need-returns-in-Bare
+bare c = rw (c.in-Bare.is, c.lines_at.ensures, none c.before.before.before.before)
 
-name-line : tie.Need-returns-2
-name-line c = rw (c.before.enum-told2.given.1, c.lines-at2.ensures, none c.before.before.before.before.before)
+name-line : tie.Need-returns-in-NameLine
+name-line c = rw (c.in-NameLine.is, c.lines_at-in-NameLine.ensures, none c.before.before.before.before)
 
-name-front : tie.Need-returns-3
-name-front c = rw (c.before.enum-told3.given.1, c.lines-at3.ensures, none c.before.before.before.before.before)
+name-front : tie.Need-returns-in-NameFront
+name-front c = rw (c.in-NameFront.is, c.lines_at-in-NameFront.ensures, none c.before.before.before.before)
 
-sub-line : tie.Need-returns-4
-sub-line c = rw (c.before.enum-told4.given.1, c.lines-at4.ensures, none c.before.before.before.before.before)
+sub-line : tie.Need-returns-in-SubLine
+sub-line c = rw (c.in-SubLine.is, c.lines_at-in-SubLine.ensures, none c.before.before.before.before)
 
-sub-front : tie.Need-returns-5
-sub-front c = rw (c.before.enum-told5.given.1, c.lines-at5.ensures, none c.before.before.before.before.before)
+sub-front : tie.Need-returns-in-SubFront
+sub-front c = rw (c.in-SubFront.is, c.lines_at-in-SubFront.ensures, none c.before.before.before.before)
 
-both-line : tie.Need-returns-6
-both-line c = rw (c.before.enum-told6.given.1, c.lines-at6.ensures, none c.before.before.before.before.before)
+both-line : tie.Need-returns-in-BothLine
+both-line c = rw (c.in-BothLine.is, c.lines_at-in-BothLine.ensures, none c.before.before.before.before)
 
-both-front : tie.Need-returns-7
-both-front c = rw (c.before.enum-told7.given.1, c.lines-at7.ensures, none c.before.before.before.before.before)
+both-front : tie.Need-returns-in-BothFront
+both-front c = rw (c.in-BothFront.is, c.lines_at-in-BothFront.ensures, none c.before.before.before.before)
 
-sub-line-name-front : tie.Need-returns-8
-sub-line-name-front c = rw (c.before.enum-told8.given.1, c.lines-at8.ensures, none c.before.before.before.before.before)
+sub-line-name-front : tie.Need-returns-in-SubLineNameFront
+sub-line-name-front c = rw (c.in-SubLineNameFront.is, c.lines_at-in-SubLineNameFront.ensures, none c.before.before.before.before)
 
-two-lines : tie.Need-returns-9
-two-lines c = rw (c.before.enum-told9.given.1, c.lines-at9.ensures, none c.before.before.before.before.before)
+two-lines : tie.Need-returns-in-TwoLines
+two-lines c = rw (c.in-TwoLines.is, c.lines_at-in-TwoLines.ensures, none c.before.before.before.before)
 
-pub lines-of-spec : {M : Type 1} → statement M
-lines-of-spec =
+pub lines_of_spec : {M : Type 1} → statement M
+lines_of_spec =
     tie.close
     (tie.spec (search rules) (search rules) (search rules) (search rules) (search rules) (search rules)
     (search rules) (search rules) (search rules) (search rules) (search rules) (search rules) (search rules)

@@ -4,8 +4,8 @@ use Rattle.label_premises.proofs.inner.no_front.Statement.{statement}
 use Rattle.label_premises.proofs.inner.no_front.Tie as tie
 
 returns : tie.Need-returns
-returns c = rw c.no_text.ensures
+returns c = rw c.no_text-none.ensures
 
-pub no-front-spec : {M : Type 1} → statement M
-no-front-spec =
+pub no_front_spec : {M : Type 1} → statement M
+no_front_spec =
     tie.close (tie.spec (search rules) returns)

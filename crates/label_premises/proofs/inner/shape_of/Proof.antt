@@ -5,8 +5,8 @@ use Rattle.label_premises.proofs.inner.shape_of.Tie as tie
 
 returns : tie.Need-returns
 returns c =
-    rw (c.shape-by.ensures, c.before.before.text-of2.ensures, c.before.before.before.text_of.ensures)
+    rw (c.shape_by.ensures, c.text_of-n.ensures, c.text_of-s.ensures)
 
-pub shape-of-spec : {M : Type 1} → statement M
-shape-of-spec =
+pub shape_of_spec : {M : Type 1} → statement M
+shape_of_spec =
     tie.close (tie.spec (search rules) (search rules) (search rules) returns)

@@ -10,19 +10,19 @@ use Rattle.mainfile_addresses.proofs.fine.are_keys.Tie as tie
 
 returns : tie.Need-returns
 returns c =
-    let other = c.before in
-    let most = other.before in
-    let part = most.before in
-    let rec = part.before.before.args.rec.now in
+    let other = c in
+    let most = other in
+    let part = most in
+    let rec = part.args.rec.now in
     λ e.
-    let front = most.are-digits.result in
+    let front = most.are_digits-most.result in
     digits-none _
     (overlap rec digit 7 61 71 77 (lit≤ tt) (lit≤ tt) (lit≤ tt)
-    (rw part.part_of.ensures at (sym most.are-digits.ensures ∙ and_left front _ e))
-    (rw other.part-of2.ensures at (sym c.are-digits2.ensures ∙ and_right front _ e)))
+    (rw part.part_of.ensures at (sym most.are_digits-most.ensures ∙ and_left front _ e))
+    (rw other.part_of-2.ensures at (sym c.are_digits-rest.ensures ∙ and_right front _ e)))
 
-pub are-keys-spec : {M : Type 1} → statement M
-are-keys-spec =
+pub are_keys_spec : {M : Type 1} → statement M
+are_keys_spec =
     tie.close
     (tie.spec
     (search rules)

@@ -13,8 +13,8 @@ use Rattle.mainfile_build.proofs.points.offsets_at.Statement.{statement}
 use Rattle.mainfile_build.proofs.points.offsets_at.Tie as tie
 
 -- once the rows are looked up
-module _ (looked : tie.After-kind-rows) where
-  abbrev read : tie.After-delivery-at
+module _ (looked : tie.After-kind_rows-found) where
+  abbrev read : tie.After-delivery_at-p
   read = looked.before.before
 
   abbrev start : tie.Start
@@ -27,14 +27,14 @@ module _ (looked : tie.After-kind-rows) where
       a.organisations.now a.addresses.now
 
   abbrev rows : List ℕ
-  rows = looked.kind-rows.result.rows
+  rows = looked.kind_rows-found.result.rows
 
   rows_are : rows ≡ rows_at files start.args.i
   rows_are =
-      looked.kind-rows.ensures
-      ∙ ap (λ (p : DeliveryPoint). rows_by (kind_found files) (asked_of p)) read.delivery-at.ensures
+      looked.kind_rows-found.ensures
+      ∙ ap (λ (p : DeliveryPoint). rows_by (kind_found files) (asked_of p)) read.delivery_at-p.ensures
 
-offsets-of-requires : tie.Need-offsets-of-requires
+offsets-of-requires : tie.Need-offsets_of-requires
 offsets-of-requires c κs =
     let k = c.before in
     let p = (start k).requires in
@@ -44,9 +44,9 @@ returns : tie.Need-returns
 returns c =
     let k = c.before.before in
     let p = (start k).requires in
-    c.offsets-of.ensures
+    c.offsets_of.ensures
     ∙ offsets-placed (files k) p.0 (start k).args.i p.1.0 p.1.1 (rows k) (rows_are k)
-    (read k).delivery-at.ensures
+    (read k).delivery_at-p.ensures
 
-pub offsets-at-spec : {M : Type 1} → statement M
-offsets-at-spec = tie.close (tie.spec (search rules) (search rules) offsets-of-requires returns)
+pub offsets_at_spec : {M : Type 1} → statement M
+offsets_at_spec = tie.close (tie.spec (search rules) (search rules) offsets-of-requires returns)

@@ -22,7 +22,7 @@ use Rattle.mainfile_build.proofs.Laws.{stop-few, packed-same, inside-stretch}
 use Rattle.mainfile_build.proofs.points.points_at.Statement.{statement}
 use Rattle.mainfile_build.proofs.points.points_at.Tie as tie
 
-abbrev invariant-loop : tie.invariant-loop
+abbrev invariant-loop : tie.invariant-loop-i
 invariant-loop localities thoroughfares descriptors buildings sub_buildings organisations addresses of_localities of_thoroughfares
     of_descriptors of_buildings of_sub_buildings locality-blocks thoroughfare-blocks descriptor-blocks building-blocks
     sub-building-blocks code first many start at out₀ stop row₀ end₀ i₀ out row end i =
@@ -35,7 +35,7 @@ invariant-loop localities thoroughfares descriptors buildings sub_buildings orga
     × Going (set_points files code of_localities of_thoroughfares of_descriptors of_buildings of_sub_buildings start)
     (points_in (set_stock files) addresses organisations starts row left) out₀ at end out
 
-abbrev decreases-loop : tie.decreases-loop
+abbrev decreases-loop : tie.decreases-loop-i
 decreases-loop localities thoroughfares descriptors buildings sub_buildings organisations addresses of_localities of_thoroughfares
     of_descriptors of_buildings of_sub_buildings locality-blocks thoroughfare-blocks descriptor-blocks building-blocks
     sub-building-blocks code first many start at out₀ stop row₀ end₀ i₀ out row end i = stop - i
@@ -67,134 +67,134 @@ module _ (s : tie.Start invariant-loop decreases-loop) where
   points row ds = points_in (set_stock files) own others starts row ds
 
 -- the start, before the slices are looked at
-module _ (k : tie.After-slice-known invariant-loop decreases-loop) where
+module _ (k : tie.After-slice_known-1 invariant-loop decreases-loop) where
   abbrev start_of : tie.Start invariant-loop decreases-loop
   start_of = k.before.before.before.before.before.before.before.before.before.before.before.before.before.before.before.before.before.before.before
 
-add-stop : tie.Need-overflow-add-stop invariant-loop decreases-loop
-add-stop c = let s = start_of c in omega (arith, stop-few (files s) s.pre.0)
+add-stop : tie.Need-overflow_add-stop invariant-loop decreases-loop
+add-stop c = let s = start_of c in omega (arith, stop-few (files s) s.requires.placed)
 
-loop-holds : tie.Need-loop-init invariant-loop decreases-loop
+loop-holds : tie.Need-loop-i-init invariant-loop decreases-loop
 loop-holds c =
     let s = start_of c in
     let a = s.args in
-    let same = packed-same (files s) s.pre.0 in (
+    let same = packed-same (files s) s.requires.placed in (
       refl,
       omega arith,
-      omega (arith, s.pre.1.0, ap (λ (ds : List Packed). length (organisation_rows (others s) ds)) same),
+      omega (arith, s.requires.code_bound, ap (λ (ds : List Packed). length (organisation_rows (others s) ds)) same),
       going-as (ap (points s a.start) same) (going_start _ a.out.now a.at),
     )
 
 -- once the offsets of record `i` are found
-module _ (o : tie.After-offsets-at invariant-loop decreases-loop) where
-  abbrev d : tie.After-delivery-at invariant-loop decreases-loop
+module _ (o : tie.After-offsets_at-offsets invariant-loop decreases-loop) where
+  abbrev d : tie.After-delivery_at-p invariant-loop decreases-loop
   d = o.before
 
-  abbrev t : tie.In-loop invariant-loop decreases-loop
+  abbrev t : tie.In-loop-i invariant-loop decreases-loop
   t = d.before
 
-  abbrev l : tie.At-loop invariant-loop decreases-loop
+  abbrev l : tie.At-loop-i invariant-loop decreases-loop
   l = t.before
 
   abbrev f : tie.Start invariant-loop decreases-loop
   f = start_of l.before
 
   abbrev i : ℕ
-  i = l.loop.i
+  i = l.loop-i.i
 
   abbrev rest : List Packed
   rest = packed_by (own f) (others f) (i + 1) (stop f - (i + 1))
 
   step : packed_by (own f) (others f) i (stop f - i) ≡ packed_at (own f) (others f) i ∷ rest
-  step = packed_step (own f) (others f) i (stop f) t.loop-test.taken
+  step = packed_step (own f) (others f) i (stop f) t.loop-i-test.taken
 
   left : Going (set_points (files f) f.args.code.now f.args.of_localities.now f.args.of_thoroughfares.now
       f.args.of_descriptors.now f.args.of_buildings.now f.args.of_sub_buildings.now f.args.start)
-      (points f l.loop.row (packed_at (own f) (others f) i ∷ rest)) f.args.out.now f.args.at l.loop.end
-      l.loop.out
-  left = going-as (ap (points f l.loop.row) step) l.loop.inv.3
+      (points f l.loop-i.row (packed_at (own f) (others f) i ∷ rest)) f.args.out.now f.args.at l.loop-i.end
+      l.loop-i.out
+  left = going-as (ap (points f l.loop-i.row) step) l.loop-i.invariant.3
 
   inside : Inside (own f) (others f) (point_at (files f) i)
-  inside = inside-stretch (files f) f.pre.0 i t.loop-test.taken
+  inside = inside-stretch (files f) f.requires.placed i t.loop-i-test.taken
 
-  same : point_with (own f) d.delivery-at.result o.offsets-at.result.of_keys l.loop.row
-      ≡ point_in (own f) (starts f) (point_at (files f) i) (rows_of (set_stock (files f)) (point_at (files f) i)) l.loop.row
+  same : point_with (own f) d.delivery_at-p.result o.offsets_at-offsets.result.of_keys l.loop-i.row
+      ≡ point_in (own f) (starts f) (point_at (files f) i) (rows_of (set_stock (files f)) (point_at (files f) i)) l.loop-i.row
   same =
-      ap₂ (λ (p : DeliveryPoint) (os : List ℕ). point_with (own f) p os l.loop.row) d.delivery-at.ensures
-      o.offsets-at.ensures
+      ap₂ (λ (p : DeliveryPoint) (os : List ℕ). point_with (own f) p os l.loop-i.row) d.delivery_at-p.ensures
+      o.offsets_at-offsets.ensures
 
   more : length (organisation_rows (others f) (packed_by (own f) (others f) i (stop f - i)))
       ≡ length (organisation_row (others f) (point_at (files f) i)) + length (organisation_rows (others f) rest)
   more = organisations-length (others f) (packed_at (own f) (others f) i) rest step
 
-offsets-at-requires : tie.Need-offsets-at-requires invariant-loop decreases-loop
+offsets-at-requires : tie.Need-offsets_at-offsets-requires invariant-loop decreases-loop
 offsets-at-requires c κs =
-    let t = c.before in
-    let l = t.before in
+    let t = c in
+    let l = t in
     let f = start_of l.before in
-    (f.pre.0, (l.loop.invariant.1, t.loop-test.true))
+    (f.requires.placed, (l.loop-i.invariant.1, t.loop-i-test.true))
 
-point-at-requires : tie.Need-point-at-requires invariant-loop decreases-loop
+point-at-requires : tie.Need-point_at-end-requires invariant-loop decreases-loop
 point-at-requires c κs =
     let o = c.before in (
-      rw (d o).delivery-at.ensures (record { postcode = (inside o).postcode; suffix = (inside o).suffix; box = (inside o).box }),
-      room_as (l o).loop.out (l o).loop.end (same o)
+      rw (d o).delivery_at-p.ensures (record { postcode = (inside o).postcode; suffix = (inside o).suffix; box = (inside o).box }),
+      room_as (l o).loop-i.out (l o).loop-i.end (same o)
           (point-room (packed_at (own (f o)) (others (f o)) (i o)) (rest o) (f o).requires.1.1 (set_stock (files (f o)))
-          (own (f o)) (others (f o)) (starts (f o)) (l o).loop.row (left o)),
+          (own (f o)) (others (f o)) (starts (f o)) (l o).loop-i.row (left o)),
     )
 
-organisation-len-requires : tie.Need-organisation-len-requires invariant-loop decreases-loop
+organisation-len-requires : tie.Need-organisation_len-row-requires invariant-loop decreases-loop
 organisation-len-requires c κs =
     let o = c.before.before.before.before in
-    rw (d o).delivery-at.ensures (inside o).organisation
+    rw (d o).delivery_at-p.ensures (inside o).organisation
 
 -- how long its organisation's row is
-len : (c : tie.After-organisation-len invariant-loop decreases-loop)
-    → c.organisation-len.result
+len : (c : tie.After-organisation_len-row invariant-loop decreases-loop)
+    → c.organisation_len-row.result
     ≡ length (organisation_row (others (f c.before.before.before.before.before))
     (point_at (files (f c.before.before.before.before.before)) (i c.before.before.before.before.before)))
 len c =
     let o = c.before.before.before.before.before in
-    c.organisation-len.ensures.0
-    ∙ ap (λ (p : DeliveryPoint). length (organisation_row (others (f o)) p)) (d o).delivery-at.ensures
+    c.organisation_len-row.ensures.0
+    ∙ ap (λ (p : DeliveryPoint). length (organisation_row (others (f o)) p)) (d o).delivery_at-p.ensures
 
-add_row : tie.Need-overflow-add-row invariant-loop decreases-loop
+add_row : tie.Need-overflow_add-row invariant-loop decreases-loop
 add_row c =
     let o = c.before.before.before.before.before in
     omega (
       arith,
       more o,
       len c,
-      (l o).loop.invariant.2,
+      (l o).loop-i.invariant.2,
       (f o).well_formed.1.1.1.1.1.1.1.1.1.1.1.1.1.1.1.1.1.1.1.1.1.0,
     )
 
-add-i : tie.Need-overflow-add-i invariant-loop decreases-loop
+add-i : tie.Need-overflow_add-i invariant-loop decreases-loop
 add-i c =
     let o = c.before.before.before.before.before in
-    omega (arith, (t o).loop-test.true, stop-few (files (f o)) (f o).requires.0)
+    omega (arith, (t o).loop-i-test.true, stop-few (files (f o)) (f o).requires.0)
 
-loop-again : tie.Need-loop-preserved invariant-loop decreases-loop
+loop-again : tie.Need-loop-i-preserved invariant-loop decreases-loop
 loop-again c =
     let n = c in
-    let w = n.before.before.before in
+    let w = n in
     let o = w.before.before in (
-      w.point_at.auto.1.1.1.1.1.0 ∙ (l o).loop.invariant.0,
-      omega (arith, (l o).loop.invariant.1),
-      omega (arith, more o, len n, (l o).loop.invariant.2),
+      w.point_at-end.auto.1.1.1.1.1.0 ∙ (l o).loop-i.invariant.0,
+      omega (arith, (l o).loop-i.invariant.1),
+      omega (arith, more o, len n, (l o).loop-i.invariant.2),
       point-on (packed_at (own (f o)) (others (f o)) (i o)) (rest o) (f o).requires.1.1 (set_stock (files (f o))) (own (f o))
-          (others (f o)) (starts (f o)) (l o).loop.row (left o) (len n) (put_as (same o) w.point_at.ensures),
+          (others (f o)) (starts (f o)) (l o).loop-i.row (left o) (len n) (put_as (same o) w.point_at-end.ensures),
     )
 
 returns : tie.Need-returns invariant-loop decreases-loop
 returns c =
-    let l = c.before in
+    let l = c in
     let s = start_of l.before in
-    let none = packed-end (own s) (others s) l.loop.i (stop s) c.loop-test.false in
-    going_end (going-as (ap (points s l.loop.row) none) l.loop.invariant.3)
+    let none = packed-end (own s) (others s) l.loop-i.i (stop s) c.loop-i-test.false in
+    going_end (going-as (ap (points s l.loop-i.row) none) l.loop-i.invariant.3)
 
-pub points-at-spec : {M : Type 1} → statement M
-points-at-spec =
+pub points_at_spec : {M : Type 1} → statement M
+points_at_spec =
     tie.close
     (tie.spec invariant-loop decreases-loop add-stop loop-holds (search rules) offsets-at-requires point-at-requires
     organisation-len-requires add_row add-i (search rules) loop-again (search rules) returns)

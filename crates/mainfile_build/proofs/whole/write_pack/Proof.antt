@@ -25,7 +25,7 @@ use Rattle.mainfile_build.proofs.whole.write_pack.Statement.{statement}
 use Rattle.mainfile_build.proofs.whole.write_pack.Tie as tie
 
 -- what is handed in
-module _ (k : tie.After-slice-known) where
+module _ (k : tie.After-slice_known-1) where
   abbrev start : tie.Start
   start =
       k.before.before.before.before.before.before.before.before.before.before.before.before.before.before.before.before.before.before.before
@@ -73,18 +73,18 @@ module _ (k : tie.After-slice-known) where
   behind-points = trailer_from st own others starts ds code rows many
 
   room : 0 + length pack ≤ length start.args.out.now
-  room = pack-room st own others starts ds code rows many start.pre.1
+  room = pack-room st own others starts ds code rows many start.requires.ready_for
 
   -- all points have one width
   points-size : (i : ℕ) → point_width newest * many ≤ length (points_in st own others starts i ds)
   points-size i =
-      let ok = start.pre.0.marks.judged.of_set in
-      omega (arith, points-long st starts i (all_say files ok code) (all-within files ok code), start.pre.1.of_points)
+      let ok = start.requires.placed.marks.judged.of_set in
+      omega (arith, points-long st starts i (all_say files ok code) (all-within files ok code), start.requires.ready_for.of_points)
 
   same-ds : ds ≡ packed_by own others start.args.first many
-  same-ds = packed-is files start.pre.0
+  same-ds = packed-is files start.requires.placed
 
-set-rows-at-requires : tie.Need-set-rows-at-requires
+set-rows-at-requires : tie.Need-set_rows_at-i-requires
 set-rows-at-requires c κs =
     let k = c.before in
     let i = length (used_rows (st k) (starts k)) in
@@ -100,62 +100,62 @@ set-rows-at-requires c κs =
     )
 
 -- the rows are written
-module _ (r : tie.After-set-rows-at) where
-  abbrev r-start : tie.After-slice-known
+module _ (r : tie.After-set_rows_at-i) where
+  abbrev r-start : tie.After-slice_known-1
   r-start = r.before.before
 
   abbrev rows_end : ℕ
-  rows_end = r.set-rows-at.result
+  rows_end = r.set_rows_at-i.result
 
   rows-put : Put (used_rows (st r-start) (starts r-start)) (start r-start).args.out.now 0 rows_end
-      r.set-rows-at.last.1.1.1.1.1.1.1.1.1.1.1.0
-  rows-put = put_as (rows_are (files r-start) (start r-start).pre.0) r.set-rows-at.ensures
+      r.set_rows_at-i.last.1.1.1.1.1.1.1.1.1.1.1.0
+  rows-put = put_as (rows_are (files r-start) (start r-start).requires.placed) r.set_rows_at-i.ensures
 
-organisations-at-requires : tie.Need-organisations-at-requires
+organisations-at-requires : tie.Need-organisations_at-j-requires
 organisations-at-requires c κs =
     let r = c.before.before.before in
     let k = r-start r in
     let organisations = organisation_rows (others k) (ds k) in
     let j = rows_end r + length organisations in (
-      standing (files k) (start k).pre.0,
+      standing (files k) (start k).requires.placed,
       omega (
         arith,
         ap (λ (x : List Packed). length (organisation_rows (others k) x)) (same-ds k),
         going-room organisations (behind k (rows_end r) j)
-            (after-rows (st k) (own k) (others k) (starts k) (ds k) (code k) (rows k) (many k) (start k).pre.1 (rows-put r) j
+            (after-rows (st k) (own k) (others k) (starts k) (ds k) (code k) (rows k) (many k) (start k).requires.ready_for (rows-put r) j
             refl)
             (room k),
       ),
     )
 
 -- so are the organisations' rows
-module _ (o : tie.After-organisations-at) where
-  abbrev o-rows : tie.After-set-rows-at
+module _ (o : tie.After-organisations_at-j) where
+  abbrev o-rows : tie.After-set_rows_at-i
   o-rows = o.before.before.before.before
 
-  abbrev o-start : tie.After-slice-known
+  abbrev o-start : tie.After-slice_known-1
   o-start = r-start o-rows
 
   abbrev organisations-end : ℕ
-  organisations-end = o.organisations-at.result
+  organisations-end = o.organisations_at-j.result
 
   organisations-put : Put (organisation_rows (others o-start) (ds o-start))
-      o-rows.set-rows-at.last.1.1.1.1.1.1.1.1.1.1.1.0 (rows_end o-rows) organisations-end
-      o.organisations-at.last.1.1.1.1.1.0
-  organisations-put = put_as (ap (organisation_rows (others o-start)) (sym (same-ds o-start))) o.organisations-at.ensures
+      o-rows.set_rows_at-i.last.1.1.1.1.1.1.1.1.1.1.1.0 (rows_end o-rows) organisations-end
+      o.organisations_at-j.last.1.1.1.1.1.0
+  organisations-put = put_as (ap (organisation_rows (others o-start)) (sym (same-ds o-start))) o.organisations_at-j.ensures
 
   points_left : Going (pack o-start) (behind o-start (rows_end o-rows) organisations-end) (start o-start).args.out.now 0
-      organisations-end o.organisations-at.last.1.1.1.1.1.0
+      organisations-end o.organisations_at-j.last.1.1.1.1.1.0
   points_left =
       after-organisations (st o-start) (own o-start) (others o-start) (starts o-start) (ds o-start) (code o-start)
-      (rows o-start) (many o-start) (start o-start).pre.1 (rows-put o-rows) organisations-put
+      (rows o-start) (many o-start) (start o-start).requires.ready_for (rows-put o-rows) organisations-put
 
-points-at-requires : tie.Need-points-at-requires
+points-at-requires : tie.Need-points_at-k-requires
 points-at-requires c κs =
     let o = c.before.before.before in
     let k = o-start o in
     let i = rows_end (o-rows o) in (
-      (start k).pre.0,
+      (start k).requires.placed,
       (
         omega (arith, (organisations-put o).size),
         going-room (points_in (st k) (own k) (others k) (starts k) i (ds k))
@@ -164,48 +164,48 @@ points-at-requires c κs =
     )
 
 -- and the points
-module _ (p : tie.After-points-at) where
-  abbrev p-organisations : tie.After-organisations-at
+module _ (p : tie.After-points_at-k) where
+  abbrev p-organisations : tie.After-organisations_at-j
   p-organisations = p.before.before.before.before
 
-  abbrev p-start : tie.After-slice-known
+  abbrev p-start : tie.After-slice_known-1
   p-start = o-start p-organisations
 
   abbrev out-with-points : List ℕ
-  out-with-points = p.points-at.last.1.1.1.1.1.1.1.1.1.1.1.1.1.1.1.1.1.1.1.1.1.1.0
+  out-with-points = p.points_at-k.last.1.1.1.1.1.1.1.1.1.1.1.1.1.1.1.1.1.1.1.1.1.1.0
 
   trailer-left : Going (pack p-start)
       (trailer_bytes newest (rows p-start) (organisations-end p-organisations) (many p-start) (code p-start)
       (counts_at_in out-with-points (many p-start) (organisations-end p-organisations)))
-      (start p-start).args.out.now 0 p.points-at.result out-with-points
+      (start p-start).args.out.now 0 p.points_at-k.result out-with-points
   trailer-left =
       after-points (st p-start) (own p-start) (others p-start) (starts p-start) (ds p-start) (code p-start) (rows p-start)
-      (many p-start) (start p-start).pre.1 (rows-put (o-rows p-organisations)) (organisations-put p-organisations)
-      p.points-at.ensures (points-size p-start (rows_end (o-rows p-organisations)))
+      (many p-start) (start p-start).requires.ready_for (rows-put (o-rows p-organisations)) (organisations-put p-organisations)
+      p.points_at-k.ensures (points-size p-start (rows_end (o-rows p-organisations)))
 
-trailer-at-requires : tie.Need-trailer-at-requires
+trailer-at-requires : tie.Need-trailer_at-requires
 trailer-at-requires c κs =
     let p = c.before.before.before in
     let k = p-start p in (
       omega (
         arith,
         going-left (points_left (p-organisations p)) (room k),
-        stop-few (files k) (start k).pre.0,
+        stop-few (files k) (start k).requires.placed,
         (start k).good,
       ),
       (
-        omega (arith, p.points-at.ensures.size, points-size k (rows_end (o-rows (p-organisations p)))),
+        omega (arith, p.points_at-k.ensures.size, points-size k (rows_end (o-rows (p-organisations p)))),
         going-left (trailer-left p) (room k),
       ),
     )
 
 returns : tie.Need-returns
 returns c =
-    let t = c.before.before in
+    let t = c in
     let p = t.before.before.before.before in
-    wrote (going-last (trailer-left p) t.trailer-at.ensures (room (p-start p)))
+    wrote (going-last (trailer-left p) t.trailer_at.ensures (room (p-start p)))
 
-pub write-pack-spec : {M : Type 1} → statement M
-write-pack-spec =
+pub write_pack_spec : {M : Type 1} → statement M
+write_pack_spec =
     tie.close
     (tie.spec set-rows-at-requires organisations-at-requires points-at-requires trailer-at-requires (search rules) returns)

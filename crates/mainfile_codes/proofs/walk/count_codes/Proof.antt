@@ -12,15 +12,15 @@ use Rattle.mainfile_codes.proofs.Stretches.{entries_from, entries-end, Onward, l
 use Rattle.mainfile_codes.proofs.walk.count_codes.Statement.{statement}
 use Rattle.mainfile_codes.proofs.walk.count_codes.Tie as tie
 
-abbrev invariant-loop : tie.invariant-loop
+abbrev invariant-loop : tie.invariant-loop-i
 invariant-loop addresses views n₀ i₀ n i =
     (1 ≤ i) × (i ≤ last_of addresses) × (n + length (entries_from addresses i) ≡ length (codes_in addresses))
 
-abbrev decreases-loop : tie.decreases-loop
+abbrev decreases-loop : tie.decreases-loop-i
 decreases-loop addresses views n₀ i₀ n i = last_of addresses - i
 
-module _ (n : tie.In-loop invariant-loop decreases-loop) where
-  abbrev l : tie.At-loop invariant-loop decreases-loop
+module _ (n : tie.In-loop-i invariant-loop decreases-loop) where
+  abbrev l : tie.At-loop-i invariant-loop decreases-loop
   l = n.before
 
   abbrev s : tie.Start invariant-loop decreases-loop
@@ -29,52 +29,52 @@ module _ (n : tie.In-loop invariant-loop decreases-loop) where
   abbrev file : List ℕ
   file = s.args.addresses.now
 
-  inside : l.loop.i < last_of file
-  inside = omega (arith, n.loop-test.taken, l.before.all_in.ensures.1, last-is file s.pre)
+  inside : l.loop-i.i < last_of file
+  inside = omega (arith, n.loop-i-test.taken, l.all_in-all.ensures.1, last-is file s.pre)
 
 -- once the end of a code's addresses is known
-module _ (e : tie.After-end-from invariant-loop decreases-loop) where
-  abbrev turn : tie.In-loop invariant-loop decreases-loop
+module _ (e : tie.After-end_from-i invariant-loop decreases-loop) where
+  abbrev turn : tie.In-loop-i invariant-loop decreases-loop
   turn = e.before
 
-  on : Onward (file turn) (l turn).loop.i e.end-from.result
-  on = onward (file turn) (s turn).pre _ (l turn).loop.inv.0 (inside turn) _ e.end-from.ensures
+  on : Onward (file turn) (l turn).loop-i.i e.end_from-i.result
+  on = onward (file turn) (s turn).pre _ (l turn).loop-i.invariant.0 (inside turn) _ e.end_from-i.ensures
 
-loop-holds : tie.Need-loop-init invariant-loop decreases-loop
+loop-holds : tie.Need-loop-i-init invariant-loop decreases-loop
 loop-holds c =
-    let s = c.before.before in
+    let s = c in
     let file = s.args.addresses.now in
     (omega arith, omega (arith, last-is file s.requires), omega (arith, ap length (entries-start file s.requires)))
 
-end-from-requires : tie.Need-end-from-requires invariant-loop decreases-loop
+end-from-requires : tie.Need-end_from-i-requires invariant-loop decreases-loop
 end-from-requires c κs = omega (arith, inside c)
 
-add-n : tie.Need-overflow-add-n invariant-loop decreases-loop
+add-n : tie.Need-overflow_add-n invariant-loop decreases-loop
 add-n c =
     let n = turn c in
-    omega (arith, (l n).loop.inv.2, entries-few (file n) (s n).pre)
+    omega (arith, (l n).loop-i.invariant.2, entries-few (file n) (s n).pre)
 
-loop-less : tie.Need-loop-smaller invariant-loop decreases-loop
+loop-less : tie.Need-loop-i-smaller invariant-loop decreases-loop
 loop-less c = omega (arith, (on c).further, (on c).within)
 
-loop-again : tie.Need-loop-preserved invariant-loop decreases-loop
+loop-again : tie.Need-loop-i-preserved invariant-loop decreases-loop
 loop-again c =
     let o = on c in
-    (omega (arith, o.further), o.within, omega (arith, ap length o.entries, (l (turn c)).loop.inv.2))
+    (omega (arith, o.further), o.within, omega (arith, ap length o.entries, (l (turn c)).loop-i.invariant.2))
 
 returns : tie.Need-returns invariant-loop decreases-loop
 returns c =
-    let l = c.before in
-    let s = l.before.before.before in
+    let l = c in
+    let s = l in
     let file = s.args.addresses.now in
-    let all_seen : last_of file ≤ l.loop.i =
-    omega (arith, c.loop-test.false, l.before.all_in.ensures.1, last-is file s.requires) in
-    let none = ap length (entries-end file l.loop.i all_seen) in
-    let is : l.loop.n ≡ length (codes_in file) = omega (arith, none, l.loop.invariant.2) in
+    let all_seen : last_of file ≤ l.loop-i.i =
+    omega (arith, c.loop-i-test.false, l.all_in-all.ensures.1, last-is file s.requires) in
+    let none = ap length (entries-end file l.loop-i.i all_seen) in
+    let is : l.loop-i.n ≡ length (codes_in file) = omega (arith, none, l.loop-i.invariant.2) in
     (is, omega (arith, entries-few file s.requires))
 
-pub count-codes-spec : {M : Type 1} → statement M
-count-codes-spec =
+pub count_codes_spec : {M : Type 1} → statement M
+count_codes_spec =
     tie.close
     (tie.spec
     invariant-loop

@@ -5,8 +5,8 @@ use Rattle.mainfile_codes.proofs.walk.end_from.Tie as tie
 
 returns : tie.Need-returns
 returns c =
-    let code = c.before in
-    rw (c.end-in.ensures, code.part_of.ensures, code.before.whole-record.ensures)
+    let code = c in
+    rw (c.end_in.ensures, code.part_of-code.ensures, code.whole_record-rec.ensures)
 
-pub end-from-spec : {M : Type 1} → statement M
-end-from-spec = tie.close (tie.spec (search rules) (search rules) (search rules) returns)
+pub end_from_spec : {M : Type 1} → statement M
+end_from_spec = tie.close (tie.spec (search rules) (search rules) (search rules) returns)

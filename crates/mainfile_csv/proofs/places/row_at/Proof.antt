@@ -20,23 +20,23 @@ use Rattle.mainfile_csv.specs.Rows.{address_at}
 use Rattle.mainfile_csv.proofs.places.row_at.Statement.{statement}
 use Rattle.mainfile_csv.proofs.places.row_at.Tie as tie
 
-returns : tie.Need-returns
+returns : tie.Need-returns-then-place-eq0
 returns c =
-    let a = c.before.before.before.before.before.before.before.before.before.args in
+    let a = c.args in
     let files =
     set_of a.localities.now a.thoroughfares.now a.descriptors.now a.buildings.now a.subs.now
     a.organisations.now a.addresses.now in
-    sym (no_place (set_lookup files) (address_at files a.place) a.place a.out.now c.if1.true)
+    sym (no_place (set_lookup files) (address_at files a.place) a.place a.out.now c.if-place-eq0.true)
 
 -- once the rows are looked up
-module _ (judged : tie.After-refusal-in) where
-  abbrev looked : tie.After-kind-rows
+module _ (judged : tie.After-refusal_in) where
+  abbrev looked : tie.After-kind_rows-found
   looked = judged.before
 
-  abbrev read : tie.After-delivery-at
+  abbrev read : tie.After-delivery_at-p
   read = looked.before.before
 
-  abbrev there : tie.Else1
+  abbrev there : tie.Else-place-eq0
   there = read.before
 
   abbrev start : tie.Start
@@ -60,58 +60,58 @@ module _ (judged : tie.After-refusal-in) where
   high : place < length start.args.addresses.now / 88
   high = omega (arith, start.pre.high)
 
-  inside : Inside files.addresses files.organisations read.delivery-at.result
+  inside : Inside files.addresses files.organisations read.delivery_at-p.result
   inside =
-      subst (λ (p : DeliveryPoint). Inside files.addresses files.organisations p) (sym read.delivery-at.ensures)
+      subst (λ (p : DeliveryPoint). Inside files.addresses files.organisations p) (sym read.delivery_at-p.ensures)
       (inside-at files.addresses files.organisations place high
       (omega (arith, two_records _ _ start.pre.accepted.organisations)))
 
-  rows_are : looked.kind-rows.result.rows ≡ rows_at files place
+  rows_are : looked.kind_rows-found.result.rows ≡ rows_at files place
   rows_are =
-      looked.kind-rows.ensures
-      ∙ ap (λ (p : DeliveryPoint). rows_by (kind_found files) (asked_of p)) read.delivery-at.ensures
+      looked.kind_rows-found.ensures
+      ∙ ap (λ (p : DeliveryPoint). rows_by (kind_found files) (asked_of p)) read.delivery_at-p.ensures
 
-  verdict-is : judged.refusal-in.result ≡ refusal_in (point_at files place) (rows_at files place)
-  verdict-is = judged.refusal-in.ensures ∙ ap₂ refusal_in read.delivery-at.ensures rows_are
+  verdict-is : judged.refusal_in.result ≡ refusal_in (point_at files place) (rows_at files place)
+  verdict-is = judged.refusal_in.ensures ∙ ap₂ refusal_in read.delivery_at-p.ensures rows_are
 
-ending-of-requires : tie.Need-ending-of-requires
+ending-of-requires : tie.Need-ending_of-requires
 ending-of-requires c κs = (inside c.before.before).suffix
 
-write-from-requires : tie.Need-write-from-requires
+write-from-requires : tie.Need-write_from-requires
 write-from-requires c κs = inside c.before.before.before.before
 
-returns-2 : tie.Need-returns-2
+returns-2 : tie.Need-returns-in-Fine
 returns-2 c =
-    let written = c.before.before in
-    let ending = written.before.before in
-    let told = ending.before in
-    let judged = told.before.before in
+    let written = c in
+    let ending = written in
+    let told = ending in
+    let judged = told.before in
     let s = files judged in
     let out = (start judged).args.out.now in
-    let fine = sym (verdict-is judged) ∙ told.enum_told.given.1 in
+    let fine = sym (verdict-is judged) ∙ told.in-Fine.is in
     let resolved = resolved-fine s (start judged).requires.accepted (place judged) (high judged) 0 fine in
-    written.write-from.ensures
+    written.write_from.ensures
     ∙ (ap (λ (e : Elements). written_by ending.Ending-of.result e out)
-    (ap₂ (elements_at s) (read judged).delivery-at.ensures (rows_are judged))
+    (ap₂ (elements_at s) (read judged).delivery_at-p.ensures (rows_are judged))
     ∙ placed-written (look judged) (address judged) (place judged) out s.addresses s.organisations
-    (there judged).if1.false
+    (there judged).if-place-eq0.false
     (says_at s.addresses s.organisations (place judged) (high judged)
     (start judged).requires.accepted.organisations 0)
-    (rw (read judged).delivery-at.ensures at ending.Ending-of.ensures) resolved)
+    (rw (read judged).delivery_at-p.ensures at ending.Ending-of.ensures) resolved)
 
-returns-3 : tie.Need-returns-3
+returns-3 : tie.Need-returns-in-Bad
 returns-3 c =
-    let judged = c.before.before.before in
-    let bad = sym (verdict-is judged) ∙ c.before.reason.given.1 in
+    let judged = c.before in
+    let bad = sym (verdict-is judged) ∙ c.in-Bad.is in
     let resolved =
     resolved-bad (files judged) (start judged).requires.accepted (place judged) (high judged) 0
-    c.before.reason.given.0.0 bad in
+    c.in-Bad.reason bad in
     sym
-    (some-place (look judged) (address judged) (place judged) (start judged).args.out.now (there judged).if1.false _
+    (some-place (look judged) (address judged) (place judged) (start judged).args.out.now (there judged).if-place-eq0.false _
     resolved)
 
-pub row-at-spec : {M : Type 1} → statement M
-row-at-spec =
+pub row_at_spec : {M : Type 1} → statement M
+row_at_spec =
     tie.close
     (tie.spec returns (λ c κs. search rules) (λ c κs. search rules) (λ c κs. search rules) (search rules)
     ending-of-requires write-from-requires (search rules) (search rules) returns-2 returns-3)

@@ -7,25 +7,25 @@ use Rattle.mainfile_csv.proofs.places.write_from.Tie as tie
 
 returns : tie.Need-returns
 returns c =
-    let spans = c.before.before.before.before.before in
-    let localities = spans.before.before in
-    let streets = localities.before.before.before in
-    let premises = streets.before.before.before in
-    let own = premises.before.before.before in
-    let a = own.before.before.before.before.before.before.before.before.before.before.before.args in
+    let spans = c in
+    let localities = spans in
+    let streets = localities in
+    let premises = streets in
+    let own = premises in
+    let a = own.args in
     let files =
     set_of a.localities.now a.thoroughfares.now a.descriptors.now a.buildings.now a.subs.now
     a.organisations.now a.addresses.now in
     rw (
-      spans.spans-from.ensures,
-      gathered files a.p a.found.rows own.gather-own.ensures.0
-          premises.gather-premises.ensures.0 premises.gather-premises.ensures.1
-          streets.gather-streets.ensures.0 streets.gather-streets.ensures.1
-          localities.gather-localities.ensures.0 localities.gather-localities.ensures.1,
-    ) at c.before.before.print-row.ensures
+      spans.spans_from-spans.ensures,
+      gathered files a.p a.found.rows own.gather_own-own.ensures.0
+          premises.gather_premises-premises.ensures.0 premises.gather_premises-premises.ensures.1
+          streets.gather_streets-streets.ensures.0 streets.gather_streets-streets.ensures.1
+          localities.gather_localities-places.ensures.0 localities.gather_localities-places.ensures.1,
+    ) at c.print_row.ensures
 
-pub write-from-spec : {M : Type 1} → statement M
-write-from-spec =
+pub write_from_spec : {M : Type 1} → statement M
+write_from_spec =
     tie.close
     (tie.spec (search rules) (λ c κs. search rules) (search rules) (λ c κs. search rules) (search rules)
     (λ c κs. search rules) (search rules) (λ c κs. search rules) (λ c κs. search rules) (search rules)

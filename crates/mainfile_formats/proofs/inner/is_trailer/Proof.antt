@@ -3,29 +3,29 @@ use borrow.Author.Rules.{rules}
 use Rattle.mainfile_formats.proofs.inner.is_trailer.Statement.{statement}
 use Rattle.mainfile_formats.proofs.inner.is_trailer.Tie as tie
 
-returns : tie.Need-returns
-returns c = rw c.before.enum_told.given.1 c.nines-counted.ensures
+returns : tie.Need-returns-in-Localities
+returns c = rw c.in-Localities.is c.nines_counted.ensures
 
-returns-2 : tie.Need-returns-2
-returns-2 c = rw c.before.enum-told2.given.1 c.nines-counted2.ensures
+returns-2 : tie.Need-returns-in-Thoroughfares
+returns-2 c = rw c.in-Thoroughfares.is c.nines_counted-in-Thoroughfares.ensures
 
-returns-3 : tie.Need-returns-3
-returns-3 c = rw c.before.enum-told3.given.1 c.nines-counted3.ensures
+returns-3 : tie.Need-returns-in-Descriptors
+returns-3 c = rw c.in-Descriptors.is c.nines_counted-in-Descriptors.ensures
 
-returns-4 : tie.Need-returns-4
-returns-4 c = rw c.before.enum-told4.given.1 c.nines-counted4.ensures
+returns-4 : tie.Need-returns-in-Buildings
+returns-4 c = rw c.in-Buildings.is c.nines_counted-in-Buildings.ensures
 
-returns-5 : tie.Need-returns-5
-returns-5 c = rw c.before.enum-told5.given.1 c.nines-counted5.ensures
+returns-5 : tie.Need-returns-in-SubBuildings
+returns-5 c = rw c.in-SubBuildings.is c.nines_counted-in-SubBuildings.ensures
 
-returns-6 : tie.Need-returns-6
-returns-6 c = rw c.before.enum-told6.given.1 c.nines-counted6.ensures
+returns-6 : tie.Need-returns-in-Organisations
+returns-6 c = rw c.in-Organisations.is c.nines_counted-in-Organisations.ensures
 
-returns-7 : tie.Need-returns-7
-returns-7 c = rw c.before.enum-told7.given.1 c.address-trailer-ok.ensures
+returns-7 : tie.Need-returns-in-Addresses
+returns-7 c = rw c.in-Addresses.is c.address_trailer_ok.ensures
 
-pub is-trailer-spec : {M : Type 1} → statement M
-is-trailer-spec =
+pub is_trailer_spec : {M : Type 1} → statement M
+is_trailer_spec =
     tie.close
     (tie.spec
     (search rules)

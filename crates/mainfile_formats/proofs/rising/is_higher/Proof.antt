@@ -3,35 +3,35 @@ use borrow.Author.Rules.{rules}
 use Rattle.mainfile_formats.proofs.rising.is_higher.Statement.{statement}
 use Rattle.mainfile_formats.proofs.rising.is_higher.Tie as tie
 
-is-higher-organisation-requires : tie.Need-is-higher-organisation-requires
-is-higher-organisation-requires c κs = rw c.enum-told6.given.1 at c.before.before.before.before.requires
+is-higher-organisation-requires : tie.Need-is_higher_organisation-requires
+is-higher-organisation-requires c κs = rw c.in-Organisations.is at c.requires
 
-is-higher-address-requires : tie.Need-is-higher-address-requires
-is-higher-address-requires c κs = rw c.enum-told7.given.1 at c.before.before.before.before.requires
+is-higher-address-requires : tie.Need-is_higher_address-requires
+is-higher-address-requires c κs = rw c.in-Addresses.is at c.requires
 
-returns : tie.Need-returns
-returns c = rw c.before.enum_told.given.1 c.is-front-above.ensures
+returns : tie.Need-returns-in-Localities
+returns c = rw c.in-Localities.is c.is_front_above.ensures
 
-returns-2 : tie.Need-returns-2
-returns-2 c = rw c.before.enum-told2.given.1 c.is-front-above2.ensures
+returns-2 : tie.Need-returns-in-Thoroughfares
+returns-2 c = rw c.in-Thoroughfares.is c.is_front_above-in-Thoroughfares.ensures
 
-returns-3 : tie.Need-returns-3
-returns-3 c = rw c.before.enum-told3.given.1 c.is-front-above3.ensures
+returns-3 : tie.Need-returns-in-Descriptors
+returns-3 c = rw c.in-Descriptors.is c.is_front_above-in-Descriptors.ensures
 
-returns-4 : tie.Need-returns-4
-returns-4 c = rw c.before.enum-told4.given.1 c.is-front-above4.ensures
+returns-4 : tie.Need-returns-in-Buildings
+returns-4 c = rw c.in-Buildings.is c.is_front_above-in-Buildings.ensures
 
-returns-5 : tie.Need-returns-5
-returns-5 c = rw c.before.enum-told5.given.1 c.is-front-above5.ensures
+returns-5 : tie.Need-returns-in-SubBuildings
+returns-5 c = rw c.in-SubBuildings.is c.is_front_above-in-SubBuildings.ensures
 
-returns-6 : tie.Need-returns-6
-returns-6 c = rw c.before.enum-told6.given.1 c.is-higher-organisation.ensures
+returns-6 : tie.Need-returns-in-Organisations
+returns-6 c = rw c.in-Organisations.is c.is_higher_organisation.ensures
 
-returns-7 : tie.Need-returns-7
-returns-7 c = rw c.before.enum-told7.given.1 c.is-higher-address.ensures
+returns-7 : tie.Need-returns-in-Addresses
+returns-7 c = rw c.in-Addresses.is c.is_higher_address.ensures
 
-pub is-higher-spec : {M : Type 1} → statement M
-is-higher-spec =
+pub is_higher_spec : {M : Type 1} → statement M
+is_higher_spec =
     tie.close
     (tie.spec
     (search rules)

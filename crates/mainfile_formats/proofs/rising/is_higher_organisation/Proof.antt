@@ -9,29 +9,29 @@ use Rattle.mainfile_formats.proofs.rising.is_higher_organisation.Tie as tie
 
 returns : tie.Need-returns
 returns c =
-    let second = c.before in
-    let behind-part-of4 = second.before in
-    let behind-part-of3 = behind-part-of4.before in
-    let first = behind-part-of3.before in
-    let behind-part-of2 = first.before in
-    let behind-part-of = behind-part-of2.before in
-    let start = behind-part-of.before.before.before in
+    let second = c in
+    let behind-part-of4 = second in
+    let behind-part-of3 = behind-part-of4 in
+    let first = behind-part-of3 in
+    let behind-part-of2 = first in
+    let behind-part-of = behind-part-of2 in
+    let start = behind-part-of in
     let before = start.args.before.now in
     let rec = start.args.rec.now in
     rw (
-      c.is-above-by.ensures,
-      second.order-of2.ensures,
-      behind-part-of4.part-of4.ensures,
-      behind-part-of3.part-of3.ensures,
-      first.order-of.ensures,
-      behind-part-of2.part-of2.ensures,
+      c.is_above_by.ensures,
+      second.order_of-key.ensures,
+      behind-part-of4.part_of-4.ensures,
+      behind-part-of3.part_of-3.ensures,
+      first.order_of-kind.ensures,
+      behind-part-of2.part_of-2.ensures,
       behind-part-of.part_of.ensures,
     )
     (joined-above (part rec 8 9) (part before 8 9) (part rec 0 8) (part before 0 8)
     (alike rec before 8 9 (lit≤ tt) (omega (arith, start.requires.1)) (omega (arith, start.requires.0))))
 
-pub is-higher-organisation-spec : {M : Type 1} → statement M
-is-higher-organisation-spec =
+pub is_higher_organisation_spec : {M : Type 1} → statement M
+is_higher_organisation_spec =
     tie.close
     (tie.spec
     (search rules)

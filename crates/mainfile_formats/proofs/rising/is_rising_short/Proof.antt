@@ -9,18 +9,18 @@ use Rattle.mainfile_formats.proofs.rising.is_rising_short.Tie as tie
 
 returns : tie.Need-returns
 returns c =
-    let alike = c.before in
-    let behind-part-of2 = alike.before in
-    let behind-part-of = behind-part-of2.before in
-    let start = behind-part-of.before.before.before in
+    let alike = c in
+    let behind-part-of2 = alike in
+    let behind-part-of = behind-part-of2 in
+    let start = behind-part-of in
     let a = start.args in
     λ e.
-    let over = c.is-rising-key.result in
-    short-above a.rec.now a.before.now a.digits start.requires.0 (c.is-rising-key.ensures (and_left over _ e))
-    (rw (behind-part-of.part_of.ensures, behind-part-of2.part-of2.ensures) at (sym alike.same_bytes.ensures ∙ not-true _ (and_right over _ e)))
+    let over = c.is_rising_key.result in
+    short-above a.rec.now a.before.now a.digits start.requires.0 (c.is_rising_key.ensures (and_left over _ e))
+    (rw (behind-part-of.part_of.ensures, behind-part-of2.part_of-2.ensures) at (sym alike.same_bytes-same.ensures ∙ not-true _ (and_right over _ e)))
 
-pub is-rising-short-spec : {M : Type 1} → statement M
-is-rising-short-spec =
+pub is_rising_short_spec : {M : Type 1} → statement M
+is_rising_short_spec =
     tie.close
     (tie.spec
     (search rules)

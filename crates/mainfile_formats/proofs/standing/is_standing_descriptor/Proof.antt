@@ -11,31 +11,31 @@ use Rattle.mainfile_formats.proofs.Sequence.{long, or-known}
 use Rattle.mainfile_formats.proofs.standing.is_standing_descriptor.Statement.{statement}
 use Rattle.mainfile_formats.proofs.standing.is_standing_descriptor.Tie as tie
 
-is-rising-short-requires : tie.Need-is-rising-short-requires
+is-rising-short-requires : tie.Need-is_rising_short-above-requires
 is-rising-short-requires c κs =
     let rec = c.before in
     let start = rec.before.before in
     let file = start.args.file.now in
     let i = start.args.i in
-    (lit≤ tt, rw c.whole-record2.ensures (long 30 8 file (i - 1) (omega (arith, start.requires.high)) (lit≤ tt)), rw rec.whole-record.ensures (long 30 8 file i (omega (arith, start.requires.high)) (lit≤ tt)))
+    (lit≤ tt, rw c.whole_record-before.ensures (long 30 8 file (i - 1) (omega (arith, start.requires.high)) (lit≤ tt)), rw rec.whole_record-rec.ensures (long 30 8 file i (omega (arith, start.requires.high)) (lit≤ tt)))
 
 returns : tie.Need-returns
 returns c =
-    let rising = c.before in
-    let prior = rising.before in
-    let rec = prior.before in
-    let start = rec.before.before in
+    let rising = c in
+    let prior = rising in
+    let rec = prior in
+    let start = rec in
     let i = start.args.i in
     λ e.
-    let fine = c.is-fine-descriptor.result in
+    let fine = c.is_fine_descriptor.result in
     judged-fine descriptors start.args.file.now i
-    (rw rec.whole-record.ensures at (c.is-fine-descriptor.ensures (and_left fine _ e)))
-    (or-known (eqb i 1) rising.is-rising-short.result _
-    (rw (rec.whole-record.ensures, prior.whole-record2.ensures) at rising.is-rising-short.ensures) (and_right fine _ e))
+    (rw rec.whole_record-rec.ensures at (c.is_fine_descriptor.ensures (and_left fine _ e)))
+    (or-known (eqb i 1) rising.is_rising_short-above.result _
+    (rw (rec.whole_record-rec.ensures, prior.whole_record-before.ensures) at rising.is_rising_short-above.ensures) (and_right fine _ e))
     refl
 
-pub is-standing-descriptor-spec : {M : Type 1} → statement M
-is-standing-descriptor-spec =
+pub is_standing_descriptor_spec : {M : Type 1} → statement M
+is_standing_descriptor_spec =
     tie.close
     (tie.spec
     (search rules)

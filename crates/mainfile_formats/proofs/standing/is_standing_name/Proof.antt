@@ -10,35 +10,35 @@ use Rattle.mainfile_formats.proofs.Sequence.{long, or-known}
 use Rattle.mainfile_formats.proofs.standing.is_standing_name.Statement.{statement}
 use Rattle.mainfile_formats.proofs.standing.is_standing_name.Tie as tie
 
-whole-record-requires : tie.Need-whole-record-requires
+whole-record-requires : tie.Need-whole_record-rec-requires
 whole-record-requires c κs =
     let start = c.before in
     let has = start.requires.1 in
     (has, record-fits start.args.width start.args.file.now start.args.i has)
 
-whole-record-requires-2 : tie.Need-whole-record-requires-2
+whole-record-requires-2 : tie.Need-whole_record-before-requires
 whole-record-requires-2 c κs =
     let start = c.before.before in
     let a = start.args in
     let has : a.i - 1 < length a.file.now / a.width = omega (arith, start.requires.0, start.requires.1) in
     (has, record-fits a.width a.file.now (a.i - 1) has)
 
-is-rising-key-requires : tie.Need-is-rising-key-requires
+is-rising-key-requires : tie.Need-is_rising_key-above-requires
 is-rising-key-requires c κs =
     let rec = c.before in
     let start = rec.before.before in
     let a = start.args in
     let wide : 8 ≤ a.width = omega (arith, start.requires.5) in (
-      rw c.whole-record2.ensures (long a.width 8 a.file.now (a.i - 1) (omega (arith, start.requires.0, start.requires.1)) wide),
-      rw rec.whole-record.ensures (long a.width 8 a.file.now a.i start.requires.1 wide),
+      rw c.whole_record-before.ensures (long a.width 8 a.file.now (a.i - 1) (omega (arith, start.requires.0, start.requires.1)) wide),
+      rw rec.whole_record-rec.ensures (long a.width 8 a.file.now a.i start.requires.1 wide),
     )
 
-is-fine-name-requires : tie.Need-is-fine-name-requires
+is-fine-name-requires : tie.Need-is_fine_name-requires
 is-fine-name-requires c κs =
     let rec = c.before.before in
     let start = rec.before.before in
     let a = start.args in (
-      rw rec.whole-record.ensures (long a.width 8 a.file.now a.i start.requires.1 (omega (arith, start.requires.5))),
+      rw rec.whole_record-rec.ensures (long a.width 8 a.file.now a.i start.requires.1 (omega (arith, start.requires.5))),
       start.requires.2,
       start.requires.3,
       start.requires.4,
@@ -47,19 +47,19 @@ is-fine-name-requires c κs =
 
 returns : tie.Need-returns
 returns c =
-    let rising = c.before in
-    let prior = rising.before in
-    let rec = prior.before in
-    let i = rec.before.before.args.i in
+    let rising = c in
+    let prior = rising in
+    let rec = prior in
+    let i = rec.args.i in
     λ e.
-    let fine = c.is-fine-name.result in (
-      rw rec.whole-record.ensures at (c.is-fine-name.ensures (and_left fine _ e)),
-      or-known (eqb i 1) rising.is-rising-key.result _
-          (rw (rec.whole-record.ensures, prior.whole-record2.ensures) at rising.is-rising-key.ensures) (and_right fine _ e),
+    let fine = c.is_fine_name.result in (
+      rw rec.whole_record-rec.ensures at (c.is_fine_name.ensures (and_left fine _ e)),
+      or-known (eqb i 1) rising.is_rising_key-above.result _
+          (rw (rec.whole_record-rec.ensures, prior.whole_record-before.ensures) at rising.is_rising_key-above.ensures) (and_right fine _ e),
     )
 
-pub is-standing-name-spec : {M : Type 1} → statement M
-is-standing-name-spec =
+pub is_standing_name_spec : {M : Type 1} → statement M
+is_standing_name_spec =
     tie.close
     (tie.spec
     whole-record-requires

@@ -11,37 +11,37 @@ use Rattle.mainfile_formats.proofs.Sequence.{long, or-known}
 use Rattle.mainfile_formats.proofs.standing.is_standing_organisation.Statement.{statement}
 use Rattle.mainfile_formats.proofs.standing.is_standing_organisation.Tie as tie
 
-is-rising-organisation-requires : tie.Need-is-rising-organisation-requires
+is-rising-organisation-requires : tie.Need-is_rising_organisation-above-requires
 is-rising-organisation-requires c κs =
     let rec = c.before in
     let start = rec.before.before in
     let file = start.args.file.now in
     let i = start.args.i in
-    (rw c.whole-record2.ensures (long 153 153 file (i - 1) (omega (arith, start.requires.high)) (lit≤ tt)), rw rec.whole-record.ensures (long 153 153 file i (omega (arith, start.requires.high)) (lit≤ tt)))
+    (rw c.whole_record-before.ensures (long 153 153 file (i - 1) (omega (arith, start.requires.high)) (lit≤ tt)), rw rec.whole_record-rec.ensures (long 153 153 file i (omega (arith, start.requires.high)) (lit≤ tt)))
 
-is-fine-organisation-requires : tie.Need-is-fine-organisation-requires
+is-fine-organisation-requires : tie.Need-is_fine_organisation-requires
 is-fine-organisation-requires c κs =
     let rec = c.before.before in
     let start = rec.before.before in
-    rw rec.whole-record.ensures (long 153 153 start.args.file.now start.args.i (omega (arith, start.requires.high)) (lit≤ tt))
+    rw rec.whole_record-rec.ensures (long 153 153 start.args.file.now start.args.i (omega (arith, start.requires.high)) (lit≤ tt))
 
 returns : tie.Need-returns
 returns c =
-    let rising = c.before in
-    let prior = rising.before in
-    let rec = prior.before in
-    let start = rec.before.before in
+    let rising = c in
+    let prior = rising in
+    let rec = prior in
+    let start = rec in
     let i = start.args.i in
     λ e.
-    let fine = c.is-fine-organisation.result in
+    let fine = c.is_fine_organisation.result in
     judged-fine organisations start.args.file.now i
-    (rw rec.whole-record.ensures at (c.is-fine-organisation.ensures (and_left fine _ e)))
-    (or-known (eqb i 1) rising.is-rising-organisation.result _
-    (rw (rec.whole-record.ensures, prior.whole-record2.ensures) at rising.is-rising-organisation.ensures) (and_right fine _ e))
+    (rw rec.whole_record-rec.ensures at (c.is_fine_organisation.ensures (and_left fine _ e)))
+    (or-known (eqb i 1) rising.is_rising_organisation-above.result _
+    (rw (rec.whole_record-rec.ensures, prior.whole_record-before.ensures) at rising.is_rising_organisation-above.ensures) (and_right fine _ e))
     refl
 
-pub is-standing-organisation-spec : {M : Type 1} → statement M
-is-standing-organisation-spec =
+pub is_standing_organisation_spec : {M : Type 1} → statement M
+is_standing_organisation_spec =
     tie.close
     (tie.spec
     (search rules)

@@ -19,23 +19,23 @@ use Rattle.mainfile_label.proofs.Laws.{no_place, some-place}
 use Rattle.mainfile_label.proofs.inner.label_at.Statement.{statement}
 use Rattle.mainfile_label.proofs.inner.label_at.Tie as tie
 
-returns : tie.Need-returns
+returns : tie.Need-returns-then-place-eq0
 returns c =
-    let a = c.before.before.before.before.before.before.before.before.before.args in
+    let a = c.args in
     let files =
     set_of a.localities.now a.thoroughfares.now a.descriptors.now a.buildings.now a.sub_buildings.now
     a.organisations.now a.addresses.now in
-    sym (no_place files a.place a.out.now c.if1.true)
+    sym (no_place files a.place a.out.now c.if-place-eq0.true)
 
 -- once the rows are looked up
-module _ (judged : tie.After-refusal-in) where
-  abbrev looked : tie.After-kind-rows
+module _ (judged : tie.After-refusal_in) where
+  abbrev looked : tie.After-kind_rows-found
   looked = judged.before
 
-  abbrev read : tie.After-delivery-at
+  abbrev read : tie.After-delivery_at-p
   read = looked.before.before
 
-  abbrev there : tie.Else1
+  abbrev there : tie.Else-place-eq0
   there = read.before
 
   abbrev start : tie.Start
@@ -53,46 +53,46 @@ module _ (judged : tie.After-refusal-in) where
   high : place < length start.args.addresses.now / 88
   high = omega (arith, start.pre.high)
 
-  rows_are : looked.kind-rows.result.rows ≡ rows_at files place
+  rows_are : looked.kind_rows-found.result.rows ≡ rows_at files place
   rows_are =
-      looked.kind-rows.ensures
-      ∙ ap (λ (p : DeliveryPoint). rows_by (kind_found files) (asked_of p)) read.delivery-at.ensures
+      looked.kind_rows-found.ensures
+      ∙ ap (λ (p : DeliveryPoint). rows_by (kind_found files) (asked_of p)) read.delivery_at-p.ensures
 
-  verdict-is : judged.refusal-in.result ≡ refusal_in (point_at files place) (rows_at files place)
-  verdict-is = judged.refusal-in.ensures ∙ ap₂ refusal_in read.delivery-at.ensures rows_are
+  verdict-is : judged.refusal_in.result ≡ refusal_in (point_at files place) (rows_at files place)
+  verdict-is = judged.refusal_in.ensures ∙ ap₂ refusal_in read.delivery_at-p.ensures rows_are
 
-print-from-requires : tie.Need-print-from-requires
+print-from-requires : tie.Need-print_from-requires
 print-from-requires c κs =
     let judged = c.before.before.before in
     let s = start judged in
-    rw (read judged).delivery-at.ensures
+    rw (read judged).delivery_at-p.ensures
     (inside-at s.args.addresses.now s.args.organisations.now (place judged) (high judged)
     (omega (arith, two_records _ _ s.pre.accepted.organisations)))
 
-returns-2 : tie.Need-returns-2
+returns-2 : tie.Need-returns-in-Fine
 returns-2 c =
-    let told = c.before.before.before.before in
-    let judged = told.before.before in
+    let told = c in
+    let judged = told.before in
     let s = files judged in
     let out = (start judged).args.out.now in
-    let fine = sym (verdict-is judged) ∙ told.enum_told.given.1 in
+    let fine = sym (verdict-is judged) ∙ told.in-Fine.is in
     let resolved = resolved-fine s (start judged).requires.accepted (place judged) (high judged) 0 fine in
-    c.before.before.print-from.ensures
+    c.print_from.ensures
     ∙ (ap (λ (e : Elements). room_outcome (label_of e) out)
-    (ap₂ (elements_at s) (read judged).delivery-at.ensures (rows_are judged))
-    ∙ sym (some-place s (place judged) out (there judged).if1.false _ resolved))
+    (ap₂ (elements_at s) (read judged).delivery_at-p.ensures (rows_are judged))
+    ∙ sym (some-place s (place judged) out (there judged).if-place-eq0.false _ resolved))
 
-returns-3 : tie.Need-returns-3
+returns-3 : tie.Need-returns-in-Bad
 returns-3 c =
-    let judged = c.before.before.before in
+    let judged = c.before in
     let s = files judged in
-    let bad = sym (verdict-is judged) ∙ c.before.reason.given.1 in
+    let bad = sym (verdict-is judged) ∙ c.in-Bad.is in
     let resolved =
-    resolved-bad s (start judged).requires.accepted (place judged) (high judged) 0 c.before.reason.given.0.0 bad in
-    sym (some-place s (place judged) (start judged).args.out.now (there judged).if1.false _ resolved)
+    resolved-bad s (start judged).requires.accepted (place judged) (high judged) 0 c.in-Bad.reason bad in
+    sym (some-place s (place judged) (start judged).args.out.now (there judged).if-place-eq0.false _ resolved)
 
-pub label-at-spec : {M : Type 1} → statement M
-label-at-spec =
+pub label_at_spec : {M : Type 1} → statement M
+label_at_spec =
     tie.close
     (tie.spec returns (λ c κs. search rules) (λ c κs. search rules) (λ c κs. search rules) (search rules)
     print-from-requires (search rules) (search rules) returns-2 returns-3)

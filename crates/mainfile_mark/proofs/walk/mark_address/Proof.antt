@@ -18,8 +18,8 @@ use Rattle.mainfile_mark.proofs.walk.mark_address.Statement.{statement}
 use Rattle.mainfile_mark.proofs.walk.mark_address.Tie as tie
 
 -- once the rows are looked up
-module _ (looked : tie.After-kind-rows) where
-  abbrev read : tie.After-delivery-at
+module _ (looked : tie.After-kind_rows-found) where
+  abbrev read : tie.After-delivery_at-p
   read = looked.before.before
 
   abbrev start : tie.Start
@@ -35,19 +35,19 @@ module _ (looked : tie.After-kind-rows) where
       a.sub_buildings.now a.organisations.now a.addresses.now
 
   abbrev rows : List ℕ
-  rows = looked.kind-rows.result.rows
+  rows = looked.kind_rows-found.result.rows
 
   high : i < length start.args.addresses.now / 88
-  high = omega (arith, start.pre.1)
+  high = omega (arith, start.requires.i_bound)
 
   rows_are : rows ≡ rows_at files i
   rows_are =
-      looked.kind-rows.ensures
-      ∙ ap (λ (p : DeliveryPoint). rows_by (kind_found files) (asked_of p)) read.delivery-at.ensures
+      looked.kind_rows-found.ensures
+      ∙ ap (λ (p : DeliveryPoint). rows_by (kind_found files) (asked_of p)) read.delivery_at-p.ensures
 
 returns : tie.Need-returns
 returns c =
-    let m = c.before.before.before.before.before.before.before.before.before.before in
+    let m = c in
     let k = m.before.before.before.before.before.before in
     let s = files k in
     let a = (start k).args in
@@ -55,20 +55,20 @@ returns c =
     let refers = found_rows s ok (i k) (high k) (rows k) (rows_are k) in
     record {
       said =
-          m.mark-point.ensures.0
-          ∙ (ap (λ (p : DeliveryPoint). refusal_in p (rows k)) (read k).delivery-at.ensures
+          m.mark_point.ensures.0
+          ∙ (ap (λ (p : DeliveryPoint). refusal_in p (rows k)) (read k).delivery_at-p.ensures
           ∙ (sym (refused-alike s (point_at s (i k)) (rows k) (found-seven s ok (i k) (high k) (rows k) (rows_are k)))
           ∙ ap (refusal_in (point_at s (i k))) refers));
       marks_rows =
           λ e.
-          m.mark-point.ensures.1 e s (found-in-files s ok (i k) (high k) (rows k) (rows_are k))
+          m.mark_point.ensures.1 e s (found-in-files s ok (i k) (high k) (rows k) (rows_are k))
           (start k).requires.0.bits
           ∙ ap (λ (found : List ℕ). mark_rows found (set_marks s a.of_localities.now a.of_thoroughfares.now
           a.of_descriptors.now a.of_buildings.now a.of_sub_buildings.now)) refers;
     }
 
-pub mark-address-spec : {M : Type 1} → statement M
-mark-address-spec =
+pub mark_address_spec : {M : Type 1} → statement M
+mark_address_spec =
     tie.close
     (tie.spec (λ c κs. search rules) (λ c κs. search rules) (λ c κs. search rules) (λ c. search rules)
     (λ c. search rules) (λ c. search rules) (λ c. search rules) (λ c. search rules) returns)

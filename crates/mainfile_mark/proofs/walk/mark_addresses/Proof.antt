@@ -22,7 +22,7 @@ abbrev Walked : Set → (first many i left : ℕ) → (entry marks : List ℕ) �
 Walked s first many i left entry marks =
     Marking (set_stock s) (packed_from s first many) entry (packed_from s i left) marks
 
-abbrev invariant-loop : tie.invariant-loop
+abbrev invariant-loop : tie.invariant-loop-i
 invariant-loop f₁ f₂ f₃ f₄ f₅ f₆ f₇ first many a₁ a₂ a₃ a₄ a₅ end i₀ b₁ b₂ b₃ b₄ b₅ i =
     (length b₁ ≡ length a₁)
     × (length b₂ ≡ length a₂)
@@ -32,7 +32,7 @@ invariant-loop f₁ f₂ f₃ f₄ f₅ f₆ f₇ first many a₁ a₂ a₃ a₄
     × Walked (set_of f₁ f₂ f₃ f₄ f₅ f₆ f₇) first many i (end - i) (set_marks (set_of f₁ f₂ f₃ f₄ f₅ f₆ f₇) a₁ a₂ a₃ a₄ a₅)
     (set_marks (set_of f₁ f₂ f₃ f₄ f₅ f₆ f₇) b₁ b₂ b₃ b₄ b₅)
 
-abbrev decreases-loop : tie.decreases-loop
+abbrev decreases-loop : tie.decreases-loop-i
 decreases-loop f₁ f₂ f₃ f₄ f₅ f₆ f₇ first many a₁ a₂ a₃ a₄ a₅ end i₀ b₁ b₂ b₃ b₄ b₅ i = end - i
 
 module _ (start : tie.Start invariant-loop decreases-loop) where
@@ -51,12 +51,12 @@ module _ (start : tie.Start invariant-loop decreases-loop) where
   abbrev end : ℕ
   end = start.args.first + start.args.many
 
-add-end : tie.Need-overflow-add-end invariant-loop decreases-loop
+add-end : tie.Need-overflow_add-end invariant-loop decreases-loop
 add-end c =
-    let s = c.before.before.before.before.before.before.before.before.before.before.before.before in
+    let s = c in
     omega (arith, s.requires.1, s.well_formed.1.1.1.1.1.1.0.1)
 
-loop-holds : tie.Need-loop-init invariant-loop decreases-loop
+loop-holds : tie.Need-loop-i-init invariant-loop decreases-loop
 loop-holds c =
     let s = c.before.before.before.before.before.before.before.before.before.before.before.before in
     let a = s.args in (
@@ -69,106 +69,106 @@ loop-holds c =
           (marking-start (set_stock (files s)) (packed_from (files s) a.first a.many) (entry s)),
     )
 
-module _ (l : tie.At-loop invariant-loop decreases-loop) where
+module _ (l : tie.At-loop-i invariant-loop decreases-loop) where
   abbrev start_of : tie.Start invariant-loop decreases-loop
   start_of = l.before.before.before.before.before.before.before.before.before.before.before.before.before
 
   abbrev marks : List ℕ
   marks =
-      set_marks (files start_of) l.loop.of_localities l.loop.of_thoroughfares l.loop.of_descriptors
-      l.loop.of_buildings l.loop.of_sub_buildings
+      set_marks (files start_of) l.loop-i.of_localities l.loop-i.of_thoroughfares l.loop-i.of_descriptors
+      l.loop-i.of_buildings l.loop-i.of_sub_buildings
 
-mark-address-requires : tie.Need-mark-address-requires invariant-loop decreases-loop
+mark-address-requires : tie.Need-mark_address-requires invariant-loop decreases-loop
 mark-address-requires c κs =
-    let t = c.before.before.before.before.before in
+    let t = c in
     let l = t.before in
     let s = start_of l in (
       record {
-        accepted = s.pre.0.accepted;
+        accepted = s.requires.markable.accepted;
         bits =
-            bits-kept (files s) s.pre.0.bits l.loop.invariant.0 l.loop.invariant.1 l.loop.invariant.2
-            l.loop.invariant.3 l.loop.invariant.4;
+            bits-kept (files s) s.requires.markable.bits l.loop-i.invariant.0 l.loop-i.invariant.1 l.loop-i.invariant.2
+            l.loop-i.invariant.3 l.loop-i.invariant.4;
       },
-      omega (arith, s.pre.1, t.loop-test.true),
+      omega (arith, s.requires.many_bound, t.loop-i-test.true),
     )
 
 -- within the loop, the record at `i` is the next
-module _ (t : tie.In-loop invariant-loop decreases-loop) where
-  abbrev l : tie.At-loop invariant-loop decreases-loop
+module _ (t : tie.In-loop-i invariant-loop decreases-loop) where
+  abbrev l : tie.At-loop-i invariant-loop decreases-loop
   l = t.before
 
   abbrev s : tie.Start invariant-loop decreases-loop
   s = start_of l
 
   left : Marking (set_stock (files s)) (packed_from (files s) s.args.first s.args.many) (entry s)
-      (packed_at s.args.addresses.now s.args.organisations.now l.loop.i
-      ∷ packed_by s.args.addresses.now s.args.organisations.now (l.loop.i + 1) (end s - (l.loop.i + 1)))
+      (packed_at s.args.addresses.now s.args.organisations.now l.loop-i.i
+      ∷ packed_by s.args.addresses.now s.args.organisations.now (l.loop-i.i + 1) (end s - (l.loop-i.i + 1)))
       (marks l)
   left =
       marking-as
-      (packed_step s.args.addresses.now s.args.organisations.now l.loop.i (end s) t.loop-test.taken)
-      l.loop.inv.5
+      (packed_step s.args.addresses.now s.args.organisations.now l.loop-i.i (end s) t.loop-i-test.taken)
+      l.loop-i.invariant.5
 
-returns : tie.Need-returns invariant-loop decreases-loop
+returns : tie.Need-returns-in-Bad invariant-loop decreases-loop
 returns c =
-    let w = c.before.before in
-    let m = w.before.before.before.before.before.before.before.before.before.before.before.before in
+    let w = c in
+    let m = w in
     let t = m.before.before.before.before.before.before in
-    let bad = sym m.mark-address.ensures.said ∙ w.why.given.1 in
+    let bad = sym m.mark_address.ensures.said ∙ w.in-Bad.is in
     record {
-      said = rw c.with-view.ensures (sym (marking-stop (left t) w.why.given.0.0 bad));
+      said = rw c.with_view.ensures (sym (marking-stop (left t) w.in-Bad.why bad));
       marks_all = λ e. absurd (bad-fine _ e);
     }
 
-add-i : tie.Need-overflow-add-i invariant-loop decreases-loop
+add-i : tie.Need-overflow_add-i invariant-loop decreases-loop
 add-i c =
-    let m = c.before.before.before.before.before.before.before.before.before.before.before.before in
+    let m = c in
     let t = m.before.before.before.before.before.before in
-    omega (arith, (s t).requires.1, t.loop-test.true, (s t).well_formed.1.1.1.1.1.1.0.1)
+    omega (arith, (s t).requires.1, t.loop-i-test.true, (s t).well_formed.1.1.1.1.1.1.0.1)
 
-loop-less : tie.Need-loop-smaller invariant-loop decreases-loop
+loop-less : tie.Need-loop-i-smaller invariant-loop decreases-loop
 loop-less c =
-    let m = c.before.before.before.before.before.before.before.before.before.before.before.before in
-    let t = m.before.before.before.before.before.before in
-    omega (arith, t.loop-test.true)
+    let m = c in
+    let t = m in
+    omega (arith, t.loop-i-test.true)
 
-loop-again : tie.Need-loop-preserved invariant-loop decreases-loop
+loop-again : tie.Need-loop-i-preserved invariant-loop decreases-loop
 loop-again c =
-    let m = c.before.before.before.before.before.before.before.before.before.before.before.before in
+    let m = c in
     let t = m.before.before.before.before.before.before in
-    let v = (l t).loop.invariant in
-    let k = m.mark-address.auto.1.1.1.1.1.1.1.1 in
-    let told = c.enum_told.given.1 in (
+    let v = (l t).loop-i.invariant in
+    let k = m.mark_address.auto.1.1.1.1.1.1.1.1 in
+    let told = c.in-Fine.is in (
       k.0 ∙ v.0,
       k.1.0 ∙ v.1,
       k.1.1.0 ∙ v.2,
       k.1.1.1.0 ∙ v.3,
       k.1.1.1.1.0 ∙ v.4,
-      marking-on (left t) (sym m.mark-address.ensures.said ∙ told) (m.mark-address.ensures.marks_rows told),
+      marking-on (left t) (sym m.mark_address.ensures.said ∙ told) (m.mark_address.ensures.marks_rows told),
     )
 
-returns-2 : tie.Need-returns-2 invariant-loop decreases-loop
+returns-2 : tie.Need-returns invariant-loop decreases-loop
 returns-2 c =
     let l = c.before in
     let a = (start_of l).args in
     let stop = end (start_of l) in
-    let none = packed-end a.addresses.now a.organisations.now l.loop.i stop c.loop-test.false in
-    let done = marking-end (marking-as none l.loop.invariant.5) in
+    let none = packed-end a.addresses.now a.organisations.now l.loop-i.i stop c.loop-i-test.false in
+    let done = marking-end (marking-as none l.loop-i.invariant.5) in
     record { said = done.0; marks_all = λ e. done.1 }
 
 -- no array changes its length
-module _ (c : tie.After-with-view invariant-loop decreases-loop) where
-  abbrev w : tie.After-why invariant-loop decreases-loop
-  w = c.before.before
+module _ (c : tie.After-with_view invariant-loop decreases-loop) where
+  abbrev w : tie.In-Bad-2 invariant-loop decreases-loop
+  w = c.before
 
-  abbrev m : tie.After-mark-address invariant-loop decreases-loop
-  m = w.before.before.before.before.before.before.before.before.before.before.before.before
+  abbrev m : tie.After-mark_address invariant-loop decreases-loop
+  m = w.before.before.before.before.before.before.before.before.before.before.before
 
-  abbrev at : tie.At-loop invariant-loop decreases-loop
+  abbrev at : tie.At-loop-i invariant-loop decreases-loop
   at = m.before.before.before.before.before.before.before
 
-pub mark-addresses-spec : {M : Type 1} → statement M
-mark-addresses-spec =
+pub mark_addresses_spec : {M : Type 1} → statement M
+mark_addresses_spec =
     tie.close
     (tie.spec
     invariant-loop
@@ -179,18 +179,18 @@ mark-addresses-spec =
     (λ c. search rules)
     (λ c. search rules)
     (λ c κs. search rules)
-    (λ c. (m c).mark-address.auto.1.1.1.1.1.1.1.1.0 ∙ (at c).loop.invariant.0)
-    (λ c. (m c).mark-address.auto.1.1.1.1.1.1.1.1.1.0 ∙ (at c).loop.invariant.1)
-    (λ c. (m c).mark-address.auto.1.1.1.1.1.1.1.1.1.1.0 ∙ (at c).loop.invariant.2)
-    (λ c. (m c).mark-address.auto.1.1.1.1.1.1.1.1.1.1.1.0 ∙ (at c).loop.invariant.3)
-    (λ c. (m c).mark-address.auto.1.1.1.1.1.1.1.1.1.1.1.1.0 ∙ (at c).loop.invariant.4)
+    (λ c. (m c).mark_address.auto.1.1.1.1.1.1.1.1.0 ∙ (at c).loop-i.invariant.0)
+    (λ c. (m c).mark_address.auto.1.1.1.1.1.1.1.1.1.0 ∙ (at c).loop-i.invariant.1)
+    (λ c. (m c).mark_address.auto.1.1.1.1.1.1.1.1.1.1.0 ∙ (at c).loop-i.invariant.2)
+    (λ c. (m c).mark_address.auto.1.1.1.1.1.1.1.1.1.1.1.0 ∙ (at c).loop-i.invariant.3)
+    (λ c. (m c).mark_address.auto.1.1.1.1.1.1.1.1.1.1.1.1.0 ∙ (at c).loop-i.invariant.4)
     returns
     add-i
     loop-less
     loop-again
-    (λ c. c.before.loop.invariant.0)
-    (λ c. c.before.loop.invariant.1)
-    (λ c. c.before.loop.invariant.2)
-    (λ c. c.before.loop.invariant.3)
-    (λ c. c.before.loop.invariant.4)
+    (λ c. c.loop-i.invariant.0)
+    (λ c. c.loop-i.invariant.1)
+    (λ c. c.loop-i.invariant.2)
+    (λ c. c.loop-i.invariant.3)
+    (λ c. c.loop-i.invariant.4)
     returns-2)

@@ -13,72 +13,72 @@ module _ (c : tie.Start) where
       row_files c.args.localities.now c.args.thoroughfares.now c.args.descriptors.now c.args.buildings.now
       c.args.sub_buildings.now
 
-abbrev start : tie.After-shared-slice-known15 → tie.Start
+abbrev start : tie.After-shared_slice_known-15-1 → tie.Start
 start c =
-    c.before.before.before.before.before.before.before.before.before.before.before.before.before.before.before
+    c
 
-offset-in-requires : tie.Need-offset-in-requires
+offset-in-requires : tie.Need-offset_in-l-requires
 offset-in-requires c κs =
     let s = start c in
     ((s.pre.blocks.room.of_localities, (kind-few (files s) s.pre.accepted 1).1), s.pre.there.locality)
 
-offset-in-requires-2 : tie.Need-offset-in-requires-2
+offset-in-requires-2 : tie.Need-offset_in-t-requires
 offset-in-requires-2 c κs =
-    let s = start c.before in
+    let s = start c in
     ((s.pre.blocks.room.of_thoroughfares, (kind-few (files s) s.pre.accepted 2).1), s.pre.there.thoroughfare)
 
-offset-in-requires-3 : tie.Need-offset-in-requires-3
+offset-in-requires-3 : tie.Need-offset_in-d-requires
 offset-in-requires-3 c κs =
-    let s = start c.before.before in
+    let s = start c in
     ((s.pre.blocks.room.of_descriptors, (kind-few (files s) s.pre.accepted 3).1), s.pre.there.descriptor)
 
-offset-in-requires-4 : tie.Need-offset-in-requires-4
+offset-in-requires-4 : tie.Need-offset_in-dependent-requires
 offset-in-requires-4 c κs =
-    let s = start c.before.before.before in
+    let s = start c in
     ((s.pre.blocks.room.of_thoroughfares, (kind-few (files s) s.pre.accepted 2).1), s.pre.there.dependent)
 
-offset-in-requires-5 : tie.Need-offset-in-requires-5
+offset-in-requires-5 : tie.Need-offset_in-second-requires
 offset-in-requires-5 c κs =
-    let s = start c.before.before.before.before in
+    let s = start c in
     ((s.pre.blocks.room.of_descriptors, (kind-few (files s) s.pre.accepted 3).1), s.pre.there.second)
 
-offset-in-requires-6 : tie.Need-offset-in-requires-6
+offset-in-requires-6 : tie.Need-offset_in-b-requires
 offset-in-requires-6 c κs =
-    let s = start c.before.before.before.before.before in
+    let s = start c in
     ((s.pre.blocks.room.of_buildings, (kind-few (files s) s.pre.accepted 4).1), s.pre.there.building)
 
-offset-in-requires-7 : tie.Need-offset-in-requires-7
+offset-in-requires-7 : tie.Need-offset_in-s-requires
 offset-in-requires-7 c κs =
-    let s = start c.before.before.before.before.before.before in
+    let s = start c in
     ((s.pre.blocks.room.of_sub_buildings, (kind-few (files s) s.pre.accepted 5).1), s.pre.there.sub_building)
 
 returns : tie.Need-returns
 returns c =
-    let sixth = c.before in
-    let fifth = sixth.before in
-    let fourth = fifth.before in
-    let third = fourth.before in
-    let second = third.before in
-    let first = second.before in
+    let sixth = c in
+    let fifth = sixth in
+    let fourth = fifth in
+    let third = fourth in
+    let second = third in
+    let first = second in
     let s = start first.before in
     let a = s.args in
     let starts = s.pre.blocks in
     offsets-placed (files s) a.l-bits.now a.t-bits.now a.d-bits.now a.b-bits.now
     a.s-bits.now a.l-blocks.now a.t-blocks.now a.d-blocks.now
     a.b-blocks.now a.s-blocks.now a.t17 s.pre a.t16
-    s.good.1.1.1.1.1.1.1.1.1.1.1.1.1.1.1.0.1.0.1 first.offset-in.result
-    second.offset-in2.result third.offset-in3.result fourth.offset-in4.result fifth.offset-in5.result
-    sixth.offset-in6.result c.offset-in7.result
-    (first.offset-in.ensures _ starts.of_localities)
-    (second.offset-in2.ensures _ starts.of_thoroughfares)
-    (third.offset-in3.ensures _ starts.of_descriptors)
-    (fourth.offset-in4.ensures _ starts.of_thoroughfares)
-    (fifth.offset-in5.ensures _ starts.of_descriptors)
-    (sixth.offset-in6.ensures _ starts.of_buildings)
-    (c.offset-in7.ensures _ starts.of_sub_buildings)
+    s.good.1.1.1.1.1.1.1.1.1.1.1.1.1.1.1.0.1.0.1 first.offset_in-l.result
+    second.offset_in-t.result third.offset_in-d.result fourth.offset_in-dependent.result fifth.offset_in-second.result
+    sixth.offset_in-b.result c.offset_in-s.result
+    (first.offset_in-l.ensures _ starts.of_localities)
+    (second.offset_in-t.ensures _ starts.of_thoroughfares)
+    (third.offset_in-d.ensures _ starts.of_descriptors)
+    (fourth.offset_in-dependent.ensures _ starts.of_thoroughfares)
+    (fifth.offset_in-second.ensures _ starts.of_descriptors)
+    (sixth.offset_in-b.ensures _ starts.of_buildings)
+    (c.offset_in-s.ensures _ starts.of_sub_buildings)
 
-pub offsets-of-spec : {M : Type 1} → statement M
-offsets-of-spec =
+pub offsets_of_spec : {M : Type 1} → statement M
+offsets_of_spec =
     tie.close
     (tie.spec (search rules) (search rules) offset-in-requires (search rules) (search rules) offset-in-requires-2
     (search rules) (search rules) offset-in-requires-3 (search rules) (search rules) offset-in-requires-4 (search rules)

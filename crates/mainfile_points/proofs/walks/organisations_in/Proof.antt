@@ -15,22 +15,22 @@ use Rattle.mainfile_mark.proofs.Packed.{packed_start, packed_step, packed-end}
 use Rattle.mainfile_points.proofs.walks.organisations_in.Statement.{statement}
 use Rattle.mainfile_points.proofs.walks.organisations_in.Tie as tie
 
-abbrev invariant-loop : tie.invariant-loop
+abbrev invariant-loop : tie.invariant-loop-i
 invariant-loop organisations addresses first many end rows₀ bytes₀ i₀ rows bytes i =
     Summing organisations (packed_by addresses organisations first many) (packed_by addresses organisations i (end - i)) rows
     bytes
     × (rows ≤ i)
     × (bytes ≤ 123 * i)
 
-abbrev decreases-loop : tie.decreases-loop
+abbrev decreases-loop : tie.decreases-loop-i
 decreases-loop organisations addresses first many end rows₀ bytes₀ i₀ rows bytes i = end - i
 
-add-end : tie.Need-overflow-add-end invariant-loop decreases-loop
-add-end c = omega (arith, c.before.before.requires.before)
+add-end : tie.Need-overflow_add-end invariant-loop decreases-loop
+add-end c = omega (arith, c.requires.before)
 
-loop-holds : tie.Need-loop-init invariant-loop decreases-loop
+loop-holds : tie.Need-loop-i-init invariant-loop decreases-loop
 loop-holds c =
-    let a = c.before.before.args in
+    let a = c.args in
     let all = packed_by a.addresses.now a.organisations.now a.first a.many in (
       summing-as (packed_start a.addresses.now a.organisations.now a.first a.many)
           (summing_start a.organisations.now all),
@@ -38,55 +38,55 @@ loop-holds c =
       omega arith,
     )
 
-add-rows : tie.Need-overflow-add-rows invariant-loop decreases-loop
+add-rows : tie.Need-overflow_add-rows invariant-loop decreases-loop
 add-rows c =
-    let l = c.before.before.before in
-    omega (arith, l.loop.invariant.1, c.one-if.ensures.1, l.before.before.before.requires.before)
+    let l = c in
+    omega (arith, l.loop-i.invariant.1, c.one_if-rows.ensures.1, l.requires.before)
 
-organisation-len-requires : tie.Need-organisation-len-requires invariant-loop decreases-loop
+organisation-len-requires : tie.Need-organisation_len-bytes-requires invariant-loop decreases-loop
 organisation-len-requires c κs =
-    let d = c.before in
-    let l = d.before.before in
+    let d = c in
+    let l = d in
     let s = l.before.before.before in
-    rw d.delivery-at.ensures
-    (inside-at s.args.addresses.now s.args.organisations.now l.loop.i (omega (arith, s.requires.before))
+    rw d.delivery_at-p.ensures
+    (inside-at s.args.addresses.now s.args.organisations.now l.loop-i.i (omega (arith, s.requires.before))
     s.requires.headed).organisation
 
-add-bytes : tie.Need-overflow-add-bytes invariant-loop decreases-loop
+add-bytes : tie.Need-overflow_add-bytes invariant-loop decreases-loop
 add-bytes c =
-    let l = c.before.before.before.before in
-    omega (arith, l.loop.invariant.2, c.organisation-len.ensures.1, l.before.before.before.requires.before)
+    let l = c in
+    omega (arith, l.loop-i.invariant.2, c.organisation_len-bytes.ensures.1, l.requires.before)
 
-add-i : tie.Need-overflow-add-i invariant-loop decreases-loop
-add-i c = omega (arith, c.before.before.before.before.before.before.before.requires.before)
+add-i : tie.Need-overflow_add-i invariant-loop decreases-loop
+add-i c = omega (arith, c.requires.before)
 
-loop-again : tie.Need-loop-preserved invariant-loop decreases-loop
+loop-again : tie.Need-loop-i-preserved invariant-loop decreases-loop
 loop-again c =
-    let o = c.before in
-    let d = o.before in
-    let t = d.before in
-    let l = t.before in
-    let a = l.before.before.before.args in
+    let o = c in
+    let d = o in
+    let t = d in
+    let l = t in
+    let a = l.args in
     let others = a.organisations.now in
-    let step = packed_step a.addresses.now others l.loop.i (a.first + a.many) t.loop-test.true in
-    let one = o.one-if.ensures.0 ∙ ap (λ (p : DeliveryPoint). cond p.organised 1 0) d.delivery-at.ensures in
-    let len = c.organisation-len.ensures.0
-    ∙ ap (λ (p : DeliveryPoint). length (organisation_row others p)) d.delivery-at.ensures in (
-      summing_on (summing-as step l.loop.invariant.0) one len,
-      omega (arith, l.loop.invariant.1, o.one-if.ensures.1),
-      omega (arith, l.loop.invariant.2, c.organisation-len.ensures.1),
+    let step = packed_step a.addresses.now others l.loop-i.i (a.first + a.many) t.loop-i-test.true in
+    let one = o.one_if-rows.ensures.0 ∙ ap (λ (p : DeliveryPoint). cond p.organised 1 0) d.delivery_at-p.ensures in
+    let len = c.organisation_len-bytes.ensures.0
+    ∙ ap (λ (p : DeliveryPoint). length (organisation_row others p)) d.delivery_at-p.ensures in (
+      summing_on (summing-as step l.loop-i.invariant.0) one len,
+      omega (arith, l.loop-i.invariant.1, o.one_if-rows.ensures.1),
+      omega (arith, l.loop-i.invariant.2, c.organisation_len-bytes.ensures.1),
     )
 
 returns : tie.Need-returns invariant-loop decreases-loop
 returns c =
-    let l = c.before in
-    let a = l.before.before.before.args in
+    let l = c in
+    let a = l.args in
     let end = a.first + a.many in
-    let none = packed-end a.addresses.now a.organisations.now l.loop.i end c.loop-test.false in
-    summing-end (summing-as none l.loop.invariant.0)
+    let none = packed-end a.addresses.now a.organisations.now l.loop-i.i end c.loop-i-test.false in
+    summing-end (summing-as none l.loop-i.invariant.0)
 
-pub organisations-in-spec : {M : Type 1} → statement M
-organisations-in-spec =
+pub organisations_in_spec : {M : Type 1} → statement M
+organisations_in_spec =
     tie.close
     (tie.spec invariant-loop decreases-loop add-end loop-holds (search rules) (search rules) add-rows organisation-len-requires
     add-bytes add-i (search rules) loop-again returns)

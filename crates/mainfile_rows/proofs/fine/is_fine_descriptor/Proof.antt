@@ -7,14 +7,14 @@ use Rattle.mainfile_rows.proofs.fine.is_fine_descriptor.Tie as tie
 
 returns : tie.Need-returns
 returns c =
-    let key = c.before in
-    let rec = key.before.before.before.args.rec.now in
+    let key = c in
+    let rec = key.args.rec.now in
     λ e.
-    text-fine rec 4 20 (key.is-fine-short-key.ensures (and_left key.is-fine-short-key.result _ e))
-    (c.is-fine-text.ensures (and_right key.is-fine-short-key.result _ e))
+    text-fine rec 4 20 (key.is_fine_short_key-key.ensures (and_left key.is_fine_short_key-key.result _ e))
+    (c.is_fine_text.ensures (and_right key.is_fine_short_key-key.result _ e))
 
-pub is-fine-descriptor-spec : {M : Type 1} → statement M
-is-fine-descriptor-spec =
+pub is_fine_descriptor_spec : {M : Type 1} → statement M
+is_fine_descriptor_spec =
     tie.close
     (tie.spec
     (search rules)

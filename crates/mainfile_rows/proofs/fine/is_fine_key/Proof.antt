@@ -9,10 +9,10 @@ use Rattle.mainfile_rows.proofs.fine.is_fine_key.Tie as tie
 
 returns : tie.Need-returns
 returns c =
-    let digits = c.before in
+    let digits = c in
     λ e.
-    key-none _ (sym c.eight-zero.ensures ∙ not-true _ (and_right digits.are-digits.result _ e))
-    (digits-none _ (digits.are-digits.ensures (and_left digits.are-digits.result _ e)))
+    key-none _ (sym c.eight_zero.ensures ∙ not-true _ (and_right digits.are_digits.result _ e))
+    (digits-none _ (digits.are_digits.ensures (and_left digits.are_digits.result _ e)))
 
-pub is-fine-key-spec : {M : Type 1} → statement M
-is-fine-key-spec = tie.close (tie.spec (search rules) (search rules) returns)
+pub is_fine_key_spec : {M : Type 1} → statement M
+is_fine_key_spec = tie.close (tie.spec (search rules) (search rules) returns)

@@ -7,14 +7,14 @@ use Rattle.mainfile_rows.proofs.fine.is_fine_locality.Tie as tie
 
 returns : tie.Need-returns
 returns c =
-    let key = c.before in
-    let rec = key.before.before.before.args.rec.now in
+    let key = c in
+    let rec = key.args.rec.now in
     λ e.
-    let texts = c.is-fine-places.ensures (and_right key.is-fine-short-key.result _ e) in
-    locality-fine rec (key.is-fine-short-key.ensures (and_left key.is-fine-short-key.result _ e)) texts.0 texts.1 texts.2
+    let texts = c.is_fine_places.ensures (and_right key.is_fine_short_key-key.result _ e) in
+    locality-fine rec (key.is_fine_short_key-key.ensures (and_left key.is_fine_short_key-key.result _ e)) texts.0 texts.1 texts.2
 
-pub is-fine-locality-spec : {M : Type 1} → statement M
-is-fine-locality-spec =
+pub is_fine_locality_spec : {M : Type 1} → statement M
+is_fine_locality_spec =
     tie.close
     (tie.spec
     (search rules)

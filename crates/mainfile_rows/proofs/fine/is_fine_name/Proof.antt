@@ -10,12 +10,12 @@ use Rattle.mainfile_rows.proofs.fine.is_fine_name.Tie as tie
 
 returns : tie.Need-returns
 returns c =
-    let key = c.before in
-    let a = key.before.before.args in
+    let key = c in
+    let a = key.args in
     let end : 8 + (a.end - 8) ≡ a.end = omega arith in
     λ e.
-    text-fine a.rec.now 8 (a.end - 8) (key.is-fine-key.ensures (and_left key.is-fine-key.result _ e))
-    (rw end (c.is-fine-text.ensures (and_right key.is-fine-key.result _ e)))
+    text-fine a.rec.now 8 (a.end - 8) (key.is_fine_key-key.ensures (and_left key.is_fine_key-key.result _ e))
+    (rw end (c.is_fine_text.ensures (and_right key.is_fine_key-key.result _ e)))
 
-pub is-fine-name-spec : {M : Type 1} → statement M
-is-fine-name-spec = tie.close (tie.spec (search rules) (search rules) returns)
+pub is_fine_name_spec : {M : Type 1} → statement M
+is_fine_name_spec = tie.close (tie.spec (search rules) (search rules) returns)

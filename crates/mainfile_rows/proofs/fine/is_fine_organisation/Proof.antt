@@ -10,18 +10,18 @@ use Rattle.mainfile_rows.proofs.fine.is_fine_organisation.Tie as tie
 
 returns : tie.Need-returns
 returns c =
-    let byte = c.before in
-    let kind = byte.before in
-    let key = kind.before in
-    let rec = key.before.before.args.rec.now in
+    let byte = c in
+    let kind = byte in
+    let key = kind in
+    let rec = key.args.rec.now in
     λ e.
-    let each = three key.is-fine-key.result (eqb kind.postcode-type-at.result 0) c.is-fine-organisation.result e in
-    let names = rw byte.byte_of.ensures at (c.is-fine-organisation.ensures each.2) in
-    organisation-fine rec (key.is-fine-key.ensures each.0) (sym kind.postcode-type-at.ensures ∙ eqb-true _ 0 each.1)
+    let each = three key.is_fine_key-key.result (eqb kind.postcode_type_at-kind.result 0) c.is_fine_organisation-names.result e in
+    let names = rw byte.byte_of-small.ensures at (c.is_fine_organisation-names.ensures each.2) in
+    organisation-fine rec (key.is_fine_key-key.ensures each.0) (sym kind.postcode_type_at-kind.ensures ∙ eqb-true _ 0 each.1)
     names.0 names.1
 
-pub is-fine-organisation-spec : {M : Type 1} → statement M
-is-fine-organisation-spec =
+pub is_fine_organisation_spec : {M : Type 1} → statement M
+is_fine_organisation_spec =
     tie.close
     (tie.spec
     (search rules)

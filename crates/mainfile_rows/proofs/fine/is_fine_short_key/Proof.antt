@@ -12,16 +12,16 @@ use Rattle.mainfile_rows.proofs.fine.is_fine_short_key.Tie as tie
 
 returns : tie.Need-returns
 returns c =
-    let zero = c.before in
-    let part = zero.before in
-    let at-start = part.before.before.before in
+    let zero = c in
+    let part = zero in
+    let at-start = part in
     let a = at-start.args in
     let all : a.digits - 0 ≡ a.digits = omega arith in
     λ e.
-    key-none _ (rw part.part_of.ensures at (sym zero.all_are.ensures ∙ not-true _ (and_right c.digits-where.result _ e)))
+    key-none _ (rw part.part_of.ensures at (sym zero.all_are-zero.ensures ∙ not-true _ (and_right c.digits_where.result _ e)))
     (digits-where a.rec.now a.pattern.now 0 a.digits
-    (sym c.digits-where.ensures ∙ and_left c.digits-where.result _ e) (at-start.requires ∙ ap nines (sym all)))
+    (sym c.digits_where.ensures ∙ and_left c.digits_where.result _ e) (at-start.requires ∙ ap nines (sym all)))
 
-pub is-fine-short-key-spec : {M : Type 1} → statement M
-is-fine-short-key-spec =
+pub is_fine_short_key_spec : {M : Type 1} → statement M
+is_fine_short_key_spec =
     tie.close (tie.spec (search rules) (search rules) (search rules) returns)

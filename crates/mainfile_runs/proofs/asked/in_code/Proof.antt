@@ -14,7 +14,7 @@ use Rattle.mainfile_runs.proofs.asked.in_code.Statement.{statement}
 use Rattle.mainfile_runs.proofs.asked.in_code.Tie as tie
 
 -- once the files are judged
-module _ (k : tie.After-check-set) where
+module _ (k : tie.After-check_set) where
   abbrev start : tie.Start
   start = k.before.before.before.before.before.before.before.before.before.before
 
@@ -24,50 +24,50 @@ module _ (k : tie.After-check-set) where
       set_of a.localities.now a.thoroughfares.now a.descriptors.now a.buildings.now a.subs.now
       a.organisations.now a.addresses.now
 
-returns : tie.Need-returns
+returns : tie.Need-returns-then-outward_fault-ne0
 returns c =
-    let f = c.before in
-    let t = f.before in
-    let k = t.before.before in
+    let f = c in
+    let t = f in
+    let k = t.before in
     let a = (start k).args in
-    code_refused (main_of (files k)) (sym k.check-set.ensures ∙ t.enum_told.given.1) a.first a.count a.out.now
-    a.code.now (rw f.outward-fault.ensures at c.if1.true) a.listed
+    code_refused (main_of (files k)) (sym k.check_set.ensures ∙ t.in-Value.is) a.first a.count a.out.now
+    a.code.now (rw f.outward_fault.ensures at c.if-outward_fault-ne0.true) a.listed
 
 walk-requires : tie.Need-walk-requires
 walk-requires c κs =
     let s = c.before in
-    let t = s.before.before.before in
+    let t = s in
     let k = t.before.before in
-    rw (s.stretch-in.ensures.0, s.stretch-in.ensures.1)
-    (code-between (files k) (set-accepted (files k) (sym k.check-set.ensures ∙ t.enum_told.given.1))
+    rw (s.stretch_in-s.ensures.0, s.stretch_in-s.ensures.1)
+    (code-between (files k) (set-accepted (files k) (sym k.check_set.ensures ∙ t.in-Value.is))
     (start k).args.code.now)
 
-returns-2 : tie.Need-returns-2
+returns-2 : tie.Need-returns-else-outward_fault-ne0
 returns-2 c =
-    let w = c.before.before in
-    let s = w.before.before in
-    let good = s.before in
-    let f = good.before in
-    let t = f.before in
-    let k = t.before.before in
+    let w = c in
+    let s = w in
+    let good = s in
+    let f = good in
+    let t = f in
+    let k = t.before in
     let a = (start k).args in
-    let taken = sym k.check-set.ensures ∙ t.enum_told.given.1 in
-    let clean = rw f.outward-fault.ensures at good.if1.false in
+    let taken = sym k.check_set.ensures ∙ t.in-Value.is in
+    let clean = rw f.outward_fault.ensures at good.if-outward_fault-ne0.false in
     w.walk.ensures
     ∙ (ap₂ (λ (n m : ℕ). run_from (shown_among a.listed (files k) n m) a.first a.count a.out.now)
-    s.stretch-in.ensures.0 s.stretch-in.ensures.1
+    s.stretch_in-s.ensures.0 s.stretch_in-s.ensures.1
     ∙ code-shown (main_of (files k)) taken a.first a.count a.out.now a.code.now clean _
     (asks-code (files k) taken a.code.now clean) a.listed)
 
-returns-3 : tie.Need-returns-3
+returns-3 : tie.Need-returns-in-Refused
 returns-3 c =
-    let k = c.before.before.before in
+    let k = c.before in
     let a = (start k).args in
-    files_refused (main_of (files k)) (sym k.check-set.ensures ∙ c.before.file.given.1) a.first a.count
+    files_refused (main_of (files k)) (sym k.check_set.ensures ∙ c.in-Refused.is) a.first a.count
     a.out.now a.code.now a.listed
 
-pub in-code-spec : {M : Type 1} → statement M
-in-code-spec =
+pub in_code_spec : {M : Type 1} → statement M
+in_code_spec =
     tie.close
     (tie.spec (search rules) (search rules) (search rules) returns (search rules) walk-requires (search rules)
     (search rules) returns-2 returns-3)

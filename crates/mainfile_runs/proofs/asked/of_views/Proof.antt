@@ -14,7 +14,7 @@ use Rattle.mainfile_runs.proofs.asked.of_views.Statement.{statement}
 use Rattle.mainfile_runs.proofs.asked.of_views.Tie as tie
 
 -- once the files are judged
-module _ (k : tie.After-check-set) where
+module _ (k : tie.After-check_set) where
   abbrev start : tie.Start
   start = k.before.before.before.before.before.before.before.before.before
 
@@ -30,30 +30,30 @@ walk-requires c κs =
     let t = all.before in
     let k = t.before.before in
     rw (all.all_in.ensures.0, all.all_in.ensures.1)
-    (all-between (files k) (set-accepted (files k) (sym k.check-set.ensures ∙ t.enum_told.given.1)))
+    (all-between (files k) (set-accepted (files k) (sym k.check_set.ensures ∙ t.in-Value.is)))
 
-returns : tie.Need-returns
+returns : tie.Need-returns-in-Value
 returns c =
-    let w = c.before.before in
-    let all = w.before.before in
-    let t = all.before in
-    let k = t.before.before in
+    let w = c in
+    let all = w in
+    let t = all in
+    let k = t.before in
     let a = (start k).args in
-    let taken = sym k.check-set.ensures ∙ t.enum_told.given.1 in
+    let taken = sym k.check_set.ensures ∙ t.in-Value.is in
     w.walk.ensures
     ∙ (ap₂ (λ (n m : ℕ). run_from (shown_among a.listed (files k) n m) a.first a.count a.out.now)
     all.all_in.ensures.0 all.all_in.ensures.1
     ∙ views-shown (main_of (files k)) taken a.first a.count a.out.now _ (asks-views (files k) taken) a.listed)
 
-returns-2 : tie.Need-returns-2
+returns-2 : tie.Need-returns-in-Refused
 returns-2 c =
-    let k = c.before.before.before in
+    let k = c.before in
     let a = (start k).args in
-    views-refused (main_of (files k)) (sym k.check-set.ensures ∙ c.before.file.given.1) a.first a.count
+    views-refused (main_of (files k)) (sym k.check_set.ensures ∙ c.in-Refused.is) a.first a.count
     a.out.now a.listed
 
-pub of-views-spec : {M : Type 1} → statement M
-of-views-spec =
+pub of_views_spec : {M : Type 1} → statement M
+of_views_spec =
     tie.close
     (tie.spec (search rules) (search rules) (search rules) walk-requires (search rules) (search rules) returns
     returns-2)

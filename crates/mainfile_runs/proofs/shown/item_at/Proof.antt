@@ -17,12 +17,12 @@ use Rattle.mainfile_runs.proofs.Laws.{asked-small, asked-item}
 use Rattle.mainfile_runs.proofs.shown.item_at.Statement.{statement}
 use Rattle.mainfile_runs.proofs.shown.item_at.Tie as tie
 
-slice-aggregate-heading : tie.Need-slice-aggregate-heading
-slice-aggregate-heading c = sym (length-take-le _ _ c.before.before.worded-line.ensures.within)
+slice-aggregate-heading : tie.Need-slice_bounds-heading-end
+slice-aggregate-heading c = sym (length-take-le _ _ c.worded_line-line.ensures.within)
 
 -- once the room for the line is found
-module _ (c : tie.After-room-before) where
-  abbrev line : tie.After-worded-line
+module _ (c : tie.After-room_before-room) where
+  abbrev line : tie.After-worded_line-line
   line = c.before.before.before
 
   abbrev start : tie.Start
@@ -34,51 +34,51 @@ module _ (c : tie.After-room-before) where
       set_of a.localities.now a.thoroughfares.now a.descriptors.now a.buildings.now a.subs.now
       a.organisations.now a.addresses.now
 
-  room : c.room-before.result ≡ before (number_line start.args.place) (length start.args.out.now)
-  room = rw line.worded-line.ensures.is at c.room-before.ensures
+  room : c.room_before-room.result ≡ before (number_line start.args.place) (length start.args.out.now)
+  room = rw line.worded_line-line.ensures.is at c.room_before-room.ensures
 
-  within : c.room-before.result ≤ length start.args.out.now
+  within : c.room_before-room.result ≤ length start.args.out.now
   within = omega (arith, room, cut-within (number_line start.args.place) start.args.out.now)
 
 -- once the label was asked
-module _ (l : tie.After-label-at) where
-  abbrev found : tie.After-room-before
+module _ (l : tie.After-label_at-answer) where
+  abbrev found : tie.After-room_before-room
   found = l.before.before
 
   asked : let a = (start found).args in
-      said l.label_at.result l.label_at.last.1.1.1.1.1.1.1.1.0
+      said l.label_at-answer.result l.label_at-answer.last.1.1.1.1.1.1.1.1.0
       ≡ place_label (files found) a.place (drop (before (number_line a.place) (length a.out.now)) a.out.now)
   asked =
       let a = (start found).args in
-      rw (lent a.out.now found.room-before.result) at l.label_at.ensures
+      rw (lent a.out.now found.room_before-room.result) at l.label_at-answer.ensures
       ∙ ap (λ (n : ℕ). place_label (files found) a.place (drop n a.out.now)) (room found)
 
-part-label-at-start : tie.Need-slice-bounds-label-at-start
+part-label-at-start : tie.Need-slice_bounds-label_at-start
 part-label-at-start c = let h = within c in search rules
 
-headed-item-requires : tie.Need-headed-item-requires
+headed-item-requires : tie.Need-headed_item-requires
 headed-item-requires c κs =
     let l = c.before.before.before in
     let s = start (found l) in
-    let written = (line (found l)).worded-line.ensures in (
+    let written = (line (found l)).worded_line-line.ensures in (
       rw written.is written.short,
       asked-small (files (found l)) s.args.place s.args.out.now s.pre (asked l),
     )
 
 returns : tie.Need-returns
 returns c =
-    let whole = c.before.before in
+    let whole = c in
     let l = whole.before.before.before.before in
     let s = start (found l) in
     let a = s.args in
-    rw (line (found l)).worded-line.ensures.is at whole.headed-item.ensures
-    ∙ (ap (headed (number_line a.place) l.label_at.result)
-    (given_back a.out.now _ (found l).room-before.result
-    ∙ ap (λ (n : ℕ). take n a.out.now ++ l.label_at.new.1.1.1.1.1.1.1.1.0) (room (found l)))
+    rw (line (found l)).worded_line-line.ensures.is at whole.headed_item.ensures
+    ∙ (ap (headed (number_line a.place) l.label_at-answer.result)
+    (given_back a.out.now _ (found l).room_before-room.result
+    ∙ ap (λ (n : ℕ). take n a.out.now ++ l.label_at-answer.new.1.1.1.1.1.1.1.1.0) (room (found l)))
     ∙ asked-item (files (found l)) a.place a.out.now s.pre (asked l))
 
-pub item-at-spec : {M : Type 1} → statement M
-item-at-spec =
+pub item_at_spec : {M : Type 1} → statement M
+item_at_spec =
     tie.close
     (tie.spec (search rules) (search rules) (search rules) slice-aggregate-heading (search rules) within part-label-at-start
     (search rules) (λ c κs. search rules) headed-item-requires (search rules) returns)

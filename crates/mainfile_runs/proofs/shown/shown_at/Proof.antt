@@ -15,24 +15,24 @@ module _ (c : tie.Start) where
       set_of a.localities.now a.thoroughfares.now a.descriptors.now a.buildings.now a.subs.now
       a.organisations.now a.addresses.now
 
-returns : tie.Need-returns
+returns : tie.Need-returns-then-listed
 returns c =
-    let item = c.before.before in
-    let listed = item.before.before in
+    let item = c in
+    let listed = item in
     let s = listed.before.before.before.before.before.before.before.before.before in
-    item.item-at.ensures
-    ∙ sym (ap (λ (t : Bool). shown_at t (files s) s.args.place s.args.out.now) listed.if1.true)
+    item.item_at.ensures
+    ∙ sym (ap (λ (t : Bool). shown_at t (files s) s.args.place s.args.out.now) listed.if-listed.true)
 
-returns-2 : tie.Need-returns-2
+returns-2 : tie.Need-returns
 returns-2 c =
-    let label = c.before.before in
-    let alone = label.before.before in
+    let label = c in
+    let alone = label in
     let s = alone.before.before.before.before.before.before.before.before.before in
     label.label_at.ensures
     ∙ (shown-label (files s) s.args.place s.args.out.now
-    ∙ sym (ap (λ (t : Bool). shown_at t (files s) s.args.place s.args.out.now) alone.if1.false))
+    ∙ sym (ap (λ (t : Bool). shown_at t (files s) s.args.place s.args.out.now) alone.if-listed.false))
 
-pub shown-at-spec : {M : Type 1} → statement M
-shown-at-spec =
+pub shown_at_spec : {M : Type 1} → statement M
+shown_at_spec =
     tie.close
     (tie.spec (λ c κs. search rules) (search rules) returns (λ c κs. search rules) (search rules) returns-2)

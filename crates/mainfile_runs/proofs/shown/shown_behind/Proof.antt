@@ -9,15 +9,15 @@ use Rattle.mainfile_runs.proofs.shown.shown_behind.Tie as tie
 
 returns : tie.Need-returns
 returns c =
-    let l = c.before.before in
-    let a = l.before.before.before.before.before.before.before.before.before.before.args in
+    let l = c in
+    let a = l.args in
     let files =
     set_of a.localities.now a.thoroughfares.now a.descriptors.now a.buildings.now a.subs.now
     a.organisations.now a.addresses.now in
     lent-behind (shown_at a.listed files a.place) a.at a.out.now (given_back a.out.now _ a.at)
-    (rw (lent a.out.now a.at) at l.shown-at.ensures)
+    (rw (lent a.out.now a.at) at l.shown_at.ensures)
 
-pub shown-behind-spec : {M : Type 1} → statement M
-shown-behind-spec =
+pub shown_behind_spec : {M : Type 1} → statement M
+shown_behind_spec =
     tie.close
     (tie.spec (search rules) (search rules) (search rules) (λ c κs. search rules) (search rules) returns)

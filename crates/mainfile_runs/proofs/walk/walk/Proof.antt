@@ -18,13 +18,13 @@ use Rattle.mainfile_runs.proofs.Laws.{shown-there, shown-fits, next_place, place
 use Rattle.mainfile_runs.proofs.walk.walk.Statement.{statement}
 use Rattle.mainfile_runs.proofs.walk.walk.Tie as tie
 
-abbrev invariant-loop : tie.invariant-loop
+abbrev invariant-loop : tie.invariant-loop-done
 invariant-loop l t d b u o a s listed first count out₀ place₀ at₀ done₀ out place at done =
     (place ≡ place_among s.first s.many (first + done))
     × (Going (shown_among listed (set_of l t d b u o a) s.first s.many) first count out₀ done at out
     × (length out ≡ length out₀))
 
-abbrev decreases-loop : tie.decreases-loop
+abbrev decreases-loop : tie.decreases-loop-done
 decreases-loop l t d b u o a s listed first count out₀ place₀ at₀ done₀ out place at done = count - done
 
 module _ (s : tie.Start invariant-loop decreases-loop) where
@@ -50,89 +50,89 @@ module _ (s : tie.Start invariant-loop decreases-loop) where
   fit k out b e = shown-fits s.args.listed files (place_among first many k) out b e
 
 -- a turn of the loop
-module _ (l : tie.At-loop invariant-loop decreases-loop) where
+module _ (l : tie.At-loop-done invariant-loop decreases-loop) where
   abbrev start : tie.Start invariant-loop decreases-loop
   start = l.before.before.before.before.before.before.before.before.before.before
 
   abbrev number : ℕ
-  number = start.args.first + l.loop.done
+  number = start.args.first + l.loop-done.done
 
   address : AddressPlace (files start) (place_among (first start) (many start) number)
   address = among-place (files start) (first start) (many start) start.pre number
 
 -- what was asked, by its number
-module _ (m : tie.After-shown-behind invariant-loop decreases-loop) where
-  abbrev at-loop : tie.At-loop invariant-loop decreases-loop
+module _ (m : tie.After-shown_behind invariant-loop decreases-loop) where
+  abbrev at-loop : tie.At-loop-done invariant-loop decreases-loop
   at-loop = m.before.before.before
 
-  asked : said m.shown-behind.result m.shown-behind.last.1.1.1.1.1.1.1.1.1.1.0
-      ≡ asked_behind at-loop.loop.at at-loop.loop.out (asking (start at-loop) (number at-loop))
-  asked = rw at-loop.loop.inv.0 at m.shown-behind.ensures
+  asked : said m.shown_behind.result m.shown_behind.last.1.1.1.1.1.1.1.1.1.1.0
+      ≡ asked_behind at-loop.loop-done.at at-loop.loop-done.out (asking (start at-loop) (number at-loop))
+  asked = rw at-loop.loop-done.invariant.0 at m.shown_behind.ensures
 
-place-among-requires : tie.Need-place-among-requires invariant-loop decreases-loop
+place-among-requires : tie.Need-place_among-place-requires invariant-loop decreases-loop
 place-among-requires c κs = few c.before.before.before.before.before.before.before.before
 
-loop-holds : tie.Need-loop-init invariant-loop decreases-loop
+loop-holds : tie.Need-loop-done-init invariant-loop decreases-loop
 loop-holds c =
     let s = c.before.before.before.before.before.before.before.before.before in
     let a = s.args in (
-      c.place-among.ensures ∙ ap (place_among (first s) (many s)) (sym (add-zero a.first)),
+      c.place_among-place.ensures ∙ ap (place_among (first s) (many s)) (sym (add-zero a.first)),
       (going_start (asking s) a.first a.count a.out.now, refl),
     )
 
-shown-behind-requires : tie.Need-shown-behind-requires invariant-loop decreases-loop
+shown-behind-requires : tie.Need-shown_behind-requires invariant-loop decreases-loop
 shown-behind-requires c κs =
     let l = c.before.before in
-    (l.loop.invariant.1.0.within, rw l.loop.invariant.0 (address l))
+    (l.loop-done.invariant.1.0.within, rw l.loop-done.invariant.0 (address l))
 
-add_at : tie.Need-overflow-add-at invariant-loop decreases-loop
+add_at : tie.Need-overflow_add-at invariant-loop decreases-loop
 add_at c =
-    let m = c.before.before.before.before.before in
+    let m = c.before.before.before in
     let l = at-loop m in
     omega (
       arith,
-      going-fits l.loop.inv.1.0 (fit (start l)) (omega arith) (asked m) c.before.bytes.given.1,
-      m.shown-behind.auto.1.1.1.1.1.1.1.1.1.1.0,
-      l.loop.inv.1.1,
+      going-fits l.loop-done.invariant.1.0 (fit (start l)) (omega arith) (asked m) c.in-Value.is,
+      m.shown_behind.auto.1.1.1.1.1.1.1.1.1.1.0,
+      l.loop-done.invariant.1.1,
       (start l).good.1.1.1.1.1.1.1.1.1.1.1.0.0,
     )
 
-returns : tie.Need-returns invariant-loop decreases-loop
+returns : tie.Need-returns-in-Refused invariant-loop decreases-loop
 returns c =
-    let m = c.before.before.before.before.before in
+    let m = c.before.before.before in
     let l = at-loop m in
-    going-stop l.loop.inv.1.0 (fit (start l)) (omega arith) (asked m) c.before.reason.given.1
+    going-stop l.loop-done.invariant.1.0 (fit (start l)) (omega arith) (asked m) c.in-Refused.is
 
-place-behind-requires : tie.Need-place-behind-requires invariant-loop decreases-loop
+place-behind-requires : tie.Need-place_behind-place-requires invariant-loop decreases-loop
 place-behind-requires c κs =
-    let l = at-loop c.before.before.before.before.before in
+    let l = at-loop c.before.before.before in
     let s = start l in
-    (few s, omega (arith, few s, l.loop.inv.0, place-within (first s) (many s) (number l)))
+    (few s, omega (arith, few s, l.loop-done.invariant.0, place-within (first s) (many s) (number l)))
 
-loop-again : tie.Need-loop-preserved invariant-loop decreases-loop
+loop-again : tie.Need-loop-done-preserved invariant-loop decreases-loop
 loop-again c =
-    let n = c.before in
-    let m = n.before.before.before.before.before in
+    let n = c in
+    let m = n.before.before.before in
     let l = at-loop m in
     let s = start l in
-    let is = n.before.bytes.given.1 in
+    let is = n.in-Value.is in
     let there =
     shown-there s.args.listed (files s) (place_among (first s) (many s) (number l)) _ _
     (sym (answer-of (asked m)) ∙ is) in
-    let next : s.args.first + (l.loop.done + 1) ≡ number l + 1 = omega arith in (
-      rw l.loop.inv.0 at c.place-behind.ensures
+    let next : s.args.first + (l.loop-done.done + 1) ≡ number l + 1 = omega arith in (
+      rw l.loop-done.invariant.0 at c.place_behind-place.ensures
           ∙ (sym (next_place (first s) (many s) (number l) there) ∙ ap (place_among (first s) (many s)) (sym next)),
       (
-        going_step l.loop.inv.1.0 (fit s) (omega arith) (asked m) is,
-        m.shown-behind.auto.1.1.1.1.1.1.1.1.1.1.0 ∙ l.loop.inv.1.1,
+        going_step l.loop-done.invariant.1.0 (fit s) (omega arith) (asked m) is,
+        m.shown_behind.auto.1.1.1.1.1.1.1.1.1.1.0 ∙ l.loop-done.invariant.1.1,
       ),
     )
 
-returns-2 : tie.Need-returns-2 invariant-loop decreases-loop
-returns-2 c = going_end c.before.loop.invariant.1.0 (omega arith)
+returns-2 : tie.Need-returns invariant-loop decreases-loop
+returns-2 c = going_end c.loop-done.invariant.1.0 (omega arith)
 
-pub walk-spec : {M : Type 1} → statement M
-walk-spec =
+pub walk_spec : {M : Type 1} → statement M
+walk_spec =
     tie.close
     (tie.spec invariant-loop decreases-loop place-among-requires loop-holds shown-behind-requires (search rules) add_at (search rules)
     (search rules) returns place-behind-requires (search rules) (search rules) loop-again (search rules) returns-2)

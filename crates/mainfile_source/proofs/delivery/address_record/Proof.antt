@@ -6,14 +6,14 @@ use Rattle.file_record.proofs.Records.{record-fits}
 use Rattle.mainfile_source.proofs.delivery.address_record.Statement.{statement}
 use Rattle.mainfile_source.proofs.delivery.address_record.Tie as tie
 
-whole-record-requires : tie.Need-whole-record-requires
+whole-record-requires : tie.Need-whole_record-requires
 whole-record-requires c κs =
-    let a = c.before.before.args in
-    (c.if1.true, record-fits 88 a.addresses.now a.i c.if1.true)
+    let a = c.args in
+    (c.if-i-addresses.true, record-fits 88 a.addresses.now a.i c.if-i-addresses.true)
 
-returns-2 : tie.Need-returns-2
+returns-2 : tie.Need-returns-else-i-addresses
 unfolding record_at
-returns-2 c = simp (le-ltb _ _ c.before.if1.false)
+returns-2 c = simp (le-ltb _ _ c.if-i-addresses.false)
 
-pub address-record-spec : {M : Type 1} → statement M
-address-record-spec = tie.close (tie.spec whole-record-requires (λ c. search rules) (λ c. search rules) returns-2)
+pub address_record_spec : {M : Type 1} → statement M
+address_record_spec = tie.close (tie.spec whole-record-requires (λ c. search rules) (λ c. search rules) returns-2)

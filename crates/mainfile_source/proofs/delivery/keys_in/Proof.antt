@@ -6,20 +6,20 @@ use Rattle.mainfile_source.proofs.delivery.keys_in.Tie as tie
 
 returns : tie.Need-returns
 returns c =
-    let sixth = c.before in
-    let fifth = sixth.before in
-    let fourth = fifth.before in
-    let third = fourth.before in
-    let second = third.before in
+    let sixth = c in
+    let fifth = sixth in
+    let fourth = fifth in
+    let third = fourth in
+    let second = third in
     rw (
-      c.key-in7.ensures,
-      sixth.key-in6.ensures,
-      fifth.key-in5.ensures,
-      fourth.key-in4.ensures,
-      third.key-in3.ensures,
-      second.key-in2.ensures,
-      second.before.key_in.ensures,
+      c.key_in-sub_building.ensures,
+      sixth.key_in-building.ensures,
+      fifth.key_in-second.ensures,
+      fourth.key_in-dependent.ensures,
+      third.key_in-descriptor.ensures,
+      second.key_in-thoroughfare.ensures,
+      second.key_in-locality.ensures,
     ) refl
 
-pub keys-in-spec : {M : Type 1} → statement M
-keys-in-spec = tie.close (tie.spec (λ c κs. search rules) (λ c κs. search rules) (λ c κs. search rules) (λ c κs. search rules) (λ c κs. search rules) (λ c κs. search rules) (λ c κs. search rules) returns)
+pub keys_in_spec : {M : Type 1} → statement M
+keys_in_spec = tie.close (tie.spec (λ c κs. search rules) (λ c κs. search rules) (λ c κs. search rules) (λ c κs. search rules) (λ c κs. search rules) (λ c κs. search rules) (λ c κs. search rules) returns)

@@ -10,41 +10,41 @@ use Rattle.mainfile_source.specs.Delivery.{own_found}
 use Rattle.mainfile_source.proofs.delivery.own_row.Statement.{statement}
 use Rattle.mainfile_source.proofs.delivery.own_row.Tie as tie
 
-returns : tie.Need-returns
+returns : tie.Need-returns-then-byte_of-eq76
 unfolding own_found needs_row
 returns c =
-    let k = c.before in
-    let t = k.before in
-    let b = t.before in
-    let rec = b.before.before.before.args.rec.now in
-    rw (c.organisation-row.ensures, k.key_in.ensures)
-    (simp (eq-eqb (get_or rec 77 0) 76 (rw b.byte_of.ensures at t.if1.true)))
+    let k = c in
+    let t = k in
+    let b = t in
+    let rec = b.args.rec.now in
+    rw (c.organisation_row.ensures, k.key_in-key.ensures)
+    (simp (eq-eqb (get_or rec 77 0) 76 (rw b.byte_of.ensures at t.if-byte_of-eq76.true)))
 
-returns-2 : tie.Need-returns-2
+returns-2 : tie.Need-returns-then-key-eq0
 unfolding own_found needs_row
 returns-2 c =
-    let k = c.before in
-    let e = k.before in
-    let b = e.before in
-    let rec = b.before.before.before.args.rec.now in
+    let k = c in
+    let e = k in
+    let b = e in
+    let rec = b.args.rec.now in
     simp (
-      ne_eqb (get_or rec 77 0) 76 (rw b.byte_of.ensures at e.if1.false),
-      eq-eqb (value (part rec 69 77)) 0 (rw k.key-in2.ensures at c.if2.true),
+      ne_eqb (get_or rec 77 0) 76 (rw b.byte_of.ensures at e.if-byte_of-eq76.false),
+      eq-eqb (value (part rec 69 77)) 0 (rw k.key_in-key-2.ensures at c.if-key-eq0.true),
     )
 
-returns-3 : tie.Need-returns-3
+returns-3 : tie.Need-returns
 unfolding own_found needs_row
 returns-3 c =
-    let f = c.before in
-    let k = f.before in
-    let e = k.before in
-    let b = e.before in
-    let rec = b.before.before.before.args.rec.now in
-    rw (c.organisation-row2.ensures, k.key-in2.ensures)
+    let f = c in
+    let k = f in
+    let e = k in
+    let b = e in
+    let rec = b.args.rec.now in
+    rw (c.organisation_row-2.ensures, k.key_in-key-2.ensures)
     (simp (
-      ne_eqb (get_or rec 77 0) 76 (rw b.byte_of.ensures at e.if1.false),
-      ne_eqb (value (part rec 69 77)) 0 (rw k.key-in2.ensures at f.if2.false),
+      ne_eqb (get_or rec 77 0) 76 (rw b.byte_of.ensures at e.if-byte_of-eq76.false),
+      ne_eqb (value (part rec 69 77)) 0 (rw k.key_in-key-2.ensures at f.if-key-eq0.false),
     ))
 
-pub own-row-spec : {M : Type 1} → statement M
-own-row-spec = tie.close (tie.spec (λ c κs. search rules) (λ c κs. search rules) (λ c κs. search rules) returns (λ c κs. search rules) returns-2 (λ c κs. search rules) returns-3)
+pub own_row_spec : {M : Type 1} → statement M
+own_row_spec = tie.close (tie.spec (λ c κs. search rules) (λ c κs. search rules) (λ c κs. search rules) returns (λ c κs. search rules) returns-2 (λ c κs. search rules) returns-3)

@@ -4,11 +4,11 @@ use borrow.Author.Tests.{lt-ltb, le-ltb}
 use Rattle.mainfile_source.proofs.delivery.start_at.Statement.{statement}
 use Rattle.mainfile_source.proofs.delivery.start_at.Tie as tie
 
-returns : tie.Need-returns
-returns c = simp (lt-ltb _ _ c.if1.true)
+returns : tie.Need-returns-then-i-addresses
+returns c = simp (lt-ltb _ _ c.if-i-addresses.true)
 
-returns-2 : tie.Need-returns-2
-returns-2 c = simp (le-ltb _ _ c.if1.false)
+returns-2 : tie.Need-returns-else-i-addresses
+returns-2 c = simp (le-ltb _ _ c.if-i-addresses.false)
 
-pub start-at-spec : {M : Type 1} → statement M
-start-at-spec = tie.close (tie.spec (λ c. search rules) returns returns-2)
+pub start_at_spec : {M : Type 1} → statement M
+start_at_spec = tie.close (tie.spec (λ c. search rules) returns returns-2)

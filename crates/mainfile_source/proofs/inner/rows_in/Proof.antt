@@ -15,8 +15,8 @@ use Rattle.mainfile_source.proofs.inner.rows_in.Statement.{statement}
 use Rattle.mainfile_source.proofs.inner.rows_in.Tie as tie
 
 -- once the rows of the first four files are counted
-module _ (c : tie.After-rows-of4) where
-  abbrev looked : tie.After-kind-rows
+module _ (c : tie.After-rows_of-3) where
+  abbrev looked : tie.After-kind_rows-found
   looked = c.before.before.before.before.before
 
   abbrev start : tie.Start
@@ -28,21 +28,21 @@ module _ (c : tie.After-rows-of4) where
       row_files a.localities.now a.thoroughfares.now a.descriptors.now a.buildings.now a.sub_buildings.now
 
   -- counts are small beside a number, and so are rows
-  one : c.before.before.before.rows_of.result < 400_000_000_000_000_000
-  one = omega (arith, c.before.before.before.rows_of.ensures, start.good.0.1)
+  one : c.rows_of-two.result < 400_000_000_000_000_000
+  one = omega (arith, c.rows_of-two.ensures, start.good.0.1)
 
-  two : c.before.before.rows-of2.result < 400_000_000_000_000_000
-  two = omega (arith, c.before.before.rows-of2.ensures, start.good.1.0.1)
+  two : c.rows_of.result < 400_000_000_000_000_000
+  two = omega (arith, c.rows_of.ensures, start.good.1.0.1)
 
-  three : c.before.rows-of3.result < 400_000_000_000_000_000
-  three = omega (arith, c.before.rows-of3.ensures, start.good.1.1.0.1)
+  three : c.rows_of-2.result < 400_000_000_000_000_000
+  three = omega (arith, c.rows_of-2.ensures, start.good.1.1.0.1)
 
-  four : c.rows-of4.result < 400_000_000_000_000_000
-  four = omega (arith, c.rows-of4.ensures, start.good.1.1.1.0.1)
+  four : c.rows_of-3.result < 400_000_000_000_000_000
+  four = omega (arith, c.rows_of-3.ensures, start.good.1.1.1.0.1)
 
-  short : (i : ℕ) → get_or looked.kind-rows.result.rows i 0 ≤ 9_223_372_036_854_775_808
+  short : (i : ℕ) → get_or looked.kind_rows-found.result.rows i 0 ≤ 9_223_372_036_854_775_808
   short i =
-      rw looked.kind-rows.ensures
+      rw looked.kind_rows-found.ensures
       (rows_short files 9_223_372_036_854_775_808
       (λ kind. by_tests (eqb kind 1) (eqb kind 2) (eqb kind 3) (eqb kind 4)) (asked_by key_kinds start.args.keys) i)
     where
@@ -56,44 +56,44 @@ module _ (c : tie.After-rows-of4) where
       by_tests false false false true = omega (arith, start.good.1.1.1.0.1)
       by_tests false false false false = omega (arith, start.good.1.1.1.1.0.1)
 
-add_five : tie.Need-overflow-add-five
+add_five : tie.Need-overflow_add-five
 add_five c = omega (arith, one c, two c, three c, four c)
 
-behind-requires : tie.Need-behind-requires
+behind-requires : tie.Need-behind-thoroughfare-requires
 behind-requires c κs = omega (arith, one c, short c 1)
 
-behind-requires-2 : tie.Need-behind-requires-2
+behind-requires-2 : tie.Need-behind-descriptor-requires
 behind-requires-2 c κs = let k = c.before in omega (arith, one k, two k, short k 2)
 
-behind-requires-3 : tie.Need-behind-requires-3
+behind-requires-3 : tie.Need-behind-dependent-requires
 behind-requires-3 c κs = let k = c.before.before in omega (arith, one k, short k 3)
 
-behind-requires-4 : tie.Need-behind-requires-4
+behind-requires-4 : tie.Need-behind-second-requires
 behind-requires-4 c κs = let k = c.before.before.before in omega (arith, one k, two k, short k 4)
 
-behind-requires-5 : tie.Need-behind-requires-5
+behind-requires-5 : tie.Need-behind-building-requires
 behind-requires-5 c κs = let k = c.before.before.before.before in omega (arith, one k, two k, three k, short k 5)
 
-behind-requires-6 : tie.Need-behind-requires-6
+behind-requires-6 : tie.Need-behind-sub_building-requires
 behind-requires-6 c κs = let k = c.before.before.before.before.before in omega (arith, one k, two k, three k, four k, short k 6)
 
 returns : tie.Need-returns
 returns c =
     let k = c.before.before.before.before.before.before in
     rw (
-      c.behind6.ensures,
-      c.before.behind5.ensures,
-      c.before.before.behind4.ensures,
-      c.before.before.before.behind3.ensures,
-      c.before.before.before.before.behind2.ensures,
-      c.before.before.before.before.before.behind.ensures,
-      k.rows-of4.ensures,
-      k.before.rows-of3.ensures,
-      k.before.before.rows-of2.ensures,
-      k.before.before.before.rows_of.ensures,
+      c.behind-sub_building.ensures,
+      c.behind-building.ensures,
+      c.behind-second.ensures,
+      c.behind-dependent.ensures,
+      c.behind-descriptor.ensures,
+      c.behind-thoroughfare.ensures,
+      k.rows_of-3.ensures,
+      k.rows_of-2.ensures,
+      k.rows_of.ensures,
+      k.rows_of-two.ensures,
     )
     (set-rows (files k) (start k).requires.0 (start k).args.keys (start k).well_formed.1.1.1.1.1.0.1.0.1 (start k).requires.1
-    (looked k).kind-rows.result.rows (looked k).kind-rows.ensures)
+    (looked k).kind_rows-found.result.rows (looked k).kind_rows-found.ensures)
 
-pub rows-in-spec : {M : Type 1} → statement M
-rows-in-spec = tie.close (tie.spec (λ c κs. search rules) (λ c κs. search rules) (λ c κs. search rules) (λ c. search rules) (λ c κs. search rules) (λ c. search rules) (λ c κs. search rules) add_five (λ c. search rules) behind-requires (λ c. search rules) behind-requires-2 (λ c. search rules) behind-requires-3 (λ c. search rules) behind-requires-4 (λ c. search rules) behind-requires-5 (λ c. search rules) behind-requires-6 (λ c. search rules) returns)
+pub rows_in_spec : {M : Type 1} → statement M
+rows_in_spec = tie.close (tie.spec (λ c κs. search rules) (λ c κs. search rules) (λ c κs. search rules) (λ c. search rules) (λ c κs. search rules) (λ c. search rules) (λ c κs. search rules) add_five (λ c. search rules) behind-requires (λ c. search rules) behind-requires-2 (λ c. search rules) behind-requires-3 (λ c. search rules) behind-requires-4 (λ c. search rules) behind-requires-5 (λ c. search rules) behind-requires-6 (λ c. search rules) returns)

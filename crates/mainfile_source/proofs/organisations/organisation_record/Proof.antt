@@ -6,14 +6,14 @@ use Rattle.file_record.proofs.Records.{record-fits}
 use Rattle.mainfile_source.proofs.organisations.organisation_record.Statement.{statement}
 use Rattle.mainfile_source.proofs.organisations.organisation_record.Tie as tie
 
-whole-record-requires : tie.Need-whole-record-requires
+whole-record-requires : tie.Need-whole_record-requires
 whole-record-requires c κs =
-    let a = c.before.before.args in
-    (c.if1.true, record-fits 153 a.file.now a.i c.if1.true)
+    let a = c.args in
+    (c.if-i-file.true, record-fits 153 a.file.now a.i c.if-i-file.true)
 
-returns-2 : tie.Need-returns-2
+returns-2 : tie.Need-returns-else-i-file
 unfolding record_at
-returns-2 c = simp (le-ltb _ _ c.before.if1.false)
+returns-2 c = simp (le-ltb _ _ c.if-i-file.false)
 
-pub organisation-record-spec : {M : Type 1} → statement M
-organisation-record-spec = tie.close (tie.spec whole-record-requires (λ c. search rules) (λ c. search rules) returns-2)
+pub organisation_record_spec : {M : Type 1} → statement M
+organisation_record_spec = tie.close (tie.spec whole-record-requires (λ c. search rules) (λ c. search rules) returns-2)

@@ -10,7 +10,7 @@ use Rattle.mainfile_source.proofs.organisations.organisation_row.Statement.{stat
 use Rattle.mainfile_source.proofs.organisations.organisation_row.Tie as tie
 
 -- what is asked for, and the place behind it
-module _ (c : tie.After-upper-number) where
+module _ (c : tie.After-upper_number-end) where
   abbrev start : tie.Start
   start = c.before.before.before
 
@@ -20,33 +20,33 @@ module _ (c : tie.After-upper-number) where
   abbrev r : ℕ
   r = organisation_number start.args.user start.args.key
 
-  upper : c.upper-number.result ≡ upper_of (number_at file) (last_in file) r
-  upper = rw c.before.number_of_lem.ensures at c.upper-number.ensures
+  upper : c.upper_number-end.result ≡ upper_of (number_at file) (last_in file) r
+  upper = rw c.number_of-r.ensures at c.upper_number-end.ensures
 
-returns : tie.Need-returns
+returns : tie.Need-returns-then-end-le1
 unfolding organisation_found
 returns c =
     let b = c.before in
-    sym (found_none (number_at (file b)) (r b) (last_in (file b)) (rw (upper b) at c.if1.true))
+    sym (found_none (number_at (file b)) (r b) (last_in (file b)) (rw (upper b) at c.if-end-le1.true))
 
-returns-2 : tie.Need-returns-2
+returns-2 : tie.Need-returns-then-number_at-r
 unfolding organisation_found
 returns-2 c =
-    let k = c.before in
+    let k = c in
     let b = k.before.before in
     rw (upper b)
     (sym
-    (found_here (number_at (file b)) (r b) (last_in (file b)) (rw (upper b) at k.before.if1.false)
-    (rw (upper b) at (sym k.number_at.ensures ∙ (c.if2.true ∙ b.before.number_of_lem.ensures)))))
+    (found_here (number_at (file b)) (r b) (last_in (file b)) (rw (upper b) at k.if-end-le1.false)
+    (rw (upper b) at (sym k.number_at.ensures ∙ (c.if-number_at-r.true ∙ b.number_of-r.ensures)))))
 
-returns-3 : tie.Need-returns-3
+returns-3 : tie.Need-returns-else-number_at-r
 unfolding organisation_found
 returns-3 c =
-    let k = c.before in
+    let k = c in
     let b = k.before.before in
     sym
-    (found-other (number_at (file b)) (r b) (last_in (file b)) (rw (upper b) at k.before.if1.false)
-    (λ e. c.if2.false (k.number_at.ensures ∙ (rw (upper b) e ∙ sym b.before.number_of_lem.ensures))))
+    (found-other (number_at (file b)) (r b) (last_in (file b)) (rw (upper b) at k.if-end-le1.false)
+    (λ e. c.if-number_at-r.false (k.number_at.ensures ∙ (rw (upper b) e ∙ sym b.number_of-r.ensures))))
 
-pub organisation-row-spec : {M : Type 1} → statement M
-organisation-row-spec = tie.close (tie.spec (λ c κs. search rules) (λ c κs. search rules) returns (λ c. search rules) (λ c κs. search rules) returns-2 returns-3)
+pub organisation_row_spec : {M : Type 1} → statement M
+organisation_row_spec = tie.close (tie.spec (λ c κs. search rules) (λ c κs. search rules) returns (λ c. search rules) (λ c κs. search rules) returns-2 returns-3)

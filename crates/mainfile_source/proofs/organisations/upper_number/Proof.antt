@@ -10,46 +10,46 @@ use Rattle.mainfile_source.specs.Organisations.{number_at, last_in}
 use Rattle.mainfile_source.proofs.organisations.upper_number.Statement.{statement}
 use Rattle.mainfile_source.proofs.organisations.upper_number.Tie as tie
 
-abbrev invariant-loop : tie.invariant-loop
+abbrev invariant-loop : tie.invariant-loop-low
 invariant-loop file r low₀ high₀ low high = Left (number_at file) (last_in file) r low high
 
-abbrev decreases-loop : tie.decreases-loop
+abbrev decreases-loop : tie.decreases-loop-low
 decreases-loop file r low₀ high₀ low high = high - low
 
-loop-holds : tie.Need-loop-init invariant-loop decreases-loop
+loop-holds : tie.Need-loop-low-init invariant-loop decreases-loop
 loop-holds c =
-    let a = c.before.before.args in
-    rw c.last-in.ensures (left-all (number_at a.file.now) a.r (last_in a.file.now))
+    let a = c.args in
+    rw c.last_in-high.ensures (left-all (number_at a.file.now) a.r (last_in a.file.now))
 
 -- no place is behind the file
-short : (c : tie.At-loop invariant-loop decreases-loop) → c.loop.high ≤ length c.before.before.before.args.file.now
+short : (c : tie.At-loop-low invariant-loop decreases-loop) → c.loop-low.high ≤ length c.args.file.now
 short c =
-    let a = c.before.before.before.args in
-    omega (arith, c.loop.invariant.to, div-le_self (length a.file.now) 153)
+    let a = c.args in
+    omega (arith, c.loop-low.invariant.to, div-le_self (length a.file.now) 153)
 
-loop-again : tie.Need-loop-preserved invariant-loop decreases-loop
+loop-again : tie.Need-loop-low-preserved-then-r-number_at invariant-loop decreases-loop
 loop-again c =
-    let at-middle = c.before in
-    let at-loop = at-middle.before.before in
-    let a = at-loop.before.before.before.args in
-    left-low (number_at a.file.now) a.r (last_in a.file.now) at-loop.loop.low at-loop.loop.high
-    at-loop.loop.invariant at-middle.before.loop-test.true (rw at-middle.number_at.ensures at c.if1.true)
+    let at-middle = c in
+    let at-loop = at-middle in
+    let a = at-loop.args in
+    left-low (number_at a.file.now) a.r (last_in a.file.now) at-loop.loop-low.low at-loop.loop-low.high
+    at-loop.loop-low.invariant at-middle.loop-low-test.true (rw at-middle.number_at.ensures at c.if-r-number_at.true)
 
-loop-again-2 : tie.Need-loop-preserved-2 invariant-loop decreases-loop
+loop-again-2 : tie.Need-loop-low-preserved invariant-loop decreases-loop
 loop-again-2 c =
-    let at-middle = c.before in
-    let at-loop = at-middle.before.before in
-    let a = at-loop.before.before.before.args in
-    left-high (number_at a.file.now) a.r (last_in a.file.now) at-loop.loop.low at-loop.loop.high
-    at-loop.loop.invariant at-middle.before.loop-test.true (rw at-middle.number_at.ensures at c.if1.false)
+    let at-middle = c in
+    let at-loop = at-middle in
+    let a = at-loop.args in
+    left-high (number_at a.file.now) a.r (last_in a.file.now) at-loop.loop-low.low at-loop.loop-low.high
+    at-loop.loop-low.invariant at-middle.loop-low-test.true (rw at-middle.number_at.ensures at c.if-r-number_at.false)
 
 returns : tie.Need-returns invariant-loop decreases-loop
 returns c =
-    let at-loop = c.before in
-    let a = at-loop.before.before.before.args in
-    left-none (number_at a.file.now) a.r (last_in a.file.now) at-loop.loop.low at-loop.loop.high
-    at-loop.loop.invariant c.loop-test.false
+    let at-loop = c in
+    let a = at-loop.args in
+    left-none (number_at a.file.now) a.r (last_in a.file.now) at-loop.loop-low.low at-loop.loop-low.high
+    at-loop.loop-low.invariant c.loop-low-test.false
 
-pub upper-number-spec : {M : Type 1} → statement M
-upper-number-spec = tie.close (tie.spec invariant-loop decreases-loop (λ c κs. search rules) loop-holds (λ c. search rules) (λ c. omega (arith, short c.before))
+pub upper_number_spec : {M : Type 1} → statement M
+upper_number_spec = tie.close (tie.spec invariant-loop decreases-loop (λ c κs. search rules) loop-holds (λ c. search rules) (λ c. omega (arith, short c.before))
     (λ c κs. search rules) (λ c. search rules) loop-again (λ c. omega (arith, short c.before.before.before)) (λ c. search rules) loop-again-2 returns)

@@ -7,9 +7,9 @@ use Rattle.mainfile_texts.proofs.inner.gather_localities.Tie as tie
 
 returns : tie.Need-returns
 returns c =
-    let double = c.before.before.before.before.before.before.before.before.before.before.row-into.ensures in
-    let dependent = c.before.before.before.before.before.before.row-into2.ensures in
-    let town = c.before.before.row-into3.ensures in
+    let double = c.row_into-double.ensures in
+    let dependent = c.row_into-dependent.ensures in
+    let town = c.row_into-town.ensures in
     -- what the later ones leave as it is
     let last = kept_same 443 town (omega arith) in
     let from-dependent = same_then (kept_same 408 dependent (omega arith)) (kept_same 408 town (omega arith)) in (
@@ -22,5 +22,5 @@ returns c =
           (same_then (kept_same 373 dependent (omega arith)) (kept_same 373 town (omega arith))),
     )
 
-pub gather-localities-spec : {M : Type 1} → statement M
-gather-localities-spec = tie.close (tie.spec (λ c. search rules) (λ c κs. search rules) (λ c κs. search rules) (λ c κs. search rules) (λ c. search rules) returns)
+pub gather_localities_spec : {M : Type 1} → statement M
+gather_localities_spec = tie.close (tie.spec (λ c. search rules) (λ c κs. search rules) (λ c κs. search rules) (λ c κs. search rules) (λ c. search rules) returns)

@@ -12,24 +12,24 @@ use Rattle.mainfile_texts.proofs.Kept.{kept-as, kept_same, kept-stood, same_then
 use Rattle.mainfile_texts.proofs.inner.gather_own.Statement.{statement}
 use Rattle.mainfile_texts.proofs.inner.gather_own.Tie as tie
 
-text-into-requires : tie.Need-text-into-requires
+text-into-requires : tie.Need-text_into-inward-requires
 text-into-requires c κs =
     let start = c.before.before.before.before.before.before.before.before.before.before.before.before.before.before.before.before.before.before.before.before.before in
     let at = start.args.p.postcode in
     let short = part-bound start.args.addresses.now (at + 4) (at + 7) in
     let long =
-    c.before.before.before.before.field-into4.ensures.long
-    ∙ (c.before.before.before.before.before.before.before.before.field-into3.ensures.long
-    ∙ (c.before.before.before.before.before.before.before.before.before.before.before.before.field-into2.ensures.long ∙ c.before.before.before.before.before.before.before.before.before.before.before.before.before.before.before.before.field-into.ensures.long)) in
-    let three = c.before.part_of.result.now in
-    let small : length three ≤ 3 = rw c.before.part_of.ensures (omega arith) in
-    let room : 130 + length three ≤ length c.before.before.before.before.field-into4.new.1.1.1.1.1.0 =
+    c.field_into-outward.ensures.long
+    ∙ (c.field_into-po_box.ensures.long
+    ∙ (c.field_into-department.ensures.long ∙ c.field_into-organisation.ensures.long)) in
+    let three = c.part_of-three.result.now in
+    let small : length three ≤ 3 = rw c.part_of-three.ensures (omega arith) in
+    let room : 130 + length three ≤ length c.field_into-outward.new.1.1.1.1.1.0 =
     omega (arith, long, start.requires.1, small) in
     (omega arith, room)
 
 returns : tie.Need-returns
 returns c =
-    let start = c.before.before.before.before.before.before.before.before.before.before.before.before.before.before.before.before.before.before.before.before.before.before.before.before in
+    let start = c in
     let a = start.args in
     let p = a.p in
     let o = p.organisation in
@@ -37,18 +37,18 @@ returns c =
     let others = a.organisations.now in
     let name = text_in others o (o + 60) in
     let department = text_in others (o + 60) (o + 120) in
-    let part_of = c.before.before.before.before in
+    let part_of = c in
     let first =
-    kept-as 60 c.before.before.before.before.before.before.before.before.before.before.before.before.before.before.before.before.before.before.before.field-into.ensures (name-said there p.lacking name department) (le_refl 60) in
+    kept-as 60 c.field_into-organisation.ensures (name-said there p.lacking name department) (le_refl 60) in
     let second =
-    kept-as 60 c.before.before.before.before.before.before.before.before.before.before.before.before.before.before.before.field-into2.ensures
+    kept-as 60 c.field_into-department.ensures
     (if-end there others (o + 60) 60 (o + 120) (omega arith) ∙ department-said there p.lacking name department)
     (le_refl 60) in
-    let third = c.before.before.before.before.before.before.before.before.before.before.before.field-into3.ensures in
-    let fourth = c.before.before.before.before.before.before.before.field-into4.ensures in
+    let third = c.field_into-po_box.ensures in
+    let fourth = c.field_into-outward.ensures in
     let short = part-bound a.addresses.now (p.postcode + 4) (p.postcode + 7) in
     let fifth =
-    kept-as 3 c.before.before.text-into.ensures part_of.part_of.ensures (rw part_of.part_of.ensures (omega arith)) in
+    kept-as 3 c.text_into-inward.ensures part_of.part_of-three.ensures (rw part_of.part_of-three.ensures (omega arith)) in
     -- what the later ones leave as it is
     let last = kept_same 130 fifth (omega arith) in
     let from-fourth = same_then (kept_same 126 fourth (omega arith)) (kept_same 126 fifth (omega arith)) in
@@ -72,5 +72,5 @@ returns c =
           (same_then (kept_same 0 fourth (omega arith)) (kept_same 0 fifth (omega arith))))),
     )
 
-pub gather-own-spec : {M : Type 1} → statement M
-gather-own-spec = tie.close (tie.spec (λ c κs. search rules) (λ c. search rules) (λ c κs. search rules) (λ c κs. search rules) (λ c κs. search rules) (λ c. search rules) (λ c. search rules) (λ c κs. search rules) text-into-requires (λ c. search rules) returns)
+pub gather_own_spec : {M : Type 1} → statement M
+gather_own_spec = tie.close (tie.spec (λ c κs. search rules) (λ c. search rules) (λ c κs. search rules) (λ c κs. search rules) (λ c κs. search rules) (λ c. search rules) (λ c. search rules) (λ c κs. search rules) text-into-requires (λ c. search rules) returns)

@@ -7,8 +7,8 @@ use Rattle.mainfile_texts.proofs.inner.gather_premises.Tie as tie
 
 returns : tie.Need-returns
 returns c =
-    let sub = c.before.before.before.before.before.before.row-into.ensures in
-    let name = c.before.before.row-into2.ensures in (
+    let sub = c.row_into-sub.ensures in
+    let name = c.row_into-name.ensures in (
       record {
         sub_building =
             stays 213 (kept_same 163 name (omega arith)) (omega arith) (omega arith) (kept-stood 163 sub (omega arith));
@@ -17,5 +17,5 @@ returns c =
       same_then (kept_same 133 sub (omega arith)) (kept_same 133 name (omega arith)),
     )
 
-pub gather-premises-spec : {M : Type 1} → statement M
-gather-premises-spec = tie.close (tie.spec (λ c. search rules) (λ c κs. search rules) (λ c. search rules) (λ c κs. search rules) (λ c. search rules) returns)
+pub gather_premises_spec : {M : Type 1} → statement M
+gather_premises_spec = tie.close (tie.spec (λ c. search rules) (λ c κs. search rules) (λ c. search rules) (λ c κs. search rules) (λ c. search rules) returns)

@@ -7,10 +7,10 @@ use Rattle.mainfile_texts.proofs.inner.gather_streets.Tie as tie
 
 returns : tie.Need-returns
 returns c =
-    let dependent = c.before.before.before.before.before.before.before.before.before.before.before.before.before.before.row-into.ensures in
-    let second = c.before.before.before.before.before.before.before.before.before.before.row-into2.ensures in
-    let name = c.before.before.before.before.before.before.row-into3.ensures in
-    let descriptor = c.before.before.row-into4.ensures in
+    let dependent = c.row_into-dependent.ensures in
+    let second = c.row_into-second.ensures in
+    let name = c.row_into-name.ensures in
+    let descriptor = c.row_into-descriptor.ensures in
     -- what the later ones leave as it is
     let last = kept_same 353 descriptor (omega arith) in
     let from-name = same_then (kept_same 293 name (omega arith)) (kept_same 293 descriptor (omega arith)) in
@@ -28,5 +28,5 @@ returns c =
           (same_then (kept_same 213 name (omega arith)) (kept_same 213 descriptor (omega arith)))),
     )
 
-pub gather-streets-spec : {M : Type 1} → statement M
-gather-streets-spec = tie.close (tie.spec (λ c. search rules) (λ c κs. search rules) (λ c. search rules) (λ c κs. search rules) (λ c. search rules) (λ c κs. search rules) (λ c. search rules) (λ c κs. search rules) (λ c. search rules) returns)
+pub gather_streets_spec : {M : Type 1} → statement M
+gather_streets_spec = tie.close (tie.spec (λ c. search rules) (λ c κs. search rules) (λ c. search rules) (λ c κs. search rules) (λ c. search rules) (λ c κs. search rules) (λ c. search rules) (λ c κs. search rules) (λ c. search rules) returns)

@@ -14,36 +14,36 @@ use Rattle.mainfile_texts.proofs.Kept.{kept-as}
 use Rattle.mainfile_texts.proofs.inner.row_into.Statement.{statement}
 use Rattle.mainfile_texts.proofs.inner.row_into.Tie as tie
 
-returns : tie.Need-returns
+returns : tie.Need-returns-then-row-eq0
 returns c =
-    let start = c.before.before.before.before.before.before.before.before in
-    kept-as start.args.width c.before.before.text-into.ensures (simp (eq-eqb _ 0 c.before.before.before.before.before.if1.true)) (omega arith)
+    let start = c in
+    kept-as start.args.width c.text_into.ensures (simp (eq-eqb _ 0 c.if-row-eq0.true)) (omega arith)
 
-record-of-requires : tie.Need-record-of-requires
-record-of-requires c κs = rw c.row-shelf.ensures (kind_fits c.before.before.before.before.args.kind)
+record-of-requires : tie.Need-record_of-rec-requires
+record-of-requires c κs = rw c.row_shelf.ensures (kind_fits c.args.kind)
 
-text-into-requires-2 : tie.Need-text-into-requires-2
+text-into-requires-2 : tie.Need-text_into-requires-2
 text-into-requires-2 c κs =
-    let start = c.before.before.before.before.before.before.before in
+    let start = c in
     let a = start.args in
-    let short = text_in-bound c.before.before.record_of.result.now a.from (a.from + a.width) in
-    rw c.before.read-text.ensures (omega (arith, start.requires.0), omega (arith, start.requires.1))
+    let short = text_in-bound c.record_of-rec.result.now a.from (a.from + a.width) in
+    rw c.read_text.ensures (omega (arith, start.requires.0), omega (arith, start.requires.1))
 
-returns-2 : tie.Need-returns-2
+returns-2 : tie.Need-returns
 returns-2 c =
-    let start = c.before.before.before.before.before.before.before.before.before.before in
+    let start = c in
     let a = start.args in
-    let read = c.before.before.before.before in
-    let kept = read.before in
-    let short = text_in-bound kept.record_of.result.now a.from (a.from + a.width) in
+    let read = c in
+    let kept = read in
+    let short = text_in-bound kept.record_of-rec.result.now a.from (a.from + a.width) in
     let is =
-    read.read-text.ensures
+    read.read_text.ensures
     ∙ ap (λ (rec : List ℕ). text_in rec a.from (a.from + a.width))
-    (kept.record_of.ensures
-    ∙ ap (λ (s : Shelf). record_of s a.file.now a.row) kept.before.row-shelf.ensures) in
-    kept-as a.width c.before.before.text-into2.ensures
-    (simp (ne_eqb a.row 0 kept.before.before.if1.false) is)
-    (rw read.read-text.ensures (omega arith))
+    (kept.record_of-rec.ensures
+    ∙ ap (λ (s : Shelf). record_of s a.file.now a.row) kept.row_shelf.ensures) in
+    kept-as a.width c.text_into-2.ensures
+    (simp (ne_eqb a.row 0 kept.if-row-eq0.false) is)
+    (rw read.read_text.ensures (omega arith))
 
-pub row-into-spec : {M : Type 1} → statement M
-row-into-spec = tie.close (tie.spec (λ c. search rules) (λ c κs. search rules) (λ c. search rules) returns (λ c κs. search rules) record-of-requires (λ c. search rules) (λ c κs. search rules) text-into-requires-2 (λ c. search rules) returns-2)
+pub row_into_spec : {M : Type 1} → statement M
+row_into_spec = tie.close (tie.spec (λ c. search rules) (λ c κs. search rules) (λ c. search rules) returns (λ c κs. search rules) record-of-requires (λ c. search rules) (λ c κs. search rules) text-into-requires-2 (λ c. search rules) returns-2)

@@ -8,8 +8,8 @@ use Rattle.mainfile_texts.proofs.inner.text_into.Tie as tie
 
 returns : tie.Need-returns
 returns c =
-    let start = c.before.before.before.before.before.before in
-    put-kept (length start.args.text.now) c.before.before.bytes-at.ensures start.requires.1 refl
+    let start = c in
+    put-kept (length start.args.text.now) c.bytes_at.ensures start.requires.1 refl
 
-pub text-into-spec : {M : Type 1} → statement M
-text-into-spec = tie.close (tie.spec (λ c κs. search rules) (λ c. search rules) (λ c. search rules) returns)
+pub text_into_spec : {M : Type 1} → statement M
+text_into_spec = tie.close (tie.spec (λ c κs. search rules) (λ c. search rules) (λ c. search rules) returns)

@@ -10,51 +10,51 @@ use Rattle.mainfile_views.specs.Range.{rank_at, last_of}
 use Rattle.mainfile_views.proofs.inner.bound_in.Statement.{statement}
 use Rattle.mainfile_views.proofs.inner.bound_in.Tie as tie
 
-abbrev invariant-loop : tie.invariant-loop
+abbrev invariant-loop : tie.invariant-loop-low
 invariant-loop addresses code r low₀ high₀ low high = Left (rank_at addresses code) (last_of addresses) r low high
 
-abbrev decreases-loop : tie.decreases-loop
+abbrev decreases-loop : tie.decreases-loop-low
 decreases-loop addresses code r low₀ high₀ low high = high - low
 
-loop-holds : tie.Need-loop-init invariant-loop decreases-loop
+loop-holds : tie.Need-loop-low-init invariant-loop decreases-loop
 loop-holds c =
-    let a = c.before.before.before.args in
-    rw c.last_of.ensures (left-all (rank_at a.addresses.now a.code.now) a.r (last_of a.addresses.now))
+    let a = c.args in
+    rw c.last_of-high.ensures (left-all (rank_at a.addresses.now a.code.now) a.r (last_of a.addresses.now))
 
 -- no place is behind the file
-short : (c : tie.At-loop invariant-loop decreases-loop) → c.loop.high ≤ length c.before.before.before.before.args.addresses.now
+short : (c : tie.At-loop-low invariant-loop decreases-loop) → c.loop-low.high ≤ length c.args.addresses.now
 short c =
-    let a = c.before.before.before.before.args in
-    omega (arith, c.loop.invariant.to, div-le_self (length a.addresses.now) 88)
+    let a = c.args in
+    omega (arith, c.loop-low.invariant.to, div-le_self (length a.addresses.now) 88)
 
-rank-at-requires : tie.Need-rank-at-requires invariant-loop decreases-loop
-rank-at-requires c κs = omega (arith, c.loop-test.true, c.before.loop.invariant.to)
+rank-at-requires : tie.Need-rank_at-requires invariant-loop decreases-loop
+rank-at-requires c κs = omega (arith, c.loop-low-test.true, c.loop-low.invariant.to)
 
-loop-again : tie.Need-loop-preserved invariant-loop decreases-loop
+loop-again : tie.Need-loop-low-preserved-then-r-rank_at invariant-loop decreases-loop
 loop-again c =
-    let at-middle = c.before in
-    let at-loop = at-middle.before.before in
-    let a = at-loop.before.before.before.before.args in
-    left-low (rank_at a.addresses.now a.code.now) a.r (last_of a.addresses.now) at-loop.loop.low at-loop.loop.high
-    at-loop.loop.invariant at-middle.before.loop-test.true (rw at-middle.rank-at.ensures at c.if1.true)
+    let at-middle = c in
+    let at-loop = at-middle in
+    let a = at-loop.args in
+    left-low (rank_at a.addresses.now a.code.now) a.r (last_of a.addresses.now) at-loop.loop-low.low at-loop.loop-low.high
+    at-loop.loop-low.invariant at-middle.loop-low-test.true (rw at-middle.rank_at.ensures at c.if-r-rank_at.true)
 
-loop-again-2 : tie.Need-loop-preserved-2 invariant-loop decreases-loop
+loop-again-2 : tie.Need-loop-low-preserved invariant-loop decreases-loop
 loop-again-2 c =
-    let at-middle = c.before in
-    let at-loop = at-middle.before.before in
-    let a = at-loop.before.before.before.before.args in
-    left-high (rank_at a.addresses.now a.code.now) a.r (last_of a.addresses.now) at-loop.loop.low at-loop.loop.high
-    at-loop.loop.invariant at-middle.before.loop-test.true (rw at-middle.rank-at.ensures at c.if1.false)
+    let at-middle = c in
+    let at-loop = at-middle in
+    let a = at-loop.args in
+    left-high (rank_at a.addresses.now a.code.now) a.r (last_of a.addresses.now) at-loop.loop-low.low at-loop.loop-low.high
+    at-loop.loop-low.invariant at-middle.loop-low-test.true (rw at-middle.rank_at.ensures at c.if-r-rank_at.false)
 
 returns : tie.Need-returns invariant-loop decreases-loop
 returns c =
-    let at-loop = c.before in
-    let a = at-loop.before.before.before.before.args in
-    left-none (rank_at a.addresses.now a.code.now) a.r (last_of a.addresses.now) at-loop.loop.low at-loop.loop.high
-    at-loop.loop.invariant c.loop-test.false
+    let at-loop = c in
+    let a = at-loop.args in
+    left-none (rank_at a.addresses.now a.code.now) a.r (last_of a.addresses.now) at-loop.loop-low.low at-loop.loop-low.high
+    at-loop.loop-low.invariant c.loop-low-test.false
 
-pub bound-in-spec : {M : Type 1} → statement M
-bound-in-spec =
+pub bound_in_spec : {M : Type 1} → statement M
+bound_in_spec =
     tie.close
     (tie.spec
     invariant-loop

@@ -5,11 +5,11 @@ use Rattle.mainfile_views.proofs.inner.rank_at.Tie as tie
 
 returns : tie.Need-returns
 returns c =
-    let order = c.before in
-    let outward = order.before in
-    rw (c.rank-of.ensures, order.order-of.ensures, outward.part_of.ensures, outward.before.whole-record.ensures)
+    let order = c in
+    let outward = order in
+    rw (c.rank_of.ensures, order.order_of.ensures, outward.part_of-outward.ensures, outward.whole_record-rec.ensures)
 
-pub rank-at-spec : {M : Type 1} → statement M
-rank-at-spec =
+pub rank_at_spec : {M : Type 1} → statement M
+rank_at_spec =
     tie.close
     (tie.spec (search rules) (search rules) (search rules) (search rules) returns)

@@ -11,36 +11,36 @@ use Rattle.pack_counts.proofs.inner.count_byte.Statement.{statement}
 use Rattle.pack_counts.proofs.inner.count_byte.Tie as tie
 
 -- past the branch the byte is a digit
-module _ (c : tie.Else1) where
+module _ (c : tie.Else-not-is_digit) where
   abbrev start : tie.Start
   start = c.before.before
 
   is_digit : digit start.args.b ≡ true
-  is_digit = sym c.before.is_digit.ensures ∙ not-false _ c.if1.false
+  is_digit = sym c.is_digit.ensures ∙ c.if-not-is_digit.false
 
   inside : start.args.b - 48 < 10
   inside = omega (arith, digit-high start.args.b is_digit)
 
-returns : tie.Need-returns
+returns : tie.Need-returns-then-not-is_digit
 returns c =
-    let s = c.before.before in
-    not-counted s.args.counts.now s.args.b (sym c.before.is_digit.ensures ∙ not-true _ c.if1.true)
+    let s = c in
+    not-counted s.args.counts.now s.args.b (sym c.is_digit.ensures ∙ c.if-not-is_digit.true)
 
-sub-digit : tie.Need-overflow-sub-digit
+sub-digit : tie.Need-overflow_sub-digit
 sub-digit c = digit_low (start c).args.b (is_digit c)
 
-add-counts : tie.Need-overflow-add-counts
+add-counts : tie.Need-overflow_add-counts
 add-counts c =
     let s = start c.before in
     omega (arith, s.pre (s.args.b - 48) (inside c.before))
 
-returns-2 : tie.Need-returns-2
+returns-2 : tie.Need-returns
 returns-2 c =
     let s = start c.before in
     digit-counted s.args.counts.now s.args.b (is_digit c.before)
 
-pub count-byte-spec : {M : Type 1} → statement M
-count-byte-spec =
+pub count_byte_spec : {M : Type 1} → statement M
+count_byte_spec =
     tie.close
     (tie.spec
     (λ c κs. search rules)

@@ -11,23 +11,23 @@ use Rattle.pack_counts.proofs.Laws.{counted_none, counted-below, counted_next, c
 use Rattle.pack_counts.proofs.inner.count_digits.Statement.{statement}
 use Rattle.pack_counts.proofs.inner.count_digits.Tie as tie
 
-abbrev invariant-loop : tie.invariant-loop
+abbrev invariant-loop : tie.invariant-loop-i
 invariant-loop points start width n counts₀ at₀ i₀ counts at i = CountedTo points start width n counts at i
 
-abbrev decreases-loop : tie.decreases-loop
+abbrev decreases-loop : tie.decreases-loop-i
 decreases-loop points start width n counts₀ at₀ i₀ counts at i = n - i
 
 -- in the loop the whole point is there
-module _ (l : tie.In-loop invariant-loop decreases-loop) where
+module _ (l : tie.In-loop-i invariant-loop decreases-loop) where
   abbrev start : tie.Start invariant-loop decreases-loop
   start = l.before.before.before
 
-  inside : l.before.loop.at + start.args.width ≤ length start.args.points.now
+  inside : l.loop-i.at + start.args.width ≤ length start.args.points.now
   inside =
       omega (
         arith,
-        l.before.loop.inv.place,
-        one_of start.args.width l.before.loop.i start.args.n l.loop-test.taken,
+        l.loop-i.invariant.place,
+        one_of start.args.width l.loop-i.i start.args.n l.loop-i-test.taken,
         start.pre.1,
       )
 
@@ -42,46 +42,46 @@ module _ (l : tie.In-loop invariant-loop decreases-loop) where
         mul-le-mul_right start.args.n (let z : 2 ≤ start.args.width = omega (arith, start.pre.0) in z),
       )
 
-loop-holds : tie.Need-loop-init invariant-loop decreases-loop
+loop-holds : tie.Need-loop-i-init invariant-loop decreases-loop
 loop-holds c =
-    let a = c.before.args in counted_none a.points.now a.start a.width a.n
+    let a = c.args in counted_none a.points.now a.start a.width a.n
 
-add-count-byte : tie.Need-overflow-add-count-byte invariant-loop decreases-loop
+add-count-byte : tie.Need-overflow_add-at invariant-loop decreases-loop
 add-count-byte c = let l = c.before in omega (arith, inside l, (start l).requires.0, (start l).well_formed.0)
 
-shared-slice-read-count-byte : tie.Need-shared-slice-read-count-byte invariant-loop decreases-loop
+shared-slice-read-count-byte : tie.Need-bounds-points-at invariant-loop decreases-loop
 shared-slice-read-count-byte c =
     let l = c.before.before in omega (arith, inside l, (start l).requires.0)
 
-count-byte-requires : tie.Need-count-byte-requires invariant-loop decreases-loop
+count-byte-requires : tie.Need-count_byte-requires invariant-loop decreases-loop
 count-byte-requires c κs =
     let l = c.before.before in
     let a = (start l).args in
-    counted-below a.points.now a.start a.width a.n _ _ _ l.before.loop.invariant (few l)
+    counted-below a.points.now a.start a.width a.n _ _ _ l.loop-i.invariant (few l)
 
-add_at : tie.Need-overflow-add-at invariant-loop decreases-loop
+add_at : tie.Need-overflow_add-at invariant-loop decreases-loop
 add_at c = let l = c.before.before.before in omega (arith, inside l, (start l).well_formed.0)
 
-add-i : tie.Need-overflow-add-i invariant-loop decreases-loop
+add-i : tie.Need-overflow_add-i invariant-loop decreases-loop
 add-i c = omega arith
 
-loop-less : tie.Need-loop-smaller invariant-loop decreases-loop
+loop-less : tie.Need-loop-i-smaller invariant-loop decreases-loop
 loop-less c = omega arith
 
-loop-again : tie.Need-loop-preserved invariant-loop decreases-loop
+loop-again : tie.Need-loop-i-preserved invariant-loop decreases-loop
 loop-again c =
     let l = c.before.before.before in
     let a = (start l).args in
-    rw c.count-byte.ensures
-    (counted_next a.points.now a.start a.width a.n _ _ _ l.before.loop.invariant l.loop-test.true)
+    rw c.count_byte.ensures
+    (counted_next a.points.now a.start a.width a.n _ _ _ l.loop-i.invariant l.loop-i-test.true)
 
 returns : tie.Need-returns invariant-loop decreases-loop
 returns c =
-    let a = c.before.before.before.args in
-    counted-all a.points.now a.start a.width a.n _ _ _ c.before.loop.invariant c.loop-test.false
+    let a = c.args in
+    counted-all a.points.now a.start a.width a.n _ _ _ c.loop-i.invariant c.loop-i-test.false
 
-pub count-digits-spec : {M : Type 1} → statement M
-count-digits-spec =
+pub count_digits_spec : {M : Type 1} → statement M
+count_digits_spec =
     tie.close
     (tie.spec invariant-loop decreases-loop loop-holds add-count-byte shared-slice-read-count-byte count-byte-requires add_at add-i
     loop-less loop-again returns)

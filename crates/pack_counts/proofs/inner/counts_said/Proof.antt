@@ -10,50 +10,50 @@ use Rattle.pack_counts.proofs.Laws.{said-step, said-stop, said-end}
 use Rattle.pack_counts.proofs.inner.counts_said.Statement.{statement}
 use Rattle.pack_counts.proofs.inner.counts_said.Tie as tie
 
-abbrev invariant-loop : tie.invariant-loop
+abbrev invariant-loop : tie.invariant-loop-digit
 invariant-loop pack layout counts digit₀ digit =
     (digit ≤ 10) × (counts_said pack 0 counts ≡ counts_said pack digit (drop digit counts))
 
-abbrev decreases-loop : tie.decreases-loop
+abbrev decreases-loop : tie.decreases-loop-digit
 decreases-loop pack layout counts digit₀ digit = 10 - digit
 
-ten : (s : tie.Start invariant-loop decreases-loop) → length s.args.t3 ≡ 10
+ten : (s : tie.Start invariant-loop decreases-loop) → length s.args.counts ≡ 10
 ten s = s.well_formed.1.1.0.1.0.1
 
-loop-holds : tie.Need-loop-init invariant-loop decreases-loop
+loop-holds : tie.Need-loop-digit-init invariant-loop decreases-loop
 loop-holds c = (omega arith, refl)
 
-count-said-requires : tie.Need-count-said-requires invariant-loop decreases-loop
+count-said-requires : tie.Need-count_said-requires invariant-loop decreases-loop
 count-said-requires c κs =
-    let s = c.before.before.before in (s.requires.0, (s.requires.1, omega arith))
+    let s = c in (s.requires.0, (s.requires.1, omega arith))
 
-returns : tie.Need-returns invariant-loop decreases-loop
+returns : tie.Need-returns-then-count_said-counts invariant-loop decreases-loop
 returns c =
-    let asked = c.before in
-    let l = asked.before in
+    let asked = c in
+    let l = asked in
     let s = l.before.before.before in
     sym
-    (l.before.loop.invariant.1
-    ∙ said-stop s.args.pack.now s.args.t3 l.before.loop.digit (omega (arith, ten s))
-    (λ e. c.if1.true (asked.count-said.ensures ∙ e)))
+    (l.loop-digit.invariant.1
+    ∙ said-stop s.args.pack.now s.args.counts l.loop-digit.digit (omega (arith, ten s))
+    (λ e. c.if-count_said-counts.true (asked.count_said.ensures ∙ e)))
 
-loop-again : tie.Need-loop-preserved invariant-loop decreases-loop
+loop-again : tie.Need-loop-digit-preserved invariant-loop decreases-loop
 loop-again c =
-    let asked = c.before in
-    let l = asked.before in
+    let asked = c in
+    let l = asked in
     let s = l.before.before.before in (
       omega arith,
-      l.before.loop.invariant.1 ∙ said-step s.args.pack.now s.args.t3 l.before.loop.digit (omega (arith, ten s))
-          (sym asked.count-said.ensures ∙ c.if1.false),
+      l.loop-digit.invariant.1 ∙ said-step s.args.pack.now s.args.counts l.loop-digit.digit (omega (arith, ten s))
+          (sym asked.count_said.ensures ∙ c.if-count_said-counts.false),
     )
 
-returns-2 : tie.Need-returns-2 invariant-loop decreases-loop
+returns-2 : tie.Need-returns invariant-loop decreases-loop
 returns-2 c =
     let s = c.before.before.before in
-    sym (c.before.loop.invariant.1 ∙ said-end s.args.pack.now s.args.t3 c.before.loop.digit (omega (arith, ten s)))
+    sym (c.loop-digit.invariant.1 ∙ said-end s.args.pack.now s.args.counts c.loop-digit.digit (omega (arith, ten s)))
 
-pub counts-said-spec : {M : Type 1} → statement M
-counts-said-spec =
+pub counts_said_spec : {M : Type 1} → statement M
+counts_said_spec =
     tie.close
     (tie.spec invariant-loop decreases-loop loop-holds count-said-requires (λ c. search rules) (λ c. search rules) returns
     (λ c. search rules) (λ c. search rules) loop-again returns-2)

@@ -16,62 +16,62 @@ use Rattle.pack_items.proofs.Laws.{asked-small, asked-item}
 use Rattle.pack_items.proofs.points.item_at.Statement.{statement}
 use Rattle.pack_items.proofs.points.item_at.Tie as tie
 
-slice-aggregate-heading : tie.Need-slice-aggregate-heading
-slice-aggregate-heading c = sym (length-take-le _ _ c.before.before.point-line.ensures.within)
+slice-aggregate-heading : tie.Need-slice_bounds-heading-end
+slice-aggregate-heading c = sym (length-take-le _ _ c.point_line-line.ensures.within)
 
 -- once the room for the heading is found
-module _ (c : tie.After-room-before) where
-  abbrev line : tie.After-point-line
+module _ (c : tie.After-room_before-room) where
+  abbrev line : tie.After-point_line-line
   line = c.before.before.before
 
   abbrev start : tie.Start
   start = line.before.before.before
 
-  room : c.room-before.result ≡ before (point_line start.args.k) (length start.args.out.now)
-  room = rw line.point-line.ensures.is at c.room-before.ensures
+  room : c.room_before-room.result ≡ before (point_line start.args.k) (length start.args.out.now)
+  room = rw line.point_line-line.ensures.is at c.room_before-room.ensures
 
-  within : c.room-before.result ≤ length start.args.out.now
+  within : c.room_before-room.result ≤ length start.args.out.now
   within = omega (arith, room, cut-within (point_line start.args.k) start.args.out.now)
 
-part-label-at-start : tie.Need-slice-bounds-label-at-start
+part-label-at-start : tie.Need-slice_bounds-label_at-start
 part-label-at-start c = let h = within c in search rules
 
-label-at-requires : tie.Need-label-at-requires
+label-at-requires : tie.Need-label_at-answer-requires
 label-at-requires c κs =
     let s = start c.before in
     (opened-sized s.args.pack.now _ s.pre, (opened-all s.args.pack.now _ s.pre).counted)
 
-headed-item-requires : tie.Need-headed-item-requires
+headed-item-requires : tie.Need-headed_item-requires
 headed-item-requires c κs =
-    let label = c.before.before.before in
+    let label = c in
     let found = label.before.before in
     let s = start found in
     let a = s.args in
     let asked =
-    rw (lent a.out.now found.room-before.result) at label.label_at.ensures
+    rw (lent a.out.now found.room_before-room.result) at label.label_at-answer.ensures
     ∙ ap (λ (n : ℕ). point_label a.pack.now a.k (drop n a.out.now)) (room found) in (
-      rw (line found).point-line.ensures.is (line found).point-line.ensures.short,
+      rw (line found).point_line-line.ensures.is (line found).point_line-line.ensures.short,
       asked-small point_line a.pack.now a.k a.out.now s.pre asked,
     )
 
 returns : tie.Need-returns
 returns c =
-    let whole = c.before.before in
-    let label = whole.before.before.before.before in
+    let whole = c in
+    let label = whole in
     let found = label.before.before in
     let s = start found in
     let a = s.args in
     let asked =
-    rw (lent a.out.now found.room-before.result) at label.label_at.ensures
+    rw (lent a.out.now found.room_before-room.result) at label.label_at-answer.ensures
     ∙ ap (λ (n : ℕ). point_label a.pack.now a.k (drop n a.out.now)) (room found) in
-    rw (line found).point-line.ensures.is at whole.headed-item.ensures
-    ∙ (ap (headed (point_line a.k) label.label_at.result)
-    (given_back a.out.now _ found.room-before.result
-    ∙ ap (λ (n : ℕ). take n a.out.now ++ label.label_at.new.1.1.1.0) (room found))
+    rw (line found).point_line-line.ensures.is at whole.headed_item.ensures
+    ∙ (ap (headed (point_line a.k) label.label_at-answer.result)
+    (given_back a.out.now _ found.room_before-room.result
+    ∙ ap (λ (n : ℕ). take n a.out.now ++ label.label_at-answer.new.1.1.1.0) (room found))
     ∙ asked-item point_line a.pack.now a.k a.out.now s.pre asked)
 
-pub item-at-spec : {M : Type 1} → statement M
-item-at-spec =
+pub item_at_spec : {M : Type 1} → statement M
+item_at_spec =
     tie.close
     (tie.spec (search rules) (search rules) slice-aggregate-heading (search rules) within part-label-at-start
     (search rules) label-at-requires headed-item-requires (search rules) returns)

@@ -7,15 +7,15 @@ use Rattle.run.proofs.Going.{lent-behind}
 use Rattle.pack_items.proofs.points.item_behind.Statement.{statement}
 use Rattle.pack_items.proofs.points.item_behind.Tie as tie
 
-item-at-requires : tie.Need-item-at-requires
-item-at-requires c κs = c.before.before.before.requires.1
+item-at-requires : tie.Need-item_at-requires
+item-at-requires c κs = c.requires.1
 
 returns : tie.Need-returns
 returns c =
-    let l = c.before.before in
-    let a = l.before.before.before.before.args in
-    lent-behind (point_item point_line a.pack.now a.k) a.at a.out.now (given_back a.out.now _ a.at) (rw (lent a.out.now a.at) at l.item-at.ensures)
+    let l = c in
+    let a = l.args in
+    lent-behind (point_item point_line a.pack.now a.k) a.at a.out.now (given_back a.out.now _ a.at) (rw (lent a.out.now a.at) at l.item_at.ensures)
 
-pub item-behind-spec : {M : Type 1} → statement M
-item-behind-spec =
+pub item_behind_spec : {M : Type 1} → statement M
+item_behind_spec =
     tie.close (tie.spec (search rules) (search rules) (search rules) item-at-requires (search rules) returns)

@@ -11,20 +11,20 @@ use Rattle.pack_label.proofs.Laws.{no-point, a_point}
 use Rattle.pack_label.proofs.inner.label_at.Statement.{statement}
 use Rattle.pack_label.proofs.inner.label_at.Tie as tie
 
-returns : tie.Need-returns
+returns : tie.Need-returns-then-not-there
 returns c =
-    let s = c.before.before.before in
+    let s = c in
     let a = s.args in
     let tested = ap (λ n. leb 1 a.k && leb a.k n) s.requires.1 in
-    sym (no-point a.pack.now a.k a.out.now (sym tested ∙ not-true _ c.if1.true))
+    sym (no-point a.pack.now a.k a.out.now (sym tested ∙ c.if-not-there.true))
 
-point-label-requires : tie.Need-point-label-requires
+point-label-requires : tie.Need-point_label-requires
 point-label-requires c κs =
-    let e = c.before in
-    let s = e.before.before.before in
+    let e = c in
+    let s = e in
     let a = s.args in
     let tested = ap (λ n. leb 1 a.k && leb a.k n) s.requires.1 in
-    let there = sym tested ∙ not-false _ e.if1.false in (
+    let there = sym tested ∙ e.if-not-there.false in (
       s.requires.0,
       (
         leb-true 1 a.k (and_left (leb 1 a.k) _ there),
@@ -32,15 +32,15 @@ point-label-requires c κs =
       ),
     )
 
-returns-2 : tie.Need-returns-2
+returns-2 : tie.Need-returns
 returns-2 c =
-    let l = c.before.before in
-    let e = l.before.before in
-    let s = e.before.before.before in
+    let l = c in
+    let e = l in
+    let s = e in
     let a = s.args in
     let tested = ap (λ n. leb 1 a.k && leb a.k n) s.requires.1 in
-    let there = sym tested ∙ not-false _ e.if1.false in
-    l.point-label.ensures ∙ sym (a_point a.pack.now a.k a.out.now there)
+    let there = sym tested ∙ e.if-not-there.false in
+    l.point_label.ensures ∙ sym (a_point a.pack.now a.k a.out.now there)
 
-pub label-at-spec : {M : Type 1} → statement M
-label-at-spec = tie.close (tie.spec returns point-label-requires (λ c. search rules) returns-2)
+pub label_at_spec : {M : Type 1} → statement M
+label_at_spec = tie.close (tie.spec returns point-label-requires (λ c. search rules) returns-2)

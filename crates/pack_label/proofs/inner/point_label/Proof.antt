@@ -16,7 +16,7 @@ use Rattle.pack_label.proofs.inner.point_label.Statement.{statement}
 use Rattle.pack_label.proofs.inner.point_label.Tie as tie
 
 -- once the start of the points is read, the point is there
-module _ (c : tie.After-trailer-number) where
+module _ (c : tie.After-trailer_number-start) where
   abbrev start : tie.Start
   start = c.before.before.before.before
 
@@ -26,61 +26,61 @@ module _ (c : tie.After-trailer-number) where
   abbrev k : ℕ
   k = start.args.k
 
-  abbrev laid : LaidIn pack c.before.layout-in.result
-  laid = c.before.layout-in.ensures
+  abbrev laid : LaidIn pack c.layout_in-layout.result
+  laid = c.layout_in-layout.ensures
 
-  place : c.trailer-number.result + c.before.layout-in.result.point * (k - 1) ≡ point_place pack k
-  place = ap₂ (λ s w. s + w * (k - 1)) c.trailer-number.ensures.0 laid.point
+  place : c.trailer_number-start.result + c.layout_in-layout.result.point * (k - 1) ≡ point_place pack k
+  place = ap₂ (λ s w. s + w * (k - 1)) c.trailer_number-start.ensures.0 laid.point
 
   here : PointIn pack (point_place pack k)
   here = point-in pack start.pre.0 (k - 1) (point_place pack k) (omega (arith, start.pre.1.0, start.pre.1.1)) refl
 
-  rest : c.trailer-number.result + c.before.layout-in.result.point * (k - 1) + c.before.layout-in.result.rest
+  rest : c.trailer_number-start.result + c.layout_in-layout.result.point * (k - 1) + c.layout_in-layout.result.rest
       ≡ rest_of pack (point_place pack k)
   rest = ap₂ ◌+◌ place laid.rest
 
-  within : c.trailer-number.result ≤ length pack
+  within : c.trailer_number-start.result ≤ length pack
   within = omega (arith, place, here)
 
-trailer-number-requires : tie.Need-trailer-number-requires
+trailer-number-requires : tie.Need-trailer_number-start-requires
 trailer-number-requires c κs =
-    let start = c.before.before.before in
-    (trailed start.args.pack.now start.requires.0 _ c.layout-in.ensures, lit≤ tt)
+    let start = c in
+    (trailed start.args.pack.now start.requires.0 _ c.layout_in-layout.ensures, lit≤ tt)
 
-mul_at : tie.Need-overflow-mul-at
+mul_at : tie.Need-overflow_mul-at
 mul_at c = omega (arith, place c.before, here c.before, (start c.before).good.0.0)
 
-add_at : tie.Need-overflow-add-at
+add_at : tie.Need-overflow_add-at
 add_at c = omega (arith, place c.before, here c.before, (start c.before).good.0.0)
 
-slice-aggregate-rows : tie.Need-slice-aggregate-rows
+slice-aggregate-rows : tie.Need-slice_bounds-rows-end
 slice-aggregate-rows c = sym (length-take-le _ _ (within c.before.before))
 
-add-spans-at : tie.Need-overflow-add-spans-at
+add-spans-at : tie.Need-overflow_add-at-2
 add-spans-at c =
     let read = c.before.before.before in
     omega (arith, rest read, here read, (start read).well_formed.0.0)
 
-spans-at-requires : tie.Need-spans-at-requires
+spans-at-requires : tie.Need-spans_at-requires
 spans-at-requires c κs =
     let read = c.before.before.before in (
       omega (arith, place read, here read),
       (
         omega (arith, rest read, here read),
-        ap (λ n. take n (pack read)) read.trailer-number.ensures.0,
+        ap (λ n. take n (pack read)) read.trailer_number-start.ensures.0,
       ),
     )
 
 returns : tie.Need-returns
 returns c =
-    let printed = c.before.before in
-    let spanned = printed.before.before in
+    let printed = c in
+    let spanned = printed in
     let read = spanned.before.before.before.before in
-    let meant = spanned.spans-at.ensures ∙ ap₂ (elements_from (pack read)) (place read) (rest read) in
-    rw meant at printed.print-label.ensures
+    let meant = spanned.spans_at.ensures ∙ ap₂ (elements_from (pack read)) (place read) (rest read) in
+    rw meant at printed.print_label.ensures
 
-pub point-label-spec : {M : Type 1} → statement M
-point-label-spec =
+pub point_label_spec : {M : Type 1} → statement M
+point_label_spec =
     tie.close
     (tie.spec
     (λ c κs. search rules)

@@ -5,15 +5,15 @@ use Rattle.field.proofs.Fronts.{text_in-bound, front-text}
 use Rattle.pack_label.proofs.spans.field_span.Statement.{statement}
 use Rattle.pack_label.proofs.spans.field_span.Tie as tie
 
-cast-t6 : tie.Need-overflow-cast-t6
+cast-t6 : tie.Need-overflow_cast-result
 cast-t6 c =
-    let a = c.before.before.args in
-    rw c.read-text.ensures (omega (arith, text_in-bound a.pack.now a.from a.to))
+    let a = c.args in
+    rw c.read_text-text.ensures (omega (arith, text_in-bound a.pack.now a.from a.to))
 
 returns : tie.Need-returns
 returns c =
-    let a = c.before.before.args in
-    λ rows. rw c.read-text.ensures (front-text a.pack.now a.from a.to)
+    let a = c.args in
+    λ rows. rw c.read_text-text.ensures (front-text a.pack.now a.from a.to)
 
-pub field-span-spec : {M : Type 1} → statement M
-field-span-spec = tie.close (tie.spec (λ c κs. search rules) cast-t6 returns)
+pub field_span_spec : {M : Type 1} → statement M
+field_span_spec = tie.close (tie.spec (λ c κs. search rules) cast-t6 returns)

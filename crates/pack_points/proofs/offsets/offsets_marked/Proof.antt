@@ -16,19 +16,19 @@ use Rattle.pack_points.proofs.PointLaws.{trailed, point-in, each_step, each-stop
 use Rattle.pack_points.proofs.offsets.offsets_marked.Statement.{statement}
 use Rattle.pack_points.proofs.offsets.offsets_marked.Tie as tie
 
-abbrev invariant-loop : tie.invariant-loop
+abbrev invariant-loop : tie.invariant-loop-i
 invariant-loop pack rows marks layout first count at₀ back₀ i₀ at back i =
     (i ≤ count)
     × (at ≡ points_start pack + point_width (edition pack) * i)
     × (all_points pack (offsets_fine pack) ≡ each_point (offsets_fine pack) (point_width (edition pack)) (count - i) at)
     × Behind pack (at + layout.rest) back
 
-abbrev decreases-loop : tie.decreases-loop
+abbrev decreases-loop : tie.decreases-loop-i
 decreases-loop pack rows marks layout first count at₀ back₀ i₀ at back i = count - i
 
 -- in a turn: the point that is counted stands before the trailer
-module _ (loop : tie.At-loop invariant-loop decreases-loop) where
-  abbrev counted : tie.After-trailer-number invariant-loop decreases-loop
+module _ (loop : tie.At-loop-i invariant-loop decreases-loop) where
+  abbrev counted : tie.After-trailer_number-count invariant-loop decreases-loop
   counted = loop.before.before
 
   abbrev start : tie.Start invariant-loop decreases-loop
@@ -37,98 +37,98 @@ module _ (loop : tie.At-loop invariant-loop decreases-loop) where
   abbrev pack : List ℕ
   pack = start.args.pack.now
 
-  room : loop.loop.i < counted.trailer-number.result → PointIn pack loop.loop.at
+  room : loop.loop-i.i < counted.trailer_number-count.result → PointIn pack loop.loop-i.at
   room h =
-      point-in pack start.pre.0 loop.loop.i loop.loop.at (omega (arith, counted.trailer-number.ensures.0))
-      loop.loop.inv.1
+      point-in pack start.pre.0 loop.loop-i.i loop.loop-i.at (omega (arith, counted.trailer_number-count.ensures.0))
+      loop.loop-i.invariant.1
 
 -- what was found of a point
-judged : (c : tie.After-next-marked invariant-loop decreases-loop)
-    → c.next-marked.result ≡ offsets_fine (pack c.before.before.before) c.before.before.before.loop.at
-judged c = rw (start c.before.before.before).pre.1.0.rest at c.next-marked.ensures
+judged : (c : tie.After-next_marked invariant-loop decreases-loop)
+    → c.next_marked.result ≡ offsets_fine (pack c.before.before.before) c.loop-i.at
+judged c = rw (start c.before.before.before).pre.1.0.rest at c.next_marked.ensures
 
-trailer-number-requires : tie.Need-trailer-number-requires invariant-loop decreases-loop
+trailer-number-requires : tie.Need-trailer_number-count-requires invariant-loop decreases-loop
 trailer-number-requires c κs =
     let s = c.before.before.before.before in
     (trailed s.args.pack.now s.requires.0 s.args.layout s.requires.1.0, lit≤ tt)
 
-trailer-number-requires-2 : tie.Need-trailer-number-requires-2 invariant-loop decreases-loop
+trailer-number-requires-2 : tie.Need-trailer_number-at-requires invariant-loop decreases-loop
 trailer-number-requires-2 c κs =
     let s = c.before.before.before.before.before in
     (trailed s.args.pack.now s.requires.0 s.args.layout s.requires.1.0, lit≤ tt)
 
-loop-holds : tie.Need-loop-init invariant-loop decreases-loop
+loop-holds : tie.Need-loop-i-init invariant-loop decreases-loop
 loop-holds c =
-    let n = c.before in
-    let size : n.trailer-number.result - 0 ≡ n.trailer-number.result = omega arith in (
+    let n = c in
+    let size : n.trailer_number-count.result - 0 ≡ n.trailer_number-count.result = omega arith in (
       omega arith,
-      omega (arith, c.trailer-number2.ensures.0),
-      rw (size, c.trailer-number2.ensures.0, n.trailer-number.ensures.0),
+      omega (arith, c.trailer_number-at.ensures.0),
+      rw (size, c.trailer_number-at.ensures.0, n.trailer_number-count.ensures.0),
       λ h. absurd (omega arith),
     )
 
-add-next-marked : tie.Need-overflow-add-next-marked invariant-loop decreases-loop
+add-next-marked : tie.Need-overflow_add-at invariant-loop decreases-loop
 add-next-marked c =
     let l = c.before.before in
-    omega (arith, room l c.before.loop-test.true, (start l).requires.1.0.rest)
+    omega (arith, room l c.loop-i-test.true, (start l).requires.1.0.rest)
 
-next-marked-requires : tie.Need-next-marked-requires invariant-loop decreases-loop
+next-marked-requires : tie.Need-next_marked-requires invariant-loop decreases-loop
 next-marked-requires c κs =
     let l = c.before.before in
-    let within = room l c.before.loop-test.true in
-    ((omega (arith, within, (start l).requires.1.0.rest)), (start l).requires.1.1, refl, l.loop.invariant.3)
+    let within = room l c.loop-i-test.true in
+    ((omega (arith, within, (start l).requires.1.0.rest)), (start l).requires.1.1, refl, l.loop-i.invariant.3)
 
-returns : tie.Need-returns invariant-loop decreases-loop
+returns : tie.Need-returns-then-not-next_marked invariant-loop decreases-loop
 returns c =
     let g = c.before in
     let l = g.before.before.before in
     sym
-    (l.loop.invariant.2
-    ∙ each-stop (offsets_fine (pack l)) (point_width (edition (pack l))) (counted l).trailer-number.result l.loop.i l.loop.at
-    (omega arith) (sym (judged g) ∙ not-true _ c.if1.true))
+    (l.loop-i.invariant.2
+    ∙ each-stop (offsets_fine (pack l)) (point_width (edition (pack l))) (counted l).trailer_number-count.result l.loop-i.i l.loop-i.at
+    (omega arith) (sym (judged g) ∙ c.if-not-next_marked.true))
 
-add_at : tie.Need-overflow-add-at invariant-loop decreases-loop
+add_at : tie.Need-overflow_add-at invariant-loop decreases-loop
 add_at c =
-    let n = c.before.before.before.before in
+    let n = c in
     let l = n.before in
-    omega (arith, room l n.loop-test.true, (start l).requires.1.0.point)
+    omega (arith, room l n.loop-i-test.true, (start l).requires.1.0.point)
 
-good : (c : tie.After-struct-known2 invariant-loop decreases-loop)
+good : (c : tie.After-struct_known-in-loop-i-1 invariant-loop decreases-loop)
     → let l = c.before.before.before.before.before in
-    offsets_fine (pack l) l.loop.at ≡ true
-good c = sym (judged c.before.before) ∙ not-false _ c.before.if1.false
+    offsets_fine (pack l) l.loop-i.at ≡ true
+good c = sym (judged c.before.before) ∙ c.if-not-next_marked.false
 
-shared-slice-read-first : tie.Need-shared-slice-read-first invariant-loop decreases-loop
-shared-slice-read-first c = c.before.before.before.before.requires.1.1.fine.some
+shared-slice-read-first : tie.Need-bounds-rows-0 invariant-loop decreases-loop
+shared-slice-read-first c = c.requires.1.1.fine.some
 
-loop-again : tie.Need-loop-preserved invariant-loop decreases-loop
+loop-again : tie.Need-loop-i-preserved invariant-loop decreases-loop
 loop-again c =
-    let g = c.before.before in
+    let g = c in
     let l = g.before.before.before in
     let width = (start l).requires.1.0.point in (
       omega arith,
-      omega (arith, l.loop.invariant.1, width),
+      omega (arith, l.loop-i.invariant.1, width),
       rw width
-          (l.loop.invariant.2
-          ∙ each_step (offsets_fine (pack l)) (point_width (edition (pack l))) (counted l).trailer-number.result l.loop.i
-          l.loop.at (omega arith) (good c)),
+          (l.loop-i.invariant.2
+          ∙ each_step (offsets_fine (pack l)) (point_width (edition (pack l))) (counted l).trailer_number-count.result l.loop-i.i
+          l.loop-i.at (omega arith) (good c)),
       λ h. (
         omega arith,
-        rw (let same : l.loop.at + (start l).args.layout.point + (start l).args.layout.rest - (start l).args.layout.point ≡ l.loop.at + (start l).args.layout.rest = omega arith in same)
-            (sym g.next-marked.ensures ∙ not-false _ c.before.if1.false),
+        rw (let same : l.loop-i.at + (start l).args.layout.point + (start l).args.layout.rest - (start l).args.layout.point ≡ l.loop-i.at + (start l).args.layout.rest = omega arith in same)
+            (sym g.next_marked.ensures ∙ c.if-not-next_marked.false),
       ),
     )
 
-returns-2 : tie.Need-returns-2 invariant-loop decreases-loop
+returns-2 : tie.Need-returns invariant-loop decreases-loop
 returns-2 c =
     let l = c.before in
     sym
-    (l.loop.invariant.2
-    ∙ each-end (offsets_fine (pack l)) (point_width (edition (pack l))) (counted l).trailer-number.result l.loop.i l.loop.at
+    (l.loop-i.invariant.2
+    ∙ each-end (offsets_fine (pack l)) (point_width (edition (pack l))) (counted l).trailer_number-count.result l.loop-i.i l.loop-i.at
     (omega arith))
 
-pub offsets-marked-spec : {M : Type 1} → statement M
-offsets-marked-spec =
+pub offsets_marked_spec : {M : Type 1} → statement M
+offsets_marked_spec =
     tie.close
     (tie.spec
     invariant-loop

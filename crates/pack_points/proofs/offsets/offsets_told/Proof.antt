@@ -14,18 +14,18 @@ use Rattle.pack_points.proofs.PointLaws.{trailed, point-in, each_step, each-stop
 use Rattle.pack_points.proofs.offsets.offsets_told.Statement.{statement}
 use Rattle.pack_points.proofs.offsets.offsets_told.Tie as tie
 
-abbrev invariant-loop : tie.invariant-loop
+abbrev invariant-loop : tie.invariant-loop-i
 invariant-loop pack rows width starts layout count at₀ i₀ at i =
     (i ≤ count)
     × (at ≡ points_start pack + point_width (edition pack) * i)
     × (all_points pack (offsets_fine pack) ≡ each_point (offsets_fine pack) (point_width (edition pack)) (count - i) at)
 
-abbrev decreases-loop : tie.decreases-loop
+abbrev decreases-loop : tie.decreases-loop-i
 decreases-loop pack rows width starts layout count at₀ i₀ at i = count - i
 
 -- in a turn: the point that is counted stands before the trailer
-module _ (loop : tie.At-loop invariant-loop decreases-loop) where
-  abbrev counted : tie.After-trailer-number invariant-loop decreases-loop
+module _ (loop : tie.At-loop-i invariant-loop decreases-loop) where
+  abbrev counted : tie.After-trailer_number-count invariant-loop decreases-loop
   counted = loop.before.before
 
   abbrev start : tie.Start invariant-loop decreases-loop
@@ -34,83 +34,83 @@ module _ (loop : tie.At-loop invariant-loop decreases-loop) where
   abbrev pack : List ℕ
   pack = start.args.pack.now
 
-  room : loop.loop.i < counted.trailer-number.result → PointIn pack loop.loop.at
+  room : loop.loop-i.i < counted.trailer_number-count.result → PointIn pack loop.loop-i.at
   room h =
-      point-in pack start.pre.0 loop.loop.i loop.loop.at (omega (arith, counted.trailer-number.ensures.0))
-      loop.loop.inv.1
+      point-in pack start.pre.0 loop.loop-i.i loop.loop-i.at (omega (arith, counted.trailer_number-count.ensures.0))
+      loop.loop-i.invariant.1
 
 -- what was found of a point
-judged : (c : tie.After-point-told invariant-loop decreases-loop)
-    → c.point-told.result ≡ offsets_fine (pack c.before.before.before) c.before.before.before.loop.at
-judged c = rw (start c.before.before.before).pre.1.0.rest at c.point-told.ensures
+judged : (c : tie.After-point_told invariant-loop decreases-loop)
+    → c.point_told.result ≡ offsets_fine (pack c.before.before.before) c.loop-i.at
+judged c = rw (start c.before.before.before).pre.1.0.rest at c.point_told.ensures
 
-trailer-number-requires : tie.Need-trailer-number-requires invariant-loop decreases-loop
+trailer-number-requires : tie.Need-trailer_number-count-requires invariant-loop decreases-loop
 trailer-number-requires c κs =
     let s = c.before.before.before in
     (trailed s.args.pack.now s.requires.0 s.args.layout s.requires.1.0, lit≤ tt)
 
-trailer-number-requires-2 : tie.Need-trailer-number-requires-2 invariant-loop decreases-loop
+trailer-number-requires-2 : tie.Need-trailer_number-at-requires invariant-loop decreases-loop
 trailer-number-requires-2 c κs =
     let s = c.before.before.before.before in
     (trailed s.args.pack.now s.requires.0 s.args.layout s.requires.1.0, lit≤ tt)
 
-loop-holds : tie.Need-loop-init invariant-loop decreases-loop
+loop-holds : tie.Need-loop-i-init invariant-loop decreases-loop
 loop-holds c =
-    let n = c.before in
-    let size : n.trailer-number.result - 0 ≡ n.trailer-number.result = omega arith in (
+    let n = c in
+    let size : n.trailer_number-count.result - 0 ≡ n.trailer_number-count.result = omega arith in (
       omega arith,
-      omega (arith, c.trailer-number2.ensures.0),
-      rw (size, c.trailer-number2.ensures.0, n.trailer-number.ensures.0),
+      omega (arith, c.trailer_number-at.ensures.0),
+      rw (size, c.trailer_number-at.ensures.0, n.trailer_number-count.ensures.0),
     )
 
-add-point-told : tie.Need-overflow-add-point-told invariant-loop decreases-loop
+add-point-told : tie.Need-overflow_add-at invariant-loop decreases-loop
 add-point-told c =
     let l = c.before.before in
-    omega (arith, room l c.before.loop-test.true, (start l).requires.1.0.rest)
+    omega (arith, room l c.loop-i-test.true, (start l).requires.1.0.rest)
 
-point-told-requires : tie.Need-point-told-requires invariant-loop decreases-loop
+point-told-requires : tie.Need-point_told-requires invariant-loop decreases-loop
 point-told-requires c κs =
     let l = c.before.before in
-    (omega (arith, room l c.before.loop-test.true, (start l).requires.1.0.rest), (start l).requires.1.1)
+    (omega (arith, room l c.loop-i-test.true, (start l).requires.1.0.rest), (start l).requires.1.1)
 
-returns : tie.Need-returns invariant-loop decreases-loop
+returns : tie.Need-returns-then-not-point_told invariant-loop decreases-loop
 returns c =
     let g = c.before in
     let l = g.before.before.before in
     sym
-    (l.loop.invariant.2
-    ∙ each-stop (offsets_fine (pack l)) (point_width (edition (pack l))) (counted l).trailer-number.result l.loop.i l.loop.at
-    (omega arith) (sym (judged g) ∙ not-true _ c.if1.true))
+    (l.loop-i.invariant.2
+    ∙ each-stop (offsets_fine (pack l)) (point_width (edition (pack l))) (counted l).trailer_number-count.result l.loop-i.i l.loop-i.at
+    (omega arith) (sym (judged g) ∙ c.if-not-point_told.true))
 
-add_at : tie.Need-overflow-add-at invariant-loop decreases-loop
+add_at : tie.Need-overflow_add-at invariant-loop decreases-loop
 add_at c =
-    let n = c.before.before.before.before in
+    let n = c in
     let l = n.before in
-    omega (arith, room l n.loop-test.true, (start l).requires.1.0.point)
+    omega (arith, room l n.loop-i-test.true, (start l).requires.1.0.point)
 
-loop-again : tie.Need-loop-preserved invariant-loop decreases-loop
+loop-again : tie.Need-loop-i-preserved invariant-loop decreases-loop
 loop-again c =
     let g = c.before.before in
     let l = g.before.before.before in
     let width = (start l).requires.1.0.point in (
       omega arith,
-      omega (arith, l.loop.invariant.1, width),
+      omega (arith, l.loop-i.invariant.1, width),
       rw width
-          (l.loop.invariant.2
-          ∙ each_step (offsets_fine (pack l)) (point_width (edition (pack l))) (counted l).trailer-number.result l.loop.i
-          l.loop.at (omega arith) (sym (judged g) ∙ not-false _ c.before.if1.false)),
+          (l.loop-i.invariant.2
+          ∙ each_step (offsets_fine (pack l)) (point_width (edition (pack l))) (counted l).trailer_number-count.result l.loop-i.i
+          l.loop-i.at (omega arith) (sym (judged g) ∙ c.if-not-point_told.false)),
     )
 
-returns-2 : tie.Need-returns-2 invariant-loop decreases-loop
+returns-2 : tie.Need-returns invariant-loop decreases-loop
 returns-2 c =
     let l = c.before in
     sym
-    (l.loop.invariant.2
-    ∙ each-end (offsets_fine (pack l)) (point_width (edition (pack l))) (counted l).trailer-number.result l.loop.i l.loop.at
+    (l.loop-i.invariant.2
+    ∙ each-end (offsets_fine (pack l)) (point_width (edition (pack l))) (counted l).trailer_number-count.result l.loop-i.i l.loop-i.at
     (omega arith))
 
-pub offsets-told-spec : {M : Type 1} → statement M
-offsets-told-spec =
+pub offsets_told_spec : {M : Type 1} → statement M
+offsets_told_spec =
     tie.close
     (tie.spec
     invariant-loop

@@ -11,57 +11,57 @@ use lib.ListN.{drop, get_or}
 use Rattle.pack_points.proofs.offsets.point_told.Statement.{statement}
 use Rattle.pack_points.proofs.offsets.point_told.Tie as tie
 
-abbrev invariant-loop : tie.invariant-loop
+abbrev invariant-loop : tie.invariant-loop-n
 invariant-loop pack rows width starts rest n₀ n =
     (n ≤ 8) × (offsets_good pack rest 0 offset_kinds ≡ offsets_good pack rest n (drop n offset_kinds))
 
-abbrev decreases-loop : tie.decreases-loop
+abbrev decreases-loop : tie.decreases-loop-n
 decreases-loop pack rows width starts rest n₀ n = 8 - n
 
 -- what was found of an offset is said of the pack's own rows
-judged : (c : tie.After-offset-good invariant-loop decreases-loop)
-    → let l = c.before.before.before in
-    let p = l.before.before.before.before.args.pack.now in
-    c.offset-good.result
-    ≡ offset_good (row_area p) (row_count p) (get_or offset_kinds l.loop.n 0)
-    (offset_of_point p l.before.before.before.before.args.rest l.loop.n)
+judged : (c : tie.After-offset_good invariant-loop decreases-loop)
+    → let l = c in
+    let p = l.args.pack.now in
+    c.offset_good.result
+    ≡ offset_good (row_area p) (row_count p) (get_or offset_kinds l.loop-n.n 0)
+    (offset_of_point p l.args.rest l.loop-n.n)
 judged c =
-    let o = c.before in
-    let s = o.before.before.before.before.before.before in
+    let o = c in
+    let s = o in
     let ready = s.requires.1 in
-    rw (ready.area, o.offset-of.ensures.0) at (c.offset-good.ensures (row_count s.args.pack.now) ready.kept)
+    rw (ready.area, o.offset_of-o.ensures.0) at (c.offset_good.ensures (row_count s.args.pack.now) ready.kept)
 
-loop-holds : tie.Need-loop-init invariant-loop decreases-loop
+loop-holds : tie.Need-loop-n-init invariant-loop decreases-loop
 loop-holds c = (search rules, refl)
 
-returns : tie.Need-returns invariant-loop decreases-loop
+returns : tie.Need-returns-then-not-offset_good invariant-loop decreases-loop
 returns c =
     let g = c.before in
-    let l = g.before.before.before in
-    let a = l.before.before.before.before.args in
+    let l = g in
+    let a = l.args in
     sym
-    (l.loop.invariant.1
-    ∙ offsets-stop a.pack.now a.rest l.loop.n offset_kinds (omega arith) (sym (judged g) ∙ not-true _ c.if1.true))
+    (l.loop-n.invariant.1
+    ∙ offsets-stop a.pack.now a.rest l.loop-n.n offset_kinds (omega arith) (sym (judged g) ∙ c.if-not-offset_good.true))
 
-loop-again : tie.Need-loop-preserved invariant-loop decreases-loop
+loop-again : tie.Need-loop-n-preserved invariant-loop decreases-loop
 loop-again c =
     let g = c.before in
-    let l = g.before.before.before in
-    let a = l.before.before.before.before.args in (
+    let l = g in
+    let a = l.args in (
       omega arith,
-      l.loop.invariant.1
-          ∙ offsets-step a.pack.now a.rest l.loop.n offset_kinds (omega arith)
-          (sym (judged g) ∙ not-false _ c.if1.false),
+      l.loop-n.invariant.1
+          ∙ offsets-step a.pack.now a.rest l.loop-n.n offset_kinds (omega arith)
+          (sym (judged g) ∙ c.if-not-offset_good.false),
     )
 
-returns-2 : tie.Need-returns-2 invariant-loop decreases-loop
+returns-2 : tie.Need-returns invariant-loop decreases-loop
 returns-2 c =
-    let l = c.before in
-    let a = l.before.before.before.before.args in
-    sym (l.loop.invariant.1 ∙ offsets-end a.pack.now a.rest l.loop.n offset_kinds (omega arith))
+    let l = c in
+    let a = l.args in
+    sym (l.loop-n.invariant.1 ∙ offsets-end a.pack.now a.rest l.loop-n.n offset_kinds (omega arith))
 
-pub point-told-spec : {M : Type 1} → statement M
-point-told-spec =
+pub point_told_spec : {M : Type 1} → statement M
+point_told_spec =
     tie.close
     (tie.spec
     invariant-loop

@@ -7,12 +7,12 @@ use Rattle.pack_points.proofs.offsets.repeats.Tie as tie
 
 returns : tie.Need-returns
 returns c =
-    let s = c.before.before.before.before in
+    let s = c in
     let a = s.args in
     λ e. offsets-same a.pack.now a.rest a.other s.requires.0 s.requires.1 (sym c.same_bytes.ensures ∙ e)
 
-pub repeats-spec : {M : Type 1} → statement M
-repeats-spec =
+pub repeats_spec : {M : Type 1} → statement M
+repeats_spec =
     tie.close
     (tie.spec
     (search rules)

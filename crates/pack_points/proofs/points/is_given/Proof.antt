@@ -11,20 +11,20 @@ use Rattle.pack_points.proofs.points.is_given.Tie as tie
 
 returns : tie.Need-returns
 returns c =
-    let third-byte = c.before.before in
-    let second-byte = third-byte.before.before in
-    let first_byte = second-byte.before.before in
-    let args = first_byte.before.before.before.args in
-    rw (first_byte.wide.ensures.0, second-byte.wide2.ensures.0, third-byte.wide3.ensures.0, c.wide4.ensures.0)
+    let third-byte = c in
+    let second-byte = third-byte in
+    let first_byte = second-byte in
+    let args = first_byte.args in
+    rw (first_byte.wide.ensures.0, second-byte.wide-2.ensures.0, third-byte.wide-3.ensures.0, c.wide-4.ensures.0)
     (ap not
     (absent-back args.pack.now (args.rest + offsets_at + 4 * args.n) (omega arith)
     (rw first_byte.wide.ensures.0 at first_byte.wide.ensures.1)
-    (rw second-byte.wide2.ensures.0 at second-byte.wide2.ensures.1)
-    (rw third-byte.wide3.ensures.0 at third-byte.wide3.ensures.1)
-    (rw c.wide4.ensures.0 at c.wide4.ensures.1)))
+    (rw second-byte.wide-2.ensures.0 at second-byte.wide-2.ensures.1)
+    (rw third-byte.wide-3.ensures.0 at third-byte.wide-3.ensures.1)
+    (rw c.wide-4.ensures.0 at c.wide-4.ensures.1)))
 
-pub is-given-spec : {M : Type 1} → statement M
-is-given-spec =
+pub is_given_spec : {M : Type 1} → statement M
+is_given_spec =
     tie.close
     (tie.spec
     (search rules)

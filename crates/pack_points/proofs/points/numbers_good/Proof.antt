@@ -10,16 +10,16 @@ use Rattle.pack_points.proofs.points.numbers_good.Tie as tie
 
 returns : tie.Need-returns
 returns c =
-    let n = c.before in
-    let o = n.before in
-    let k = o.before in
-    let a = k.before.before.args in
-    rw (c.greater.ensures, n.number-within3.ensures.0, o.number-within2.ensures.0, k.number-within.ensures.0)
+    let n = c in
+    let o = n in
+    let k = o in
+    let a = k.args in
+    rw (c.greater.ensures, n.number_within-number.ensures.0, o.number_within-organisation.ensures.0, k.number_within-address.ensures.0)
     (numbers-test (number_at a.pack.now (a.rest + address_key_at) 4) (organisation_key a.pack.now a.rest)
     (building_number a.pack.now a.rest) 99_999_999 9_999)
 
-pub numbers-good-spec : {M : Type 1} → statement M
-numbers-good-spec =
+pub numbers_good_spec : {M : Type 1} → statement M
+numbers_good_spec =
     tie.close
     (tie.spec
     (search rules)

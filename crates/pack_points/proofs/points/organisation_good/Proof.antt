@@ -11,38 +11,38 @@ use Rattle.pack_points.proofs.FieldLaws.{organisation-test}
 use Rattle.pack_points.proofs.points.organisation_good.Statement.{statement}
 use Rattle.pack_points.proofs.points.organisation_good.Tie as tie
 
-text-empty-requires : tie.Need-text-empty-requires
-text-empty-requires c κs = ⊎_elim (λ w. omega (arith, w.1, c.before.offset-of.ensures.1)) (λ w. omega (arith, w.1)) c.if1.branch
+text-empty-requires : tie.Need-text_empty-named-requires
+text-empty-requires c κs = ⊎_elim (λ w. omega (arith, w.1, c.offset_of-row.ensures.1)) (λ w. omega (arith, w.1)) c.if-given.branch
 
 -- the row that is looked at is the point's own, where it has one
-own_row : (j : tie.Joined1)
-    → let o = j.before in
-    let a = o.before.before.before.before.before.before.args in
-    given a.pack.now a.rest 7 ≡ true → j.if1.at ≡ offset_of_point a.pack.now a.rest 7
+own_row : (j : tie.Joined-given)
+    → let o = j in
+    let a = o.args in
+    given a.pack.now a.rest 7 ≡ true → j.if-given.at ≡ offset_of_point a.pack.now a.rest 7
 own_row j e =
-    let o = j.before in
-    let g = o.before.before.before in
-    ⊎_elim (λ w. w.1 ∙ o.offset-of.ensures.0)
-    (λ w. absurd (true≢false (sym e ∙ (sym g.is-given.ensures ∙ w.0.left)))) j.if1.branch
+    let o = j in
+    let g = o in
+    ⊎_elim (λ w. w.1 ∙ o.offset_of-row.ensures.0)
+    (λ w. absurd (true≢false (sym e ∙ (sym g.is_given-given.ensures ∙ w.0.left)))) j.if-given.branch
 
 returns : tie.Need-returns
 unfolding organisation_good
 returns c =
     let j = c.before in
-    let o = j.before in
-    let n = o.before in
-    let g = n.before.before in
-    let s = g.before.before.before in
+    let o = j in
+    let n = o in
+    let g = n in
+    let s = g in
     let a = s.args in
     let pack = a.pack.now in
-    rw (c.text-empty.ensures, n.number-within.ensures.0, s.requires.1, g.is-given.ensures)
+    rw (c.text_empty-named.ensures, n.number_within-keyed.ensures.0, s.requires.1, g.is_given-given.ensures)
     (organisation-test (given pack a.rest 7) (eqb (type_byte pack a.rest) 76) (eqb (organisation_key pack a.rest) 0)
-    (not (is_empty (row_text (row_area pack) j.if1.at 0)))
+    (not (is_empty (row_text (row_area pack) j.if-given.at 0)))
     (not (is_empty (row_text (row_area pack) (offset_of_point pack a.rest 7) 0)))
     (λ e. ap (λ at. not (is_empty (row_text (row_area pack) at 0))) (own_row j e)))
 
-pub organisation-good-spec : {M : Type 1} → statement M
-organisation-good-spec =
+pub organisation_good_spec : {M : Type 1} → statement M
+organisation_good_spec =
     tie.close
     (tie.spec
     (search rules)

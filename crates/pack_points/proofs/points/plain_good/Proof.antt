@@ -15,39 +15,39 @@ use Rattle.pack_points.specs.Ready.{numbers_good}
 use Rattle.pack_points.proofs.points.plain_good.Statement.{statement}
 use Rattle.pack_points.proofs.points.plain_good.Tie as tie
 
-returns : tie.Need-returns
+returns : tie.Need-returns-then-not-numbers_good
 returns c =
-    let n = c.before in
-    let a = n.before.before.args in
-    rw (plain-split a.pack.now a.rest) (sym (simp (sym n.numbers-good.ensures ∙ not-true _ c.if1.true)))
+    let n = c in
+    let a = n.args in
+    rw (plain-split a.pack.now a.rest) (sym (simp (sym n.numbers_good.ensures ∙ c.if-not-numbers_good.true)))
 
 -- numbers that were found good
-numbers-fine : (e : tie.Else1) → numbers_good e.before.before.before.args.pack.now e.before.before.before.args.rest ≡ true
-numbers-fine e = sym e.before.numbers-good.ensures ∙ not-false _ e.if1.false
+numbers-fine : (e : tie.Else-not-numbers_good) → numbers_good e.args.pack.now e.args.rest ≡ true
+numbers-fine e = sym e.numbers_good.ensures ∙ e.if-not-numbers_good.false
 
-returns-2 : tie.Need-returns-2
+returns-2 : tie.Need-returns-then-not-marks
 returns-2 c =
     let e = c.before.before.before in
-    let a = e.before.before.before.args in
+    let a = e.args in
     let kind = type_byte a.pack.now a.rest in
     let mark = get_or a.pack.now (a.rest + concatenation_at) 0 in
     let bad : elem kind (83 ∷ 76 ∷ []) && elem mark (89 ∷ 32 ∷ []) ≡ false
-    = rw (← pair-test kind 83 76, ← pair-test mark 89 32) (not-true _ c.if2.true) in
+    = rw (← pair-test kind 83 76, ← pair-test mark 89 32) (c.if-not-marks.true) in
     rw (plain-split a.pack.now a.rest) (sym (simp (numbers-fine e, bad)))
 
-returns-3 : tie.Need-returns-3
+returns-3 : tie.Need-returns
 returns-3 c =
-    let i = c.before.before in
+    let i = c in
     let e = i.before.before.before in
-    let a = e.before.before.before.args in
+    let a = e.args in
     let kind = type_byte a.pack.now a.rest in
     let mark = get_or a.pack.now (a.rest + concatenation_at) 0 in
     let good : elem kind (83 ∷ 76 ∷ []) && elem mark (89 ∷ 32 ∷ []) ≡ true
-    = rw (← pair-test kind 83 76, ← pair-test mark 89 32) (not-false _ i.if2.false) in
+    = rw (← pair-test kind 83 76, ← pair-test mark 89 32) (i.if-not-marks.false) in
     rw (c.box_good.ensures, plain-split a.pack.now a.rest) (sym (simp (numbers-fine e, good)))
 
-pub plain-good-spec : {M : Type 1} → statement M
-plain-good-spec =
+pub plain_good_spec : {M : Type 1} → statement M
+plain_good_spec =
     tie.close
     (tie.spec
     (search rules)

@@ -5,21 +5,21 @@ use borrow.Author.Tests.{not-true, not-false}
 use Rattle.pack_points.proofs.points.postcode_good.Statement.{statement}
 use Rattle.pack_points.proofs.points.postcode_good.Tie as tie
 
-returns : tie.Need-returns
+returns : tie.Need-returns-then-not-same_bytes
 returns c =
-    let m = c.before in
-    let same = rw m.before.outward-of.ensures at m.same_bytes.ensures in
-    sym (simp (sym same ∙ not-true _ c.if1.true))
+    let m = c in
+    let same = rw m.outward_of.ensures at m.same_bytes.ensures in
+    sym (simp (sym same ∙ c.if-not-same_bytes.true))
 
-returns-2 : tie.Need-returns-2
+returns-2 : tie.Need-returns
 returns-2 c =
-    let i = c.before.before in
-    let m = i.before in
-    let same = rw m.before.outward-of.ensures at m.same_bytes.ensures in
-    rw c.is-inward.ensures (sym (simp (sym same ∙ not-false _ i.if1.false)))
+    let i = c in
+    let m = i in
+    let same = rw m.outward_of.ensures at m.same_bytes.ensures in
+    rw c.is_inward.ensures (sym (simp (sym same ∙ i.if-not-same_bytes.false)))
 
-pub postcode-good-spec : {M : Type 1} → statement M
-postcode-good-spec =
+pub postcode_good_spec : {M : Type 1} → statement M
+postcode_good_spec =
     tie.close
     (tie.spec
     (search rules)

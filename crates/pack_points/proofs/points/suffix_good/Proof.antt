@@ -6,24 +6,24 @@ use Rattle.pack_points.proofs.FieldLaws.{suffix-none, suffix-some}
 use Rattle.pack_points.proofs.points.suffix_good.Statement.{statement}
 use Rattle.pack_points.proofs.points.suffix_good.Tie as tie
 
-returns : tie.Need-returns
+returns : tie.Need-returns-then-not-has_suffix
 returns c =
-    let asked = c.before in
-    let start = asked.before.before in
+    let asked = c in
+    let start = asked in
     suffix-none start.args.pack.now start.args.at
-    (rw start.requires.1.edition at (sym asked.has-suffix.ensures ∙ not-true _ c.if1.true))
+    (rw start.requires.1.edition at (sym asked.has_suffix.ensures ∙ c.if-not-has_suffix.true))
 
-returns-2 : tie.Need-returns-2
+returns-2 : tie.Need-returns
 returns-2 c =
-    let some = c.before.before in
-    let asked = some.before in
-    let start = asked.before.before in
-    rw c.is-suffix.ensures
+    let some = c in
+    let asked = some in
+    let start = asked in
+    rw c.is_suffix.ensures
     (suffix-some start.args.pack.now start.args.at
-    (rw start.requires.1.edition at (sym asked.has-suffix.ensures ∙ not-false _ some.if1.false)))
+    (rw start.requires.1.edition at (sym asked.has_suffix.ensures ∙ some.if-not-has_suffix.false)))
 
-pub suffix-good-spec : {M : Type 1} → statement M
-suffix-good-spec =
+pub suffix_good_spec : {M : Type 1} → statement M
+suffix_good_spec =
     tie.close
     (tie.spec
     (λ c κs. search rules)

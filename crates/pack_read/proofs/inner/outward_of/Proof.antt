@@ -4,9 +4,9 @@ use Rattle.pack_read.proofs.inner.outward_of.Statement.{statement}
 use Rattle.pack_read.proofs.inner.outward_of.Tie as tie
 
 returns : tie.Need-returns
-returns c = rw c.before.before.requires.laid.trailer
+returns c = rw c.requires.laid.trailer
 
-pub outward-of-spec : {M : Type 1} → statement M
-outward-of-spec =
+pub outward_of_spec : {M : Type 1} → statement M
+outward_of_spec =
     tie.close
     (tie.spec (λ c. search rules) (λ c. search rules) (λ c. search rules) (λ c. search rules) (λ c. search rules) (λ c. search rules) returns)

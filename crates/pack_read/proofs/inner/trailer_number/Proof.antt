@@ -5,9 +5,9 @@ use Rattle.pack_read.proofs.inner.trailer_number.Tie as tie
 
 returns : tie.Need-returns
 returns c =
-    let s = c.before.before.before in
-    rw s.requires.0.laid.trailer at c.number-within.ensures
+    let s = c in
+    rw s.requires.0.laid.trailer at c.number_within.ensures
 
-pub trailer-number-spec : {M : Type 1} → statement M
-trailer-number-spec =
+pub trailer_number_spec : {M : Type 1} → statement M
+trailer_number_spec =
     tie.close (tie.spec (λ c. search rules) (λ c. search rules) (λ c κs. search rules) returns)

@@ -7,11 +7,11 @@ use Rattle.pack_read.proofs.layout.behind_fields.Statement.{statement}
 use Rattle.pack_read.proofs.layout.behind_fields.Tie as tie
 use borrow.Author.Rules.{rules}
 
-returns : tie.Need-returns
-returns c = (sym (ap (λ t. cond t counts_width 0) (sym c.before.has-counts.ensures ∙ c.if1.true)), omega arith)
+returns : tie.Need-returns-then-has_counts
+returns c = (sym (ap (λ t. cond t counts_width 0) (sym c.has_counts.ensures ∙ c.if-has_counts.true)), omega arith)
 
-returns-2 : tie.Need-returns-2
-returns-2 c = (sym (ap (λ t. cond t counts_width 0) (sym c.before.has-counts.ensures ∙ c.if1.false)), omega arith)
+returns-2 : tie.Need-returns
+returns-2 c = (sym (ap (λ t. cond t counts_width 0) (sym c.has_counts.ensures ∙ c.if-has_counts.false)), omega arith)
 
-pub behind-fields-spec : {M : Type 1} → statement M
-behind-fields-spec = tie.close (tie.spec (λ c κs. search rules) returns returns-2)
+pub behind_fields_spec : {M : Type 1} → statement M
+behind_fields_spec = tie.close (tie.spec (λ c κs. search rules) returns returns-2)

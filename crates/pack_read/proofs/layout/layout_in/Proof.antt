@@ -6,14 +6,14 @@ use lib.ListN.{length, get_or-eq_default}
 use Rattle.pack_read.proofs.layout.layout_in.Statement.{statement}
 use Rattle.pack_read.proofs.layout.layout_in.Tie as tie
 
-returns : tie.Need-returns
+returns : tie.Need-returns-then-n-lt-EDITION
 returns c =
-    let pack = c.before.before.before.args.pack.now in
+    let pack = c.args.pack.now in
     let none = get_or-eq_default pack 0 {n = length pack - 1} (omega arith) in
     rw none c.layout_of.ensures
 
-pub layout-in-spec : {M : Type 1} → statement M
-layout-in-spec =
+pub layout_in_spec : {M : Type 1} → statement M
+layout_in_spec =
     tie.close
     (tie.spec
     (λ c κs. search rules)

@@ -6,13 +6,13 @@ use Rattle.pack_rows.proofs.fine.ends_good.Tie as tie
 
 returns : tie.Need-returns
 returns c =
-    let l = c.before.before in
-    let s = l.before.before.before in
+    let l = c in
+    let s = l in
     let a = s.args in
     λ e none. ends-good a.rows.now a.at s.requires a.width a.blank (rw l.lesser.ensures at e) none
 
-pub ends-good-spec : {M : Type 1} → statement M
-ends-good-spec =
+pub ends_good_spec : {M : Type 1} → statement M
+ends_good_spec =
     tie.close
     (tie.spec
     (search rules)

@@ -7,11 +7,11 @@ use Rattle.pack_rows.proofs.rows.row_good.Tie as tie
 returns : tie.Need-returns
 unfolding row_good
 returns c =
-    let t = c.before in
-    let b = t.before in
-    rw (c.double-good.ensures, t.texts-good.ensures, b.before.before.requires.1, b.byte_of.ensures)
+    let t = c in
+    let b = t in
+    rw (c.double_good-double.ensures, t.texts_good-texts.ensures, b.requires.1, b.byte_of-kind.ensures)
 
-pub row-good-spec : {M : Type 1} → statement M
-row-good-spec =
+pub row_good_spec : {M : Type 1} → statement M
+row_good_spec =
     tie.close
     (tie.spec (λ c κs. search rules) (λ c. search rules) (λ c κs. search rules) (λ c κs. search rules) returns)

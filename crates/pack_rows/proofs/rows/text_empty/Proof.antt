@@ -7,14 +7,14 @@ use Rattle.pack_rows.proofs.rows.text_empty.Tie as tie
 
 returns : tie.Need-returns
 returns c =
-    let e = c.before in
-    let p = e.before in
-    let a = p.before.before.args in
-    rw (c.part_of.ensures, e.text-end.ensures.0, p.text-place.ensures.0)
+    let e = c in
+    let p = e in
+    let a = p.args in
+    rw (c.part_of-text.ensures, e.text_end-end.ensures.0, p.text_place-place.ensures.0)
     (empty-length (row_text a.rows.now a.at a.n))
 
-pub text-empty-spec : {M : Type 1} → statement M
-text-empty-spec =
+pub text_empty_spec : {M : Type 1} → statement M
+text_empty_spec =
     tie.close
     (tie.spec
     (λ c. search rules)

@@ -8,39 +8,39 @@ use Rattle.pack_rows.proofs.WalkLaws.{none-behind, tells-here, stretch-within}
 use Rattle.pack_rows.proofs.starts.is_start.Statement.{statement}
 use Rattle.pack_rows.proofs.starts.is_start.Tie as tie
 
-returns : tie.Need-returns
+returns : tie.Need-returns-then-rows-o
 returns c =
-    let a = c.before.before.before.args in
-    λ n s. sym (none-behind a.rows.now n 1 0 a.o s.good c.if1.true)
+    let a = c.args in
+    λ n s. sym (none-behind a.rows.now n 1 0 a.o s.good c.if-rows-o.true)
 
-mul-walk-to : tie.Need-overflow-mul-walk-to
+mul-walk-to : tie.Need-offset_bounds-starts-j
 mul-walk-to c =
-    let s = c.before.before.before in
+    let s = c in
     let a = s.args in
-    omega (arith, stretch-within a.rows.now a.width a.starts.now s.requires a.o c.if1.false)
+    omega (arith, stretch-within a.rows.now a.width a.starts.now s.requires a.o c.if-rows-o.false)
 
-shared-slice-read-walk-to : tie.Need-shared-slice-read-walk-to
+shared-slice-read-walk-to : tie.Need-bounds-starts-j
 shared-slice-read-walk-to c =
-    let s = c.before.before.before.before in
+    let s = c in
     let a = s.args in
-    stretch-within a.rows.now a.width a.starts.now s.requires a.o c.before.if1.false
+    stretch-within a.rows.now a.width a.starts.now s.requires a.o c.if-rows-o.false
 
-cast-walk-to : tie.Need-overflow-cast-walk-to
+cast-walk-to : tie.Need-overflow_cast-starts
 cast-walk-to c =
-    let a = c.before.before.before.before.args in
-    omega (arith, c.shared-slice-known3.given (a.o / a.width))
+    let a = c.args in
+    omega (arith, c.shared_slice_known-3-1.given (a.o / a.width))
 
-returns-2 : tie.Need-returns-2
+returns-2 : tie.Need-returns
 returns-2 c =
-    let e = c.before.before in
-    let a = e.before.before.before.args in
+    let e = c in
+    let a = e.args in
     λ n s.
     sym
-    (tells-here a.rows.now n a.o e.if1.false _ c.walk-to.ensures.0
-    (c.walk-to.ensures.1 n a.o (le_refl a.o) e.if1.false (s.tells a.o e.if1.false)))
+    (tells-here a.rows.now n a.o e.if-rows-o.false _ c.walk_to.ensures.0
+    (c.walk_to.ensures.1 n a.o (le_refl a.o) e.if-rows-o.false (s.tells a.o e.if-rows-o.false)))
 
-pub is-start-spec : {M : Type 1} → statement M
-is-start-spec =
+pub is_start_spec : {M : Type 1} → statement M
+is_start_spec =
     tie.close
     (tie.spec
     returns

@@ -9,32 +9,32 @@ use Rattle.pack_rows.proofs.WalkLaws.{row-rise, tells-next}
 use Rattle.pack_rows.proofs.starts.walk_to.Statement.{statement}
 use Rattle.pack_rows.proofs.starts.walk_to.Tie as tie
 
-abbrev invariant-loop : tie.invariant-loop
+abbrev invariant-loop : tie.invariant-loop-at
 invariant-loop rows from place at₀ at = (n o : ℕ) → place ≤ o → o < length rows → Tells rows n o from → Tells rows n o at
 
-abbrev decreases-loop : tie.decreases-loop
+abbrev decreases-loop : tie.decreases-loop-at
 decreases-loop rows from place at₀ at = place - at
 
-loop-holds : tie.Need-loop-init invariant-loop decreases-loop
+loop-holds : tie.Need-loop-at-init invariant-loop decreases-loop
 loop-holds c = λ n o l h t. t
 
-loop-less : tie.Need-loop-smaller invariant-loop decreases-loop
+loop-less : tie.Need-loop-at-smaller invariant-loop decreases-loop
 loop-less c =
-    let l = c.before.before in
-    let a = l.before.before.args in
-    rw c.row-end.ensures (omega (arith, row-rise a.rows.now l.loop.at))
+    let l = c in
+    let a = l.args in
+    rw c.row_end-at.ensures (omega (arith, row-rise a.rows.now l.loop-at.at))
 
-loop-again : tie.Need-loop-preserved invariant-loop decreases-loop
+loop-again : tie.Need-loop-at-preserved invariant-loop decreases-loop
 loop-again c =
-    let l = c.before.before in
-    let a = l.before.before.args in
+    let l = c in
+    let a = l.args in
     λ n o p h t.
-    rw c.row-end.ensures
-    (tells-next a.rows.now n o h l.loop.at (omega arith) (l.loop.invariant n o p h t))
+    rw c.row_end-at.ensures
+    (tells-next a.rows.now n o h l.loop-at.at (omega arith) (l.loop-at.invariant n o p h t))
 
 returns : tie.Need-returns invariant-loop decreases-loop
-returns c = (omega arith, c.before.loop.invariant)
+returns c = (omega arith, c.loop-at.invariant)
 
-pub walk-to-spec : {M : Type 1} → statement M
-walk-to-spec =
+pub walk_to_spec : {M : Type 1} → statement M
+walk_to_spec =
     tie.close (tie.spec invariant-loop decreases-loop loop-holds (λ c κs. search rules) loop-less loop-again returns)

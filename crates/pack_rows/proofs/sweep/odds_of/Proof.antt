@@ -11,43 +11,43 @@ use Rattle.pack_rows.proofs.OddLaws.{odds-part, odds-rest}
 use Rattle.pack_rows.proofs.sweep.odds_of.Statement.{statement}
 use Rattle.pack_rows.proofs.sweep.odds_of.Tie as tie
 
-abbrev invariant-loop : tie.invariant-loop
+abbrev invariant-loop : tie.invariant-loop-i
 invariant-loop s n₀ i₀ n i = (i ≤ length s) × (n ≤ i) × (n + odds (drop i s) ≡ odds s)
 
-abbrev decreases-loop : tie.decreases-loop
+abbrev decreases-loop : tie.decreases-loop-i
 decreases-loop s n₀ i₀ n i = length s - i
 
-loop-holds : tie.Need-loop-init invariant-loop decreases-loop
+loop-holds : tie.Need-loop-i-init invariant-loop decreases-loop
 loop-holds c = (omega arith, omega arith, omega arith)
 
-odds-in-requires : tie.Need-odds-in-requires invariant-loop decreases-loop
+odds-in-requires : tie.Need-odds_in-requires invariant-loop decreases-loop
 odds-in-requires c κs =
-    let l = c.before.before in
-    omega (arith, part-bound l.before.before.args.s.now l.loop.i (l.loop.i + 240))
+    let l = c in
+    omega (arith, part-bound l.args.s.now l.loop-i.i (l.loop-i.i + 240))
 
-loop-again : tie.Need-loop-preserved invariant-loop decreases-loop
+loop-again : tie.Need-loop-i-preserved invariant-loop decreases-loop
 loop-again c =
-    let l = c.before.before.before in
-    let a = l.before.before.args in (
+    let l = c in
+    let a = l.args in (
       omega arith,
-      omega (arith, c.odds-in.ensures.1, part-bound a.s.now l.loop.i (l.loop.i + 240)),
-      rw c.odds-in.ensures.0 (odds-part a.s.now l.loop.i l.loop.n l.loop.invariant.2 240),
+      omega (arith, c.odds_in.ensures.1, part-bound a.s.now l.loop-i.i (l.loop-i.i + 240)),
+      rw c.odds_in.ensures.0 (odds-part a.s.now l.loop-i.i l.loop-i.n l.loop-i.invariant.2 240),
     )
 
-odds-in-requires-2 : tie.Need-odds-in-requires-2 invariant-loop decreases-loop
+odds-in-requires-2 : tie.Need-odds_in-requires-2 invariant-loop decreases-loop
 odds-in-requires-2 c κs =
-    let l = c.before.before in
-    let s = l.before.before.args.s.now in
-    omega (arith, part-bound s l.loop.i (length s))
+    let l = c in
+    let s = l.args.s.now in
+    omega (arith, part-bound s l.loop-i.i (length s))
 
 returns : tie.Need-returns invariant-loop decreases-loop
 returns c =
-    let l = c.before.before.before in
-    let a = l.before.before.args in
-    rw c.odds-in2.ensures.0 (odds-rest a.s.now l.loop.i l.loop.n l.loop.invariant.2)
+    let l = c in
+    let a = l.args in
+    rw c.odds_in-2.ensures.0 (odds-rest a.s.now l.loop-i.i l.loop-i.n l.loop-i.invariant.2)
 
-pub odds-of-spec : {M : Type 1} → statement M
-odds-of-spec =
+pub odds_of_spec : {M : Type 1} → statement M
+odds_of_spec =
     tie.close
     (tie.spec
     invariant-loop

@@ -8,10 +8,10 @@ use Rattle.pack_runs.proofs.points.label_behind.Tie as tie
 
 returns : tie.Need-returns
 returns c =
-    let l = c.before.before in
-    let a = l.before.before.before.before.args in
+    let l = c in
+    let a = l.args in
     lent-behind (point_label a.pack.now a.k) a.at a.out.now (given_back a.out.now _ a.at) (rw (lent a.out.now a.at) at l.label_at.ensures)
 
-pub label-behind-spec : {M : Type 1} → statement M
-label-behind-spec =
+pub label_behind_spec : {M : Type 1} → statement M
+label_behind_spec =
     tie.close (tie.spec (search rules) (search rules) (search rules) (search rules) (search rules) returns)

@@ -16,16 +16,16 @@ use Rattle.run.proofs.Going.{Fitting, Going, going_start, going-fits, going_step
 use Rattle.pack_runs.proofs.points.run_points.Statement.{statement}
 use Rattle.pack_runs.proofs.points.run_points.Tie as tie
 
-abbrev invariant-loop : tie.invariant-loop
+abbrev invariant-loop : tie.invariant-loop-done
 invariant-loop pack points first count out₀ k₀ at₀ done₀ out k at done =
     (k ≡ first + done) × (Going (point_label pack) first count out₀ done at out × (length out ≡ length out₀))
 
-abbrev decreases-loop : tie.decreases-loop
+abbrev decreases-loop : tie.decreases-loop-done
 decreases-loop pack points first count out₀ k₀ at₀ done₀ out k at done = count - done
 
 -- the label that was asked, by its number
-module _ (m : tie.After-label-behind invariant-loop decreases-loop) where
-  abbrev at-loop : tie.At-loop invariant-loop decreases-loop
+module _ (m : tie.After-label_behind invariant-loop decreases-loop) where
+  abbrev at-loop : tie.At-loop-done invariant-loop decreases-loop
   at-loop = m.before.before.before
 
   abbrev start : tie.Start invariant-loop decreases-loop
@@ -35,71 +35,71 @@ module _ (m : tie.After-label-behind invariant-loop decreases-loop) where
   pack = start.args.pack.now
 
   abbrev number : ℕ
-  number = start.args.first + at-loop.loop.done
+  number = start.args.first + at-loop.loop-done.done
 
-  asked : said m.label-behind.result m.label-behind.last.1.1.1.1.0
-      ≡ asked_behind at-loop.loop.at at-loop.loop.out (point_label pack number)
-  asked = rw at-loop.loop.inv.0 at m.label-behind.ensures
+  asked : said m.label_behind.result m.label_behind.last.1.1.1.1.0
+      ≡ asked_behind at-loop.loop-done.at at-loop.loop-done.out (point_label pack number)
+  asked = rw at-loop.loop-done.invariant.0 at m.label_behind.ensures
 
   fit : Fitting (point_label pack)
   fit = point-fits pack
 
-loop-holds : tie.Need-loop-init invariant-loop decreases-loop
+loop-holds : tie.Need-loop-done-init invariant-loop decreases-loop
 loop-holds c =
-    let a = c.before.before.args in
+    let a = c.args in
     (sym (add-zero a.first), (going_start (point_label a.pack.now) a.first a.count a.out.now, refl))
 
-label-behind-requires : tie.Need-label-behind-requires invariant-loop decreases-loop
+label-behind-requires : tie.Need-label_behind-requires invariant-loop decreases-loop
 label-behind-requires c κs =
-    let l = c.before.before in
-    (l.loop.invariant.1.0.within, l.before.before.before.requires)
+    let l = c in
+    (l.loop-done.invariant.1.0.within, l.requires)
 
-add_at : tie.Need-overflow-add-at invariant-loop decreases-loop
+add_at : tie.Need-overflow_add-at invariant-loop decreases-loop
 add_at c =
-    let m = c.before.before.before.before.before in
+    let m = c.before.before.before in
     let l = at-loop m in
     omega (
       arith,
-      going-fits l.loop.inv.1.0 (fit m) (omega arith) (asked m) c.before.bytes.given.1,
-      m.label-behind.auto.1.1.1.1.0,
-      l.loop.inv.1.1,
+      going-fits l.loop-done.invariant.1.0 (fit m) (omega arith) (asked m) c.in-Value.is,
+      m.label_behind.auto.1.1.1.1.0,
+      l.loop-done.invariant.1.1,
       (start m).well_formed.1.1.1.1.0.0,
     )
 
-returns : tie.Need-returns invariant-loop decreases-loop
+returns : tie.Need-returns-in-Refused invariant-loop decreases-loop
 returns c =
-    let m = c.before.before.before.before.before in
-    going-stop (at-loop m).loop.invariant.1.0 (fit m) (omega arith) (asked m) c.before.reason.given.1
+    let m = c.before.before.before in
+    going-stop (at-loop m).loop-done.invariant.1.0 (fit m) (omega arith) (asked m) c.in-Refused.is
 
-add-k : tie.Need-overflow-add-k invariant-loop decreases-loop
+add-k : tie.Need-overflow_add-k invariant-loop decreases-loop
 add-k c =
-    let m = c.before.before.before.before.before in
+    let m = c.before.before.before in
     let l = at-loop m in
-    let is = sym (answer-of (asked m)) ∙ c.before.bytes.given.1 in
+    let is = sym (answer-of (asked m)) ∙ c.in-Value.is in
     omega (
       arith,
-      point-bound (pack m) (number m) (drop l.loop.at l.loop.out) _ is,
-      l.loop.inv.0,
+      point-bound (pack m) (number m) (drop l.loop-done.at l.loop-done.out) _ is,
+      l.loop-done.invariant.0,
       (start m).requires.0,
       (start m).well_formed.0.0,
     )
 
-loop-again : tie.Need-loop-preserved invariant-loop decreases-loop
+loop-again : tie.Need-loop-done-preserved invariant-loop decreases-loop
 loop-again c =
-    let m = c.before.before.before.before.before in
+    let m = c.before.before.before in
     let l = at-loop m in (
-      omega (arith, l.loop.inv.0),
+      omega (arith, l.loop-done.invariant.0),
       (
-        going_step l.loop.inv.1.0 (fit m) (omega arith) (asked m) c.before.bytes.given.1,
-        m.label-behind.auto.1.1.1.1.0 ∙ l.loop.inv.1.1,
+        going_step l.loop-done.invariant.1.0 (fit m) (omega arith) (asked m) c.in-Value.is,
+        m.label_behind.auto.1.1.1.1.0 ∙ l.loop-done.invariant.1.1,
       ),
     )
 
-returns-2 : tie.Need-returns-2 invariant-loop decreases-loop
-returns-2 c = going_end c.before.loop.invariant.1.0 (omega arith)
+returns-2 : tie.Need-returns invariant-loop decreases-loop
+returns-2 c = going_end c.loop-done.invariant.1.0 (omega arith)
 
-pub run-points-spec : {M : Type 1} → statement M
-run-points-spec =
+pub run_points_spec : {M : Type 1} → statement M
+run_points_spec =
     tie.close
     (tie.spec invariant-loop decreases-loop loop-holds label-behind-requires (search rules) add_at (search rules) (search rules)
     returns add-k (search rules) (search rules) loop-again (search rules) returns-2)

@@ -18,54 +18,54 @@ use Rattle.pack_sector.proofs.inner.sector_count.Statement.{statement}
 use Rattle.pack_sector.proofs.inner.sector_count.Tie as tie
 
 -- what the edition says
-module _ (c : tie.After-has-counts) where
+module _ (c : tie.After-has_counts) where
   abbrev start : tie.Start
   start = c.before.before.before
 
   abbrev pack : List ℕ
   pack = start.args.pack.now
 
-  asked : c.has-counts.result ≡ has_counts (edition pack)
-  asked = c.has-counts.ensures ∙ ap has_counts c.before.layout-in.ensures.edition
+  asked : c.has_counts.result ≡ has_counts (edition pack)
+  asked = c.has_counts.ensures ∙ ap has_counts c.layout_in-layout.ensures.edition
 
-some : (c : tie.Then1) → has_counts (edition (pack c.before)) ≡ true
-some c = sym (asked c.before) ∙ c.if1.true
+some : (c : tie.Then-has_counts) → has_counts (edition (pack c.before)) ≡ true
+some c = sym (asked c.before) ∙ c.if-has_counts.true
 
-count-said-requires : tie.Need-count-said-requires
+count-said-requires : tie.Need-count_said-requires
 count-said-requires c κs =
     let s = start c.before in
-    (trailed (pack c.before) s.pre.0.sized _ c.before.before.layout-in.ensures, (some c, s.pre.1))
+    (trailed (pack c.before) s.pre.0.sized _ c.layout_in-layout.ensures, (some c, s.pre.1))
 
-returns : tie.Need-returns
+returns : tie.Need-returns-then-has_counts
 returns c =
     let at-edition = c.before.before in
     let s = start at-edition in
-    c.count-said.ensures ∙ read-is-counted (pack at-edition) s.pre.0.counts (some c.before) s.args.digit s.pre.1
+    c.count_said.ensures ∙ read-is-counted (pack at-edition) s.pre.0.counts (some c.before) s.args.digit s.pre.1
 
-count-digits-requires : tie.Need-count-digits-requires
+count-digits-requires : tie.Need-count_digits-counts-requires
 count-digits-requires c κs =
     let at-edition = c.before.before in
     let s = start at-edition in
-    let laid = at-edition.before.layout-in.ensures in (
+    let laid = at-edition.layout_in-layout.ensures in (
       omega (arith, laid.point, point-more (edition (pack at-edition))),
-      points-inside (pack at-edition) s.pre.0.sized c.trailer-number.ensures.0 laid.point s.pre.0.counted,
+      points-inside (pack at-edition) s.pre.0.sized c.trailer_number-start.ensures.0 laid.point s.pre.0.counted,
     )
 
-returns-2 : tie.Need-returns-2
+returns-2 : tie.Need-returns
 returns-2 c =
-    let counted = c.before in
-    let read = counted.before in
+    let counted = c in
+    let read = counted in
     let at-edition = read.before.before in
     let s = start at-edition in
     let p = pack at-edition in
     ap (λ l. get_or l s.args.digit 0)
-    (counted.count-digits.ensures
+    (counted.count_digits-counts.ensures
     ∙ ap sector_counts
-    (digits-as p at-edition.before.layout-in.ensures.point s.pre.0.counted read.trailer-number.ensures.0))
+    (digits-as p at-edition.layout_in-layout.ensures.point s.pre.0.counted read.trailer_number-start.ensures.0))
     ∙ counts-at (point_digits p) s.args.digit s.pre.1
 
-pub sector-count-spec : {M : Type 1} → statement M
-sector-count-spec =
+pub sector_count_spec : {M : Type 1} → statement M
+sector_count_spec =
     tie.close
     (tie.spec
     (λ c κs. search rules)

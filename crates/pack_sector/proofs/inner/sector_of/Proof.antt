@@ -7,15 +7,15 @@ use Rattle.pack.specs.Points.{sector_answer}
 use Rattle.pack_sector.proofs.inner.sector_of.Statement.{statement}
 use Rattle.pack_sector.proofs.inner.sector_of.Tie as tie
 
-returns : tie.Need-returns
+returns : tie.Need-returns-then-digit-gt9
 unfolding sector_answer
-returns c = simp (lt-leb _ 9 c.if1.true)
+returns c = simp (lt-leb _ 9 c.if-digit-gt9.true)
 
-returns-2 : tie.Need-returns-2
+returns-2 : tie.Need-returns
 unfolding sector_answer
 returns-2 c =
-    let s = c.before.before.before in
-    ap Value c.sector-count.ensures ∙ sym (simp (le-leb s.args.digit 9 c.before.if1.false))
+    let s = c in
+    ap Value c.sector_count.ensures ∙ sym (simp (le-leb s.args.digit 9 c.if-digit-gt9.false))
 
-pub sector-of-spec : {M : Type 1} → statement M
-sector-of-spec = tie.close (tie.spec returns (λ c κs. search rules) returns-2)
+pub sector_of_spec : {M : Type 1} → statement M
+sector_of_spec = tie.close (tie.spec returns (λ c κs. search rules) returns-2)

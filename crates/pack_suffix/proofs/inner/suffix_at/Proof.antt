@@ -19,35 +19,35 @@ module _ (s : tie.Start) where
   tested = ap (λ n. leb 1 s.args.k && leb s.args.k n) s.requires.1
 
 -- and it is, where the first branch is left
-module _ (c : tie.Else1) where
+module _ (c : tie.Else-not-there) where
   abbrev start : tie.Start
   start = c.before.before
 
   there : is_point start.args.pack.now start.args.k ≡ true
-  there = sym (tested start) ∙ not-false _ c.if1.false
+  there = sym (tested start) ∙ c.if-not-there.false
 
 -- what the edition says
-module _ (c : tie.After-has-suffix) where
-  asked : c.has-suffix.result ≡ has_suffix (edition (start c.before.before).args.pack.now)
-  asked = c.has-suffix.ensures ∙ ap has_suffix c.before.layout-in.ensures.edition
+module _ (c : tie.After-has_suffix) where
+  asked : c.has_suffix.result ≡ has_suffix (edition (start c.before.before).args.pack.now)
+  asked = c.has_suffix.ensures ∙ ap has_suffix c.layout_in.ensures.edition
 
-returns : tie.Need-returns
+returns : tie.Need-returns-then-not-there
 returns c =
     let s = c.before.before.before in
     c.refused.ensures
-    ∙ sym (no-point s.args.pack.now s.args.k (sym (tested s) ∙ not-true _ c.before.if1.true))
+    ∙ sym (no-point s.args.pack.now s.args.k (sym (tested s) ∙ c.if-not-there.true))
 
-returns-2 : tie.Need-returns-2
+returns-2 : tie.Need-returns-then-not-has_suffix
 returns-2 c =
     let at-edition = c.before.before in
     let at-point = at-edition.before.before in
     let s = start at-point in
-    c.refused2.ensures
+    c.refused-then-not-has_suffix.ensures
     ∙ sym
     (no_suffix s.args.pack.now s.args.k (there at-point)
-    (sym (asked at-edition) ∙ not-true _ c.before.if2.true))
+    (sym (asked at-edition) ∙ c.if-not-has_suffix.true))
 
-suffix-number-requires : tie.Need-suffix-number-requires
+suffix-number-requires : tie.Need-suffix_number-requires
 suffix-number-requires c κs =
     let at-point = c.before.before.before in
     let s = start at-point in
@@ -59,18 +59,18 @@ suffix-number-requires c κs =
       ),
     )
 
-returns-3 : tie.Need-returns-3
+returns-3 : tie.Need-returns
 returns-3 c =
     let at-edition = c.before.before in
     let at-point = at-edition.before.before in
     let s = start at-point in
-    ap Value c.suffix-number.ensures
+    ap Value c.suffix_number.ensures
     ∙ sym
     (its-suffix s.args.pack.now s.args.k (there at-point)
-    (sym (asked at-edition) ∙ not-false _ c.before.if2.false))
+    (sym (asked at-edition) ∙ c.if-not-has_suffix.false))
 
-pub suffix-at-spec : {M : Type 1} → statement M
-suffix-at-spec =
+pub suffix_at_spec : {M : Type 1} → statement M
+suffix_at_spec =
     tie.close
     (tie.spec
     (λ c κs. search rules)

@@ -13,7 +13,7 @@ use Rattle.pack_suffix.proofs.inner.suffix_number.Statement.{statement}
 use Rattle.pack_suffix.proofs.inner.suffix_number.Tie as tie
 
 -- once the start of the points is read, the point is there
-module _ (c : tie.After-trailer-number) where
+module _ (c : tie.After-trailer_number-start) where
   abbrev start : tie.Start
   start = c.before.before.before
 
@@ -23,32 +23,32 @@ module _ (c : tie.After-trailer-number) where
   abbrev k : ℕ
   k = start.args.k
 
-  place : c.trailer-number.result + c.before.layout-in.result.point * (k - 1) ≡ point_place pack k
-  place = ap₂ (λ s w. s + w * (k - 1)) c.trailer-number.ensures.0 c.before.layout-in.ensures.point
+  place : c.trailer_number-start.result + c.layout_in-layout.result.point * (k - 1) ≡ point_place pack k
+  place = ap₂ (λ s w. s + w * (k - 1)) c.trailer_number-start.ensures.0 c.layout_in-layout.ensures.point
 
   here : PointIn pack (point_place pack k)
   here = point-in pack start.pre.0 (k - 1) (point_place pack k) (omega (arith, start.pre.1.0, start.pre.1.1)) refl
 
-mul_at : tie.Need-overflow-mul-at
+mul_at : tie.Need-overflow_mul-at
 mul_at c = omega (arith, place c.before, here c.before, (start c.before).good.0)
 
-add_at : tie.Need-overflow-add-at
+add_at : tie.Need-overflow_add-at
 add_at c = omega (arith, place c.before, here c.before, (start c.before).good.0)
 
-add-number-within : tie.Need-overflow-add-number-within
+add-number-within : tie.Need-overflow_add-at-2
 add-number-within c = omega (arith, place c.before, here c.before, (start c.before).good.0)
 
-number-within-requires : tie.Need-number-within-requires
+number-within-requires : tie.Need-number_within-requires
 number-within-requires c κs = (omega (arith, place c.before, here c.before), omega arith)
 
 returns : tie.Need-returns
 unfolding number_at
 returns c =
     let read = c.before.before in
-    c.number-within.ensures.0 ∙ ap (λ at. number_at (pack read) (at + suffix_at) suffix_width) (place read)
+    c.number_within.ensures.0 ∙ ap (λ at. number_at (pack read) (at + suffix_at) suffix_width) (place read)
 
-pub suffix-number-spec : {M : Type 1} → statement M
-suffix-number-spec =
+pub suffix_number_spec : {M : Type 1} → statement M
+suffix_number_spec =
     tie.close
     (tie.spec
     (λ c κs. search rules)

@@ -13,39 +13,39 @@ use Rattle.report.proofs.Feeds.{fed_then, fed-as}
 use Rattle.report_write.proofs.blocks.block_at.Statement.{statement}
 use Rattle.report_write.proofs.blocks.block_at.Tie as tie
 
-line-at-requires : tie.Need-line-at-requires
+line-at-requires : tie.Need-line_at-i-requires
 line-at-requires c κs =
     let l = c.before in
-    (l.before.before.before.before.before.before.before.before.requires.0, l.view-line.ensures.within)
+    (l.requires.0, l.view_line.ensures.within)
 
-view-at-requires : tie.Need-view-at-requires
+view-at-requires : tie.Need-view_at-requires
 view-at-requires c κs =
     let t = c.before.before.before in
     let w = t.before.before.before.before.before in
     let s = w.before.before.before.before.before in
     let place = wanted-place s.args.table.now s.args.points.now [] s.args.view s.requires.1 in
-    (omega (arith, t.line_at_lem.ensures.room), rw w.wanted-at.ensures place)
+    (omega (arith, t.line_at-i.ensures.room), rw w.wanted_at-place.ensures place)
 
 returns : tie.Need-returns
 unfolding block
 returns c =
-    let v = c.before.before in
-    let t = v.before.before.before.before in
+    let v = c in
+    let t = v in
     let l = t.before.before in
-    let b = l.before in
-    let r = b.before in
-    let w = r.before in
-    let a = w.before.before.before.before.before.args in
-    let place = w.wanted-at.ensures in
+    let b = l in
+    let r = b in
+    let w = r in
+    let a = w.args in
+    let place = w.wanted_at-place.ensures in
     let letter =
-    b.byte_of.ensures
+    b.byte_of-letter.ensures
     ∙ ap (λ (l : List ℕ). get_or l 40 0)
-    (r.point-record.ensures ∙ ap (λ (p : ℕ). record_at 168 a.points.now p) place) in
-    fed_then (fed-as (l.view-line.ensures.is ∙ ap (view_line a.view) letter) t.line_at_lem.ensures)
-    (fed-as (ap (view_text a.table.now a.points.now) place) v.view-at.ensures)
+    (r.point_record.ensures ∙ ap (λ (p : ℕ). record_at 168 a.points.now p) place) in
+    fed_then (fed-as (l.view_line.ensures.is ∙ ap (view_line a.view) letter) t.line_at-i.ensures)
+    (fed-as (ap (view_text a.table.now a.points.now) place) v.view_at.ensures)
 
-pub block-at-spec : {M : Type 1} → statement M
-block-at-spec =
+pub block_at_spec : {M : Type 1} → statement M
+block_at_spec =
     tie.close
     (tie.spec (search rules) (search rules) (search rules) (search rules) (search rules) line-at-requires
     view-at-requires (search rules) returns)

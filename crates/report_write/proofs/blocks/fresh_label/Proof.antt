@@ -8,18 +8,18 @@ use Rattle.report_write.proofs.Labels.{fresh-zero}
 use Rattle.report_write.proofs.blocks.fresh_label.Statement.{statement}
 use Rattle.report_write.proofs.blocks.fresh_label.Tie as tie
 
-label-at-requires : tie.Need-label-at-requires
-label-at-requires c κs = c.before.before.before.requires
+label-at-requires : tie.Need-label_at-answer-requires
+label-at-requires c κs = c.requires
 
 returns : tie.Need-returns
 returns c =
-    let l = c.before in
-    let s = l.before.before.before.before in
+    let l = c in
+    let s = l in
     let a = s.args in (
-      l.label_at.ensures,
-      subst (λ (o : Outcome Answer). TailZero o.answer o.memory) (sym l.label_at.ensures)
+      l.label_at-answer.ensures,
+      subst (λ (o : Outcome Answer). TailZero o.answer o.memory) (sym l.label_at-answer.ensures)
           (fresh-zero a.table.now a.points.now a.place s.requires),
     )
 
-pub fresh-label-spec : {M : Type 1} → statement M
-fresh-label-spec = tie.close (tie.spec (search rules) label-at-requires returns)
+pub fresh_label_spec : {M : Type 1} → statement M
+fresh_label_spec = tie.close (tie.spec (search rules) label-at-requires returns)

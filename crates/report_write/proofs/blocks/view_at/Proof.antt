@@ -19,43 +19,43 @@ size : (n : ℕ) → n ≤ length (zeros n)
 size n = omega (arith, length-replicate {A = ℕ} n 0)
 
 -- once the label was asked
-module _ (l : tie.After-fresh-label) where
+module _ (l : tie.After-fresh_label-fresh) where
   abbrev start : tie.Start
   start = l.before.before.before.before
 
   abbrev text : List ℕ
   text = view_text start.args.table.now start.args.points.now start.args.place
 
-  told : Told text l.fresh-label.result.answer l.fresh-label.result.bytes
+  told : Told text l.fresh_label-fresh.result.answer l.fresh_label-fresh.result.bytes
   told =
-      subst (λ (o : Outcome Answer). ToldBy text o) (sym l.fresh-label.ensures.0)
+      subst (λ (o : Outcome Answer). ToldBy text o) (sym l.fresh_label-fresh.ensures.0)
       (view-told start.args.table.now start.args.points.now start.args.place start.pre.1 (zeros 499)
       (size 499))
 
-array-share-prefix-label : tie.Need-array-share-prefix-label
+array-share-prefix-label : tie.Need-slice_bounds-label-end
 array-share-prefix-label c =
-    let l = c.before.before.before.before in
-    (told-value (text l) _ (told l) c.before.answer.given.1 refl).0
+    let l = c.before.before in
+    (told-value (text l) _ (told l) c.in-Value.is refl).0
 
-slice-aggregate-text-at : tie.Need-slice-aggregate-text-at
+slice-aggregate-text-at : tie.Need-slice_bounds-text_at-end
 slice-aggregate-text-at c =
-    let l = c.before.before.before.before.before in
-    sym (length-take-le _ _ (told-value (text l) _ (told l) c.before.before.answer.given.1 refl).0)
+    let l = c.before.before.before in
+    sym (length-take-le _ _ (told-value (text l) _ (told l) c.in-Value.is refl).0)
 
-returns : tie.Need-returns
+returns : tie.Need-returns-in-Value
 returns c =
-    let a = c.before.before.before.before.before.before in
-    let l = a.before.before.before in
-    fed-as (told-value (text l) _ (told l) a.answer.given.1 refl).1 c.before.before.text_at.ensures
+    let a = c in
+    let l = a.before.before in
+    fed-as (told-value (text l) _ (told l) a.in-Value.is refl).1 c.text_at.ensures
 
-returns-2 : tie.Need-returns-2
+returns-2 : tie.Need-returns-in-Refused
 returns-2 c =
-    let a = c.before.before.before.before.before in
-    let l = a.before.before.before in
-    fed-as (told-refused (text l) _ _ _ (told l) a.answer2.given.1) c.before.before.refused-at.ensures
+    let a = c in
+    let l = a.before.before in
+    fed-as (told-refused (text l) _ _ _ (told l) a.in-Refused.is) c.refused_at.ensures
 
-pub view-at-spec : {M : Type 1} → statement M
-view-at-spec =
+pub view_at_spec : {M : Type 1} → statement M
+view_at_spec =
     tie.close
     (tie.spec (λ c κs. search rules) (search rules) array-share-prefix-label slice-aggregate-text-at
     (λ c κs. search rules) (search rules) (λ c κs. search rules) (search rules) returns (search rules) returns-2)

@@ -6,7 +6,7 @@ use Rattle.shelf_find.proofs.inner.find_ref.Tie as tie
 
 returns : tie.Need-returns
 unfolding found
-returns c = rw (c.in-force.ensures, c.before.last-ref.ensures)
+returns c = rw (c.in_force.ensures, c.last_ref.ensures)
 
-pub find-ref-spec : {M : Type 1} → statement M
-find-ref-spec = tie.close (tie.spec (λ c κs. search rules) (λ c κs. search rules) returns)
+pub find_ref_spec : {M : Type 1} → statement M
+find_ref_spec = tie.close (tie.spec (λ c κs. search rules) (λ c κs. search rules) returns)

@@ -6,7 +6,7 @@ use Rattle.shelf_find.proofs.inner.find_row.Tie as tie
 
 returns : tie.Need-returns
 unfolding found
-returns c = rw (c.in-force.ensures, c.before.last_row.ensures)
+returns c = rw (c.in_force.ensures, c.last_row.ensures)
 
-pub find-row-spec : {M : Type 1} → statement M
-find-row-spec = tie.close (tie.spec (λ c κs. search rules) (λ c κs. search rules) returns)
+pub find_row_spec : {M : Type 1} → statement M
+find_row_spec = tie.close (tie.spec (λ c κs. search rules) (λ c κs. search rules) returns)

@@ -5,20 +5,20 @@ use Rattle.shelf.proofs.Force.{force-out, force-in}
 use Rattle.shelf_find.proofs.inner.in_force.Statement.{statement}
 use Rattle.shelf_find.proofs.inner.in_force.Tie as tie
 
-returns : tie.Need-returns
+returns : tie.Need-returns-then-letter
 returns c =
-    let b = c.before in
-    let t = b.before in
-    let a = t.before.before.args in
+    let b = c in
+    let t = b in
+    let a = t.args in
     sym
-    (force-out a.s a.file.now a.row (rw (b.byte_of.ensures, t.record_of.ensures) at c.if1.true))
+    (force-out a.s a.file.now a.row (rw (b.byte_of-letter.ensures, t.record_of.ensures) at c.if-letter.true))
 
-returns-2 : tie.Need-returns-2
+returns-2 : tie.Need-returns-else-letter
 returns-2 c =
-    let b = c.before in
-    let t = b.before in
-    let a = t.before.before.args in
-    sym (force-in a.s a.file.now a.row (rw (b.byte_of.ensures, t.record_of.ensures) at c.if1.false))
+    let b = c in
+    let t = b in
+    let a = t.args in
+    sym (force-in a.s a.file.now a.row (rw (b.byte_of-letter.ensures, t.record_of.ensures) at c.if-letter.false))
 
-pub in-force-spec : {M : Type 1} → statement M
-in-force-spec = tie.close (tie.spec (λ c κs. search rules) (λ c κs. search rules) returns returns-2)
+pub in_force_spec : {M : Type 1} → statement M
+in_force_spec = tie.close (tie.spec (λ c κs. search rules) (λ c κs. search rules) returns returns-2)

@@ -13,7 +13,7 @@ use Rattle.shelf_find.proofs.inner.last_ref.Statement.{statement}
 use Rattle.shelf_find.proofs.inner.last_ref.Tie as tie
 
 -- once the search is done
-module _ (u : tie.After-upper-ref) where
+module _ (u : tie.After-upper_ref-end) where
   abbrev start : tie.Start
   start = u.before.before.before.before
 
@@ -26,55 +26,55 @@ module _ (u : tie.After-upper-ref) where
   abbrev last : ℕ
   last = last_of start.args.s file
 
-  end_is : u.upper-ref.result ≡ upper_of numbers last start.args.r
-  end_is = u.upper-ref.ensures ∙ ap (λ n. upper_of numbers n start.args.r) u.before.last_of.ensures
+  end_is : u.upper_ref-end.result ≡ upper_of numbers last start.args.r
+  end_is = u.upper_ref-end.ensures ∙ ap (λ n. upper_of numbers n start.args.r) u.last_of.ensures
 
   -- the numbers find what the records find
   same : last_found_in numbers last start.args.r ≡ last_found start.args.s file start.args.r
   unfolding last_found
   same = found_as numbers (ref_at start.args.s file) last start.args.r start.pre.1.each
 
-  inside : 1 < u.upper-ref.result → u.upper-ref.result - 1 < length start.args.refs.now
+  inside : 1 < u.upper_ref-end.result → u.upper_ref-end.result - 1 < length start.args.refs.now
   inside h =
       let e = end_is in
       omega (arith, upper-to numbers start.args.r last (omega arith), start.pre.1.long)
 
-upper-ref-requires : tie.Need-upper-ref-requires
-upper-ref-requires c κs = omega (arith, c.last_of.ensures, c.before.before.before.requires.1.long)
+upper-ref-requires : tie.Need-upper_ref-end-requires
+upper-ref-requires c κs = omega (arith, c.last_of.ensures, c.requires.1.long)
 
-returns : tie.Need-returns
+returns : tie.Need-returns-then-end-le1
 returns c =
     let u = c.before in
-    sym (found_none (numbers u) (start u).args.r (last u) (rw (end_is u) at c.if1.true)) ∙ same u
+    sym (found_none (numbers u) (start u).args.r (last u) (rw (end_is u) at c.if-end-le1.true)) ∙ same u
 
-mul-if2 : tie.Need-overflow-mul-if2
-mul-if2 c = omega (arith, inside c.before c.if1.false)
+mul-if2 : tie.Need-offset_bounds-refs-row
+mul-if2 c = omega (arith, inside c.before c.if-end-le1.false)
 
-shared-slice-read-if2 : tie.Need-shared-slice-read-if2
-shared-slice-read-if2 c = inside c.before.before c.before.if1.false
+shared-slice-read-if2 : tie.Need-bounds-refs-row
+shared-slice-read-if2 c = inside c.before.before c.if-end-le1.false
 
-cast-if2 : tie.Need-overflow-cast-if2
-cast-if2 c = omega (arith, c.shared-slice-known3.given (c.before.before.upper-ref.result - 1))
+cast-if2 : tie.Need-overflow_cast-refs
+cast-if2 c = omega (arith, c.shared_slice_known-3-1.given (c.upper_ref-end.result - 1))
 
-returns-2 : tie.Need-returns-2
+returns-2 : tie.Need-returns-then-refs-row
 returns-2 c =
     let u = c.before.before.before in
     rw (end_is u)
     (sym
-    (found_here (numbers u) (start u).args.r (last u) (rw (end_is u) at c.before.before.if1.false)
-    (rw (end_is u) at c.if2.true))
+    (found_here (numbers u) (start u).args.r (last u) (rw (end_is u) at c.if-end-le1.false)
+    (rw (end_is u) at c.if-refs-row.true))
     ∙ same u)
 
-returns-3 : tie.Need-returns-3
+returns-3 : tie.Need-returns-else-refs-row
 returns-3 c =
     let u = c.before.before.before in
     sym
-    (found-other (numbers u) (start u).args.r (last u) (rw (end_is u) at c.before.before.if1.false)
-    (λ e. c.if2.false (rw (end_is u) e)))
+    (found-other (numbers u) (start u).args.r (last u) (rw (end_is u) at c.if-end-le1.false)
+    (λ e. c.if-refs-row.false (rw (end_is u) e)))
     ∙ same u
 
-pub last-ref-spec : {M : Type 1} → statement M
-last-ref-spec =
+pub last_ref_spec : {M : Type 1} → statement M
+last_ref_spec =
     tie.close
     (tie.spec
     (λ c κs. search rules)

@@ -7,39 +7,39 @@ use Rattle.shelf.proofs.Search.{found_none, found_here, found-other}
 use Rattle.shelf_find.proofs.inner.last_row.Statement.{statement}
 use Rattle.shelf_find.proofs.inner.last_row.Tie as tie
 
-returns : tie.Need-returns
+returns : tie.Need-returns-then-end-le1
 unfolding last_found
 returns c =
-    let b = c.before in
-    let a = b.before.before.args in
+    let b = c in
+    let a = b.args in
     sym
     (found_none (ref_at a.s a.file.now) a.r (last_of a.s a.file.now)
-    (rw b.upper-bound.ensures at c.if1.true))
+    (rw b.upper_bound-end.ensures at c.if-end-le1.true))
 
-returns-2 : tie.Need-returns-2
+returns-2 : tie.Need-returns-then-ref_at-r
 unfolding last_found
 returns-2 c =
-    let k = c.before in
-    let b = k.before.before in
-    let a = b.before.before.args in
-    rw b.upper-bound.ensures
+    let k = c in
+    let b = k in
+    let a = b.args in
+    rw b.upper_bound-end.ensures
     (sym
     (found_here (ref_at a.s a.file.now) a.r (last_of a.s a.file.now)
-    (rw b.upper-bound.ensures at k.before.if1.false)
-    (rw b.upper-bound.ensures at (sym k.ref-at.ensures.0 ∙ c.if2.true))))
+    (rw b.upper_bound-end.ensures at k.if-end-le1.false)
+    (rw b.upper_bound-end.ensures at (sym k.ref_at.ensures.0 ∙ c.if-ref_at-r.true))))
 
-returns-3 : tie.Need-returns-3
+returns-3 : tie.Need-returns-else-ref_at-r
 unfolding last_found
 returns-3 c =
-    let k = c.before in
-    let b = k.before.before in
-    let a = b.before.before.args in
+    let k = c in
+    let b = k in
+    let a = b.args in
     sym
     (found-other (ref_at a.s a.file.now) a.r (last_of a.s a.file.now)
-    (rw b.upper-bound.ensures at k.before.if1.false)
-    (λ e. c.if2.false (k.ref-at.ensures.0 ∙ rw b.upper-bound.ensures e)))
+    (rw b.upper_bound-end.ensures at k.if-end-le1.false)
+    (λ e. c.if-ref_at-r.false (k.ref_at.ensures.0 ∙ rw b.upper_bound-end.ensures e)))
 
-pub last-row-spec : {M : Type 1} → statement M
-last-row-spec =
+pub last_row_spec : {M : Type 1} → statement M
+last_row_spec =
     tie.close
     (tie.spec (λ c κs. search rules) returns (λ c. search rules) (λ c κs. search rules) returns-2 returns-3)

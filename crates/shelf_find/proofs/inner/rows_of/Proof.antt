@@ -7,33 +7,33 @@ use Rattle.shelf_find.proofs.Rows.{RowsTo, rows_none, rows_next, rows_all}
 use Rattle.shelf_find.proofs.inner.rows_of.Statement.{statement}
 use Rattle.shelf_find.proofs.inner.rows_of.Tie as tie
 
-abbrev invariant-loop : tie.invariant-loop
+abbrev invariant-loop : tie.invariant-loop-i
 invariant-loop file s keys rows₀ i₀ rows i = RowsTo (found s file) keys rows i
 
-abbrev decreases-loop : tie.decreases-loop
+abbrev decreases-loop : tie.decreases-loop-i
 decreases-loop file s keys rows₀ i₀ rows i = 7 - i
 
-loop-holds : tie.Need-loop-init invariant-loop decreases-loop
+loop-holds : tie.Need-loop-i-init invariant-loop decreases-loop
 loop-holds c =
-    let a = c.before.args in rows_none (found a.s a.file.now) a.t3 _ refl
+    let a = c.args in rows_none (found a.s a.file.now) a.t3 _ refl
 
-loop-again : tie.Need-loop-preserved invariant-loop decreases-loop
+loop-again : tie.Need-loop-i-preserved invariant-loop decreases-loop
 loop-again c =
-    let l = c.before.before in
-    let a = l.before.before.args in
-    rows_next (found a.s a.file.now) a.t3 l.loop.rows l.loop.i l.loop.invariant c.row-for.result
-    c.before.loop-test.true c.row-for.ensures
+    let l = c in
+    let a = l.args in
+    rows_next (found a.s a.file.now) a.t3 l.loop-i.rows l.loop-i.i l.loop-i.invariant c.row_for.result
+    c.loop-i-test.true c.row_for.ensures
 
 returns : tie.Need-returns invariant-loop decreases-loop
 returns c =
-    let l = c.before in
-    let start = l.before.before in
+    let l = c in
+    let start = l in
     let a = start.args in
-    rows_all (found a.s a.file.now) a.t3 l.loop.rows l.loop.i l.loop.invariant start.well_formed.1.1.0.1.0.1
-    c.loop-test.false
+    rows_all (found a.s a.file.now) a.t3 l.loop-i.rows l.loop-i.i l.loop-i.invariant start.well_formed.1.1.0.1.0.1
+    c.loop-i-test.false
 
-pub rows-of-spec : {M : Type 1} → statement M
-rows-of-spec =
+pub rows_of_spec : {M : Type 1} → statement M
+rows_of_spec =
     tie.close
     (tie.spec
     invariant-loop

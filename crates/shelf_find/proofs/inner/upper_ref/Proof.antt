@@ -9,43 +9,43 @@ use Rattle.shelf.proofs.Search.{Left, left-all, left-low, left-high, left-none}
 use Rattle.shelf_find.proofs.inner.upper_ref.Statement.{statement}
 use Rattle.shelf_find.proofs.inner.upper_ref.Tie as tie
 
-abbrev invariant-loop : tie.invariant-loop
+abbrev invariant-loop : tie.invariant-loop-low
 invariant-loop refs last r low₀ high₀ low high = Left (λ i. get_or refs i 0) last r low high
 
-abbrev decreases-loop : tie.decreases-loop
+abbrev decreases-loop : tie.decreases-loop-low
 decreases-loop refs last r low₀ high₀ low high = high - low
 
-loop-holds : tie.Need-loop-init invariant-loop decreases-loop
+loop-holds : tie.Need-loop-low-init invariant-loop decreases-loop
 loop-holds c = let a = c.args in left-all (λ i. get_or a.refs.now i 0) a.r a.last
 
-cast-if1 : tie.Need-overflow-cast-if1 invariant-loop decreases-loop
+cast-if1 : tie.Need-overflow_cast-refs invariant-loop decreases-loop
 cast-if1 c =
-    let l = c.before.before in
-    omega (arith, c.shared-slice-known.given (middle l.loop.low l.loop.high))
+    let l = c in
+    omega (arith, c.shared_slice_known-1.given (middle l.loop-low.low l.loop-low.high))
 
-loop-again : tie.Need-loop-preserved invariant-loop decreases-loop
+loop-again : tie.Need-loop-low-preserved-then-r-refs invariant-loop decreases-loop
 loop-again c =
-    let l = c.before.before.before in
-    let a = l.before.args in
-    left-low (λ i. get_or a.refs.now i 0) a.r a.last l.loop.low l.loop.high l.loop.invariant
-    c.before.before.loop-test.true c.if1.true
+    let l = c in
+    let a = l.args in
+    left-low (λ i. get_or a.refs.now i 0) a.r a.last l.loop-low.low l.loop-low.high l.loop-low.invariant
+    c.loop-low-test.true c.if-r-refs.true
 
-loop-again-2 : tie.Need-loop-preserved-2 invariant-loop decreases-loop
+loop-again-2 : tie.Need-loop-low-preserved invariant-loop decreases-loop
 loop-again-2 c =
-    let l = c.before.before.before in
-    let a = l.before.args in
-    left-high (λ i. get_or a.refs.now i 0) a.r a.last l.loop.low l.loop.high l.loop.invariant
-    c.before.before.loop-test.true c.if1.false
+    let l = c in
+    let a = l.args in
+    left-high (λ i. get_or a.refs.now i 0) a.r a.last l.loop-low.low l.loop-low.high l.loop-low.invariant
+    c.loop-low-test.true c.if-r-refs.false
 
 returns : tie.Need-returns invariant-loop decreases-loop
 returns c =
-    let l = c.before in
-    let a = l.before.args in
-    left-none (λ i. get_or a.refs.now i 0) a.r a.last l.loop.low l.loop.high l.loop.invariant
-    c.loop-test.false
+    let l = c in
+    let a = l.args in
+    left-none (λ i. get_or a.refs.now i 0) a.r a.last l.loop-low.low l.loop-low.high l.loop-low.invariant
+    c.loop-low-test.false
 
-pub upper-ref-spec : {M : Type 1} → statement M
-upper-ref-spec =
+pub upper_ref_spec : {M : Type 1} → statement M
+upper_ref_spec =
     tie.close
     (tie.spec
     invariant-loop

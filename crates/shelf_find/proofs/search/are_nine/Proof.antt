@@ -8,13 +8,13 @@ use Rattle.shelf_find.proofs.search.are_nine.Tie as tie
 
 returns : tie.Need-returns
 returns c =
-    let at_first = c.before in
-    let start = at_first.before.before.before in
+    let at_first = c in
+    let start = at_first in
     let one = at_first.is_digit.result in
-    let others = c.are-digits.result in
+    let others = c.are_digits.result in
     λ e.
     nine-digits start.args.rec.now start.args.at start.requires
-    (sym at_first.is_digit.ensures ∙ and_left one others e) (c.are-digits.ensures (and_right one others e))
+    (sym at_first.is_digit.ensures ∙ and_left one others e) (c.are_digits.ensures (and_right one others e))
 
-pub are-nine-spec : {M : Type 1} → statement M
-are-nine-spec = tie.close (tie.spec (search rules) (search rules) (search rules) (search rules) returns)
+pub are_nine_spec : {M : Type 1} → statement M
+are_nine_spec = tie.close (tie.spec (search rules) (search rules) (search rules) (search rules) returns)

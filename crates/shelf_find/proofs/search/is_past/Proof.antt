@@ -5,15 +5,15 @@ use Rattle.shelf_find.proofs.Nine.{past-nine}
 use Rattle.shelf_find.proofs.search.is_past.Statement.{statement}
 use Rattle.shelf_find.proofs.search.is_past.Tie as tie
 
-cast-here : tie.Need-overflow-cast-here
-cast-here c = omega (arith, c.shared-slice-known2.given c.before.before.args.at)
+cast-here : tie.Need-overflow_cast-here
+cast-here c = omega (arith, c.shared_slice_known-2-1.given c.args.at)
 
 returns : tie.Need-returns
 returns c =
-    let start = c.before.before.before in
+    let start = c in
     λ r nine digits.
     past-nine r start.args.first start.args.others nine start.args.rec.now start.args.at _ start.requires
-    c.weight-at.ensures digits
+    c.weight_at.ensures digits
 
-pub is-past-spec : {M : Type 1} → statement M
-is-past-spec = tie.close (tie.spec (search rules) cast-here (search rules) (search rules) returns)
+pub is_past_spec : {M : Type 1} → statement M
+is_past_spec = tie.close (tie.spec (search rules) cast-here (search rules) (search rules) returns)

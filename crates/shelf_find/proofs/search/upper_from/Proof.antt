@@ -10,51 +10,51 @@ use Rattle.shelf.proofs.Search.{Left, left-low, left-high, left-none}
 use Rattle.shelf_find.proofs.search.upper_from.Statement.{statement}
 use Rattle.shelf_find.proofs.search.upper_from.Tie as tie
 
-abbrev invariant-loop : tie.invariant-loop
+abbrev invariant-loop : tie.invariant-loop-low
 invariant-loop file s r from to low₀ high₀ low high = Left (ref_at s file) (last_of s file) r low high
 
-abbrev decreases-loop : tie.decreases-loop
+abbrev decreases-loop : tie.decreases-loop-low
 decreases-loop file s r from to low₀ high₀ low high = high - low
 
 -- no place is behind the file
-short : (c : tie.At-loop invariant-loop decreases-loop) → c.loop.high ≤ length c.before.before.args.file.now
+short : (c : tie.At-loop-low invariant-loop decreases-loop) → c.loop-low.high ≤ length c.args.file.now
 short c =
-    let a = c.before.before.args in
-    omega (arith, c.loop.invariant.to, div-le_self (length a.file.now) a.s.width)
+    let a = c.args in
+    omega (arith, c.loop-low.invariant.to, div-le_self (length a.file.now) a.s.width)
 
-loop-again : tie.Need-loop-preserved invariant-loop decreases-loop
+loop-again : tie.Need-loop-low-preserved-then-r-ref_at invariant-loop decreases-loop
 loop-again c =
-    let at-middle = c.before in
-    let at-loop = at-middle.before.before in
-    let a = at-loop.before.before.args in
-    left-low (ref_at a.s a.file.now) a.r (last_of a.s a.file.now) at-loop.loop.low at-loop.loop.high
-    at-loop.loop.invariant at-middle.before.loop-test.true (rw at-middle.ref-at.ensures.0 at c.if1.true)
+    let at-middle = c in
+    let at-loop = at-middle in
+    let a = at-loop.args in
+    left-low (ref_at a.s a.file.now) a.r (last_of a.s a.file.now) at-loop.loop-low.low at-loop.loop-low.high
+    at-loop.loop-low.invariant at-middle.loop-low-test.true (rw at-middle.ref_at.ensures.0 at c.if-r-ref_at.true)
 
-loop-again-2 : tie.Need-loop-preserved-2 invariant-loop decreases-loop
+loop-again-2 : tie.Need-loop-low-preserved invariant-loop decreases-loop
 loop-again-2 c =
-    let at-middle = c.before in
-    let at-loop = at-middle.before.before in
-    let a = at-loop.before.before.args in
-    left-high (ref_at a.s a.file.now) a.r (last_of a.s a.file.now) at-loop.loop.low at-loop.loop.high
-    at-loop.loop.invariant at-middle.before.loop-test.true (rw at-middle.ref-at.ensures.0 at c.if1.false)
+    let at-middle = c in
+    let at-loop = at-middle in
+    let a = at-loop.args in
+    left-high (ref_at a.s a.file.now) a.r (last_of a.s a.file.now) at-loop.loop-low.low at-loop.loop-low.high
+    at-loop.loop-low.invariant at-middle.loop-low-test.true (rw at-middle.ref_at.ensures.0 at c.if-r-ref_at.false)
 
 returns : tie.Need-returns invariant-loop decreases-loop
 returns c =
-    let at-loop = c.before in
-    let a = at-loop.before.before.args in
-    left-none (ref_at a.s a.file.now) a.r (last_of a.s a.file.now) at-loop.loop.low at-loop.loop.high
-    at-loop.loop.invariant c.loop-test.false
+    let at-loop = c in
+    let a = at-loop.args in
+    left-none (ref_at a.s a.file.now) a.r (last_of a.s a.file.now) at-loop.loop-low.low at-loop.loop-low.high
+    at-loop.loop-low.invariant c.loop-low-test.false
 
-pub upper-from-spec : {M : Type 1} → statement M
-upper-from-spec =
+pub upper_from_spec : {M : Type 1} → statement M
+upper_from_spec =
     tie.close
     (tie.spec
     invariant-loop
     decreases-loop
-    (λ c. c.before.requires.1)
+    (λ c. c.requires.1)
     (search rules)
     (λ c. omega (arith, short c.before))
-    (λ c κs. c.before.before.before.requires.0)
+    (λ c κs. c.requires.0)
     (search rules)
     loop-again
     (λ c. omega (arith, short c.before.before.before))

@@ -8,22 +8,22 @@ use Rattle.source_spans.proofs.Laws.{field-text}
 use Rattle.source_spans.proofs.inner.own_span.Statement.{statement}
 use Rattle.source_spans.proofs.inner.own_span.Tie as tie
 
-cast-len : tie.Need-overflow-cast-t7
+cast-len : tie.Need-overflow_cast-result
 cast-len c =
-    let at_field = c.before in
-    let at-start = at_field.before.before in
+    let at_field = c in
+    let at-start = at_field in
     let a = at-start.args in
-    rw (c.read-text.ensures, at_field.part_of.ensures)
+    rw (c.read_text-text.ensures, at_field.part_of-field.ensures)
     (omega (arith, at-start.requires.0, text_in-bound (part a.own.now a.at (a.at + a.width)) 0 a.width))
 
 returns : tie.Need-returns
 returns c =
-    let at_field = c.before in
-    let a = at_field.before.before.args in
-    λ first. rw (c.read-text.ensures, at_field.part_of.ensures, field-text a.own.now a.at a.width)
+    let at_field = c in
+    let a = at_field.args in
+    λ first. rw (c.read_text-text.ensures, at_field.part_of-field.ensures, field-text a.own.now a.at a.width)
     (front-text a.own.now a.at (a.at + a.width))
 
-pub own-span-spec : {M : Type 1} → statement M
-own-span-spec =
+pub own_span_spec : {M : Type 1} → statement M
+own_span_spec =
     tie.close
     (tie.spec (λ c. search rules) (λ c κs. search rules) (λ c κs. search rules) cast-len returns)

@@ -6,10 +6,10 @@ use Rattle.tally_bytes.proofs.inner.entry_at.Tie as tie
 
 returns : tie.Need-returns
 returns c =
-    let behind-count = c.before.before in
-    let behind-code = behind-count.before.before.before.before in
-    let s = behind-code.before.before.before in
-    put_then behind-code.word_at.ensures behind-count.word-at2.ensures s.requires
+    let behind-count = c in
+    let behind-code = behind-count in
+    let s = behind-code in
+    put_then behind-code.word_at-end.ensures behind-count.word_at.ensures s.requires
 
-pub entry-at-spec : {M : Type 1} → statement M
-entry-at-spec = tie.close (tie.spec (search rules) (search rules) (search rules) returns)
+pub entry_at_spec : {M : Type 1} → statement M
+entry_at_spec = tie.close (tie.spec (search rules) (search rules) (search rules) returns)

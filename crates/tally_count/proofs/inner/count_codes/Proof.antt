@@ -8,7 +8,7 @@ use Rattle.tally_count.proofs.Counting.{counted-sorted}
 use Rattle.tally_count.proofs.inner.count_codes.Statement.{statement}
 use Rattle.tally_count.proofs.inner.count_codes.Tie as tie
 
-count-runs-requires : tie.Need-count-runs-requires
+count-runs-requires : tie.Need-count_runs-requires
 count-runs-requires c κs =
     let v = c.before.before.before.before.before.before in
     let s = v.before.before.before.before.before in
@@ -20,10 +20,10 @@ count-runs-requires c κs =
 
 returns : tie.Need-returns
 returns c =
-    let r = c.before.before.before.before in
-    let v = r.before.before.before.before.before.before.before in
+    let r = c in
+    let v = r in
     counted-sorted _ v.sort.ensures.0 v.sort.ensures.1 r.count_runs.ensures
 
-pub count-codes-spec : {M : Type 1} → statement M
-count-codes-spec =
+pub count_codes_spec : {M : Type 1} → statement M
+count_codes_spec =
     tie.close (tie.spec (search rules) count-runs-requires (search rules) (search rules) returns)

@@ -8,77 +8,77 @@ use Rattle.tally_count.proofs.Counting.{Counting, counting-start, counting-on, c
 use Rattle.tally_count.proofs.inner.count_runs.Statement.{statement}
 use Rattle.tally_count.proofs.inner.count_runs.Tie as tie
 
-abbrev invariant-loop : tie.invariant-loop
+abbrev invariant-loop : tie.invariant-loop-i
 invariant-loop codes₀ counts₀ entries₀ i₀ codes counts entries i = Counting codes₀ counts₀ codes counts entries i
 
-abbrev decreases-loop : tie.decreases-loop
+abbrev decreases-loop : tie.decreases-loop-i
 decreases-loop codes₀ counts₀ entries₀ i₀ codes counts entries i = length codes₀ - i
 
 -- once the run's end is known
-module _ (r : tie.After-run-end invariant-loop decreases-loop) where
-  abbrev l : tie.At-loop invariant-loop decreases-loop
+module _ (r : tie.After-run_end-end invariant-loop decreases-loop) where
+  abbrev l : tie.At-loop-i invariant-loop decreases-loop
   l = r.before.before.before.before
 
   abbrev s : tie.Start invariant-loop decreases-loop
   s = l.before.before.before
 
-  inside : l.loop.i < length s.args.codes.now
-  inside = omega (arith, ones-long l.loop.inv, r.before.before.before.loop-test.taken)
+  inside : l.loop-i.i < length s.args.codes.now
+  inside = omega (arith, ones-long l.loop-i.invariant, r.loop-i-test.taken)
 
-  place : l.loop.entries < length s.args.codes.now
-  place = omega (arith, inside, l.loop.inv.low)
+  place : l.loop-i.entries < length s.args.codes.now
+  place = omega (arith, inside, l.loop-i.invariant.low)
 
-  end-within : r.run-end.result ≤ length s.args.codes.now
-  end-within = omega (arith, ones-long l.loop.inv, r.run-end.ensures.1)
+  end-within : r.run_end-end.result ≤ length s.args.codes.now
+  end-within = omega (arith, ones-long l.loop-i.invariant, r.run_end-end.ensures.1)
 
-loop-holds : tie.Need-loop-init invariant-loop decreases-loop
+loop-holds : tie.Need-loop-i-init invariant-loop decreases-loop
 loop-holds c =
-    let s = c.before.before in
+    let s = c in
     counting-start s.args.codes.now s.args.counts.now s.requires.0
 
-mul-codes : tie.Need-overflow-mul-codes invariant-loop decreases-loop
+mul-codes : tie.Need-offset_bounds-codes-entries invariant-loop decreases-loop
 mul-codes c = omega (arith, place c, (s c).well_formed.0)
 
-slice-write-codes : tie.Need-slice-write-codes invariant-loop decreases-loop
-slice-write-codes c = omega (arith, place c, ones-long (l c).loop.invariant)
+slice-write-codes : tie.Need-bounds-codes-entries invariant-loop decreases-loop
+slice-write-codes c = omega (arith, place c, ones-long (l c).loop-i.invariant)
 
-sub-counts : tie.Need-overflow-sub-counts invariant-loop decreases-loop
-sub-counts c = omega (arith, c.run-end.ensures.0)
+sub-counts : tie.Need-overflow_sub-counts invariant-loop decreases-loop
+sub-counts c = omega (arith, c.run_end-end.ensures.0)
 
-cast-counts : tie.Need-overflow-cast-counts invariant-loop decreases-loop
+cast-counts : tie.Need-overflow_cast-counts invariant-loop decreases-loop
 cast-counts c = omega (arith, end-within c, (s c).requires.2)
 
-mul-counts : tie.Need-overflow-mul-counts invariant-loop decreases-loop
+mul-counts : tie.Need-offset_bounds-counts-entries invariant-loop decreases-loop
 mul-counts c = omega (arith, place c, (s c).well_formed.0)
 
-slice-write-counts : tie.Need-slice-write-counts invariant-loop decreases-loop
-slice-write-counts c = omega (arith, place c, (s c).requires.1, twos-long (l c).loop.invariant (s c).requires.1)
+slice-write-counts : tie.Need-bounds-counts-entries invariant-loop decreases-loop
+slice-write-counts c = omega (arith, place c, (s c).requires.1, twos-long (l c).loop-i.invariant (s c).requires.1)
 
-add-entries : tie.Need-overflow-add-entries invariant-loop decreases-loop
+add-entries : tie.Need-overflow_add-entries invariant-loop decreases-loop
 add-entries c = omega (arith, place c, (s c).well_formed.0)
 
-loop-less : tie.Need-loop-smaller invariant-loop decreases-loop
-loop-less c = omega (arith, inside c, c.run-end.ensures.0)
+loop-less : tie.Need-loop-i-smaller invariant-loop decreases-loop
+loop-less c = omega (arith, inside c, c.run_end-end.ensures.0)
 
-loop-again : tie.Need-loop-preserved invariant-loop decreases-loop
+loop-again : tie.Need-loop-i-preserved invariant-loop decreases-loop
 loop-again c =
-    counting-on (l c).loop.invariant (inside c) c.run-end.result c.run-end.ensures.0 (end-within c) (s c).requires.1
+    counting-on (l c).loop-i.invariant (inside c) c.run_end-end.result c.run_end-end.ensures.0 (end-within c) (s c).requires.1
 
-same_length : tie.Need-same-length invariant-loop decreases-loop
-same_length c = ones-long c.before.loop.invariant
+same_length : tie.Need-shape_of-codes invariant-loop decreases-loop
+same_length c = ones-long c.loop-i.invariant
 
-same-length-2 : tie.Need-same-length-2 invariant-loop decreases-loop
+same-length-2 : tie.Need-shape_of-counts invariant-loop decreases-loop
 same-length-2 c =
-    let l = c.before in
-    twos-long l.loop.invariant l.before.before.before.requires.1
+    let l = c in
+    twos-long l.loop-i.invariant l.requires.1
 
 returns : tie.Need-returns invariant-loop decreases-loop
 returns c =
-    let l = c.before in
-    counting-end l.loop.invariant (omega (arith, ones-long l.loop.invariant, c.loop-test.false))
+    let l = c in
+    counting-end l.loop-i.invariant (omega (arith, ones-long l.loop-i.invariant, c.loop-i-test.false))
 
-pub count-runs-spec : {M : Type 1} → statement M
-count-runs-spec =
+pub count_runs_spec : {M : Type 1} → statement M
+count_runs_spec =
     tie.close
     (tie.spec
     invariant-loop

@@ -5,7 +5,7 @@ use Rattle.ttwibonal.proofs.books.ttw_book.Statement.{statement}
 use Rattle.ttwibonal.proofs.books.ttw_book.Tie as tie
 
 returns : tie.Need-returns
-returns c = told-reading c.packed-answer.ensures c.before.check-book.ensures
+returns c = told-reading c.packed_answer.ensures c.check_book.ensures
 
-pub ttw-book-spec : {M : Type 1} → statement M
-ttw-book-spec = tie.close (tie.spec (search rules) (search rules) returns)
+pub ttw_book_spec : {M : Type 1} → statement M
+ttw_book_spec = tie.close (tie.spec (search rules) (search rules) returns)

@@ -5,7 +5,7 @@ use Rattle.ttwibonal.proofs.books.ttw_book_event.Statement.{statement}
 use Rattle.ttwibonal.proofs.books.ttw_book_event.Tie as tie
 
 returns : tie.Need-returns
-returns c = told-writing c.packed-answer.ensures c.before.before.before.book-event.ensures
+returns c = told-writing c.packed_answer.ensures c.book_event.ensures
 
-pub ttw-book-event-spec : {M : Type 1} → statement M
-ttw-book-event-spec = tie.close (tie.spec (search rules) (search rules) (search rules) returns)
+pub ttw_book_event_spec : {M : Type 1} → statement M
+ttw_book_event_spec = tie.close (tie.spec (search rules) (search rules) (search rules) returns)

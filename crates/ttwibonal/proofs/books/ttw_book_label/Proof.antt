@@ -5,7 +5,7 @@ use Rattle.ttwibonal.proofs.books.ttw_book_label.Statement.{statement}
 use Rattle.ttwibonal.proofs.books.ttw_book_label.Tie as tie
 
 returns : tie.Need-returns
-returns c = told-writing c.packed-answer.ensures c.before.before.before.label-of-place.ensures
+returns c = told-writing c.packed_answer.ensures c.label_of_place.ensures
 
-pub ttw-book-label-spec : {M : Type 1} → statement M
-ttw-book-label-spec = tie.close (tie.spec (search rules) (search rules) (search rules) returns)
+pub ttw_book_label_spec : {M : Type 1} → statement M
+ttw_book_label_spec = tie.close (tie.spec (search rules) (search rules) (search rules) returns)

@@ -5,7 +5,7 @@ use Rattle.ttwibonal.proofs.books.ttw_book_tidy.Statement.{statement}
 use Rattle.ttwibonal.proofs.books.ttw_book_tidy.Tie as tie
 
 returns : tie.Need-returns
-returns c = told-writing c.packed-answer.ensures c.before.before.before.tidy-book.ensures
+returns c = told-writing c.packed_answer.ensures c.tidy_book.ensures
 
-pub ttw-book-tidy-spec : {M : Type 1} → statement M
-ttw-book-tidy-spec = tie.close (tie.spec (search rules) (search rules) (search rules) returns)
+pub ttw_book_tidy_spec : {M : Type 1} → statement M
+ttw_book_tidy_spec = tie.close (tie.spec (search rules) (search rules) (search rules) returns)

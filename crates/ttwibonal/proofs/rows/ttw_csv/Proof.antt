@@ -5,7 +5,7 @@ use Rattle.ttwibonal.proofs.rows.ttw_csv.Statement.{statement}
 use Rattle.ttwibonal.proofs.rows.ttw_csv.Tie as tie
 
 returns : tie.Need-returns
-returns c = told-reading c.packed-answer.ensures c.before.check-csv.ensures
+returns c = told-reading c.packed_answer.ensures c.check_csv.ensures
 
-pub ttw-csv-spec : {M : Type 1} → statement M
-ttw-csv-spec = tie.close (tie.spec (search rules) (search rules) returns)
+pub ttw_csv_spec : {M : Type 1} → statement M
+ttw_csv_spec = tie.close (tie.spec (search rules) (search rules) returns)

@@ -5,7 +5,7 @@ use Rattle.ttwibonal.proofs.rows.ttw_csv_label.Statement.{statement}
 use Rattle.ttwibonal.proofs.rows.ttw_csv_label.Tie as tie
 
 returns : tie.Need-returns
-returns c = told-writing c.packed-answer.ensures c.before.before.before.label-of-row.ensures
+returns c = told-writing c.packed_answer.ensures c.label_of_row.ensures
 
-pub ttw-csv-label-spec : {M : Type 1} → statement M
-ttw-csv-label-spec = tie.close (tie.spec (search rules) (search rules) (search rules) returns)
+pub ttw_csv_label_spec : {M : Type 1} → statement M
+ttw_csv_label_spec = tie.close (tie.spec (search rules) (search rules) (search rules) returns)

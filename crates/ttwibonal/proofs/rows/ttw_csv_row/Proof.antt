@@ -5,7 +5,7 @@ use Rattle.ttwibonal.proofs.rows.ttw_csv_row.Statement.{statement}
 use Rattle.ttwibonal.proofs.rows.ttw_csv_row.Tie as tie
 
 returns : tie.Need-returns
-returns c = told-writing c.packed-answer.ensures c.before.before.before.row-of-view.ensures
+returns c = told-writing c.packed_answer.ensures c.row_of_view.ensures
 
-pub ttw-csv-row-spec : {M : Type 1} → statement M
-ttw-csv-row-spec = tie.close (tie.spec (search rules) (search rules) (search rules) returns)
+pub ttw_csv_row_spec : {M : Type 1} → statement M
+ttw_csv_row_spec = tie.close (tie.spec (search rules) (search rules) (search rules) returns)

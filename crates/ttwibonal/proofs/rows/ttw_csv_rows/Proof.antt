@@ -6,10 +6,10 @@ use Rattle.ttwibonal.proofs.rows.ttw_csv_rows.Tie as tie
 
 returns : tie.Need-returns
 returns c =
-    let b = c.before in
-    let l = b.before.before.before.before in
-    let a = l.before.before.before.before.before.args in
-    told-running a.bytes.now c.packed-series.ensures b.bytes_of.ensures l.rows-of-views.ensures
+    let b = c in
+    let l = b in
+    let a = l.args in
+    told-running a.bytes.now c.packed_series.ensures b.bytes_of.ensures l.rows_of_views-run.ensures
 
-pub ttw-csv-rows-spec : {M : Type 1} → statement M
-ttw-csv-rows-spec = tie.close (tie.spec (search rules) (search rules) (search rules) (search rules) returns)
+pub ttw_csv_rows_spec : {M : Type 1} → statement M
+ttw_csv_rows_spec = tie.close (tie.spec (search rules) (search rules) (search rules) (search rules) returns)

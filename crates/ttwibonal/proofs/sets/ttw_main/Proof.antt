@@ -5,7 +5,7 @@ use Rattle.ttwibonal.proofs.sets.ttw_main.Statement.{statement}
 use Rattle.ttwibonal.proofs.sets.ttw_main.Tie as tie
 
 returns : tie.Need-returns
-returns c = told-reading c.packed-answer.ensures c.before.views-in.ensures
+returns c = told-reading c.packed_answer.ensures c.views_in-answer.ensures
 
-pub ttw-main-spec : {M : Type 1} → statement M
-ttw-main-spec = tie.close (tie.spec (search rules) (search rules) returns)
+pub ttw_main_spec : {M : Type 1} → statement M
+ttw_main_spec = tie.close (tie.spec (search rules) (search rules) returns)

@@ -5,7 +5,7 @@ use Rattle.ttwibonal.proofs.sets.ttw_main_build.Statement.{statement}
 use Rattle.ttwibonal.proofs.sets.ttw_main_build.Tie as tie
 
 returns : tie.Need-returns
-returns c = told-writing c.packed-answer.ensures c.before.before.before.build-pack.ensures
+returns c = told-writing c.packed_answer.ensures c.build_pack-answer.ensures
 
-pub ttw-main-build-spec : {M : Type 1} → statement M
-ttw-main-build-spec = tie.close (tie.spec (search rules) (search rules) (search rules) returns)
+pub ttw_main_build_spec : {M : Type 1} → statement M
+ttw_main_build_spec = tie.close (tie.spec (search rules) (search rules) (search rules) returns)

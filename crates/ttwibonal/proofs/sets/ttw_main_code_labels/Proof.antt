@@ -6,10 +6,10 @@ use Rattle.ttwibonal.proofs.sets.ttw_main_code_labels.Tie as tie
 
 returns : tie.Need-returns
 returns c =
-    let b = c.before in
-    let l = b.before.before.before.before in
-    let a = l.before.before.before.before.before.before.before.before.before.before.before.args in
-    told-running a.bytes.now c.packed-series.ensures b.bytes_of.ensures l.labels-in-code.ensures
+    let b = c in
+    let l = b in
+    let a = l.args in
+    told-running a.bytes.now c.packed_series.ensures b.bytes_of.ensures l.labels_in_code-run.ensures
 
-pub ttw-main-code-labels-spec : {M : Type 1} → statement M
-ttw-main-code-labels-spec = tie.close (tie.spec (search rules) (search rules) (search rules) (search rules) returns)
+pub ttw_main_code_labels_spec : {M : Type 1} → statement M
+ttw_main_code_labels_spec = tie.close (tie.spec (search rules) (search rules) (search rules) (search rules) returns)

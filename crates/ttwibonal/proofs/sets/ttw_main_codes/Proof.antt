@@ -5,7 +5,7 @@ use Rattle.ttwibonal.proofs.sets.ttw_main_codes.Statement.{statement}
 use Rattle.ttwibonal.proofs.sets.ttw_main_codes.Tie as tie
 
 returns : tie.Need-returns
-returns c = told-writing c.packed-answer.ensures c.before.before.before.codes-in.ensures
+returns c = told-writing c.packed_answer.ensures c.codes_in.ensures
 
-pub ttw-main-codes-spec : {M : Type 1} → statement M
-ttw-main-codes-spec = tie.close (tie.spec (search rules) (search rules) (search rules) returns)
+pub ttw_main_codes_spec : {M : Type 1} → statement M
+ttw_main_codes_spec = tie.close (tie.spec (search rules) (search rules) (search rules) returns)

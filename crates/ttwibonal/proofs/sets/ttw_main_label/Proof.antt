@@ -5,7 +5,7 @@ use Rattle.ttwibonal.proofs.sets.ttw_main_label.Statement.{statement}
 use Rattle.ttwibonal.proofs.sets.ttw_main_label.Tie as tie
 
 returns : tie.Need-returns
-returns c = told-writing c.packed-answer.ensures c.before.before.before.label-view.ensures
+returns c = told-writing c.packed_answer.ensures c.label_view-answer.ensures
 
-pub ttw-main-label-spec : {M : Type 1} → statement M
-ttw-main-label-spec = tie.close (tie.spec (search rules) (search rules) (search rules) returns)
+pub ttw_main_label_spec : {M : Type 1} → statement M
+ttw_main_label_spec = tie.close (tie.spec (search rules) (search rules) (search rules) returns)

@@ -5,7 +5,7 @@ use Rattle.ttwvan.proofs.sets.ttwvan_main_label.Statement.{statement}
 use Rattle.ttwvan.proofs.sets.ttwvan_main_label.Tie as tie
 
 returns : tie.Need-returns
-returns c = told-as c.packed-answer.ensures c.before.before.before.main-label-view.ensures
+returns c = told-as c.packed_answer.ensures c.main_label_view-answer.ensures
 
-pub ttwvan-main-label-spec : {M : Type 1} → statement M
-ttwvan-main-label-spec = tie.close (tie.spec (search rules) (search rules) (search rules) returns)
+pub ttwvan_main_label_spec : {M : Type 1} → statement M
+ttwvan_main_label_spec = tie.close (tie.spec (search rules) (search rules) (search rules) returns)

@@ -10,38 +10,38 @@ use Rattle.unspace_file.proofs.Laws.{filled-step}
 use Rattle.unspace_file.proofs.inner.fill.Statement.{statement}
 use Rattle.unspace_file.proofs.inner.fill.Tie as tie
 
-abbrev invariant-loop : tie.invariant-loop
+abbrev invariant-loop : tie.invariant-loop-i
 invariant-loop file₀ at n b i₀ file i = (i ≤ n) × (length file ≡ length file₀) × (file ≡ filled i at b file₀)
 
-abbrev decreases-loop : tie.decreases-loop
+abbrev decreases-loop : tie.decreases-loop-i
 decreases-loop file₀ at n b i₀ file i = n - i
 
-loop-holds : tie.Need-loop-init invariant-loop decreases-loop
+loop-holds : tie.Need-loop-i-init invariant-loop decreases-loop
 loop-holds c = (omega arith, refl, refl)
 
-slice-write-file : tie.Need-slice-write-file invariant-loop decreases-loop
+slice-write-file : tie.Need-bounds-file-at invariant-loop decreases-loop
 slice-write-file c =
-    let l = c.before in
-    omega (arith, l.before.requires, l.loop.invariant.1)
+    let l = c in
+    omega (arith, l.requires, l.loop-i.invariant.1)
 
-loop-again : tie.Need-loop-preserved invariant-loop decreases-loop
+loop-again : tie.Need-loop-i-preserved invariant-loop decreases-loop
 loop-again c =
-    let l = c.before in
-    let a = l.before.args in (
+    let l = c in
+    let a = l.args in (
       omega arith,
-      length-set l.loop.file (a.at + l.loop.i) a.b ∙ l.loop.invariant.1,
-      ap (λ (x : List ℕ). set x (a.at + l.loop.i) a.b) l.loop.invariant.2 ∙ filled-step a.at a.b a.file.now l.loop.i,
+      length-set l.loop-i.file (a.at + l.loop-i.i) a.b ∙ l.loop-i.invariant.1,
+      ap (λ (x : List ℕ). set x (a.at + l.loop-i.i) a.b) l.loop-i.invariant.2 ∙ filled-step a.at a.b a.file.now l.loop-i.i,
     )
 
-same_length : tie.Need-same-length invariant-loop decreases-loop
-same_length c = c.before.loop.invariant.1
+same_length : tie.Need-shape_of-file invariant-loop decreases-loop
+same_length c = c.loop-i.invariant.1
 
 returns : tie.Need-returns invariant-loop decreases-loop
 returns c =
-    let l = c.before in
-    let a = l.before.args in
-    let all : l.loop.i ≡ a.n = omega (arith, l.loop.invariant.0) in
-    l.loop.invariant.2 ∙ ap (λ (n : ℕ). filled n a.at a.b a.file.now) all
+    let l = c in
+    let a = l.args in
+    let all : l.loop-i.i ≡ a.n = omega (arith, l.loop-i.invariant.0) in
+    l.loop-i.invariant.2 ∙ ap (λ (n : ℕ). filled n a.at a.b a.file.now) all
 
 pub fill_spec : {M : Type 1} → statement M
 fill_spec =

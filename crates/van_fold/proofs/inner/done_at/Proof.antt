@@ -4,11 +4,11 @@ use borrow.Author.Tests.{eq-eqb, ne_eqb}
 use Rattle.van_fold.proofs.inner.done_at.Statement.{statement}
 use Rattle.van_fold.proofs.inner.done_at.Tie as tie
 
-returns : tie.Need-returns
-returns c = rw (eq-eqb _ 0 c.if1.true)
+returns : tie.Need-returns-then-space-eq0
+returns c = rw (eq-eqb _ 0 c.if-space-eq0.true)
 
-returns-2 : tie.Need-returns-2
-returns-2 c = rw (ne_eqb _ 0 c.if1.false)
+returns-2 : tie.Need-returns-else-space-eq0
+returns-2 c = rw (ne_eqb _ 0 c.if-space-eq0.false)
 
-pub done-at-spec : {M : Type 1} → statement M
-done-at-spec = tie.close (tie.spec (search rules) returns returns-2)
+pub done_at_spec : {M : Type 1} → statement M
+done_at_spec = tie.close (tie.spec (search rules) returns returns-2)

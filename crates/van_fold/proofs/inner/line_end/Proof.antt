@@ -9,42 +9,42 @@ use Rattle.van.proofs.Steps.{end-here, end-behind, end_none}
 use Rattle.van_fold.proofs.inner.line_end.Statement.{statement}
 use Rattle.van_fold.proofs.inner.line_end.Tie as tie
 
-abbrev invariant-loop : tie.invariant-loop
+abbrev invariant-loop : tie.invariant-loop-i
 invariant-loop text at i₀ i = (i ≤ length text) × (i + line_length (drop i text) ≡ at + line_length (drop at text))
 
-abbrev decreases-loop : tie.decreases-loop
+abbrev decreases-loop : tie.decreases-loop-i
 decreases-loop text at i₀ i = length text - i
 
-loop-holds : tie.Need-loop-init invariant-loop decreases-loop
+loop-holds : tie.Need-loop-i-init invariant-loop decreases-loop
 loop-holds c = (c.requires, refl)
 
-returns : tie.Need-returns invariant-loop decreases-loop
+returns : tie.Need-returns-then-text-i-eq10 invariant-loop decreases-loop
 returns c =
-    let at-loop = c.before.before.before in
+    let at-loop = c in
     omega (
       arith,
-      at-loop.loop.invariant.1,
-      end-here at-loop.before.args.text.now at-loop.loop.i c.before.before.loop-test.true c.if1.true,
+      at-loop.loop-i.invariant.1,
+      end-here at-loop.args.text.now at-loop.loop-i.i c.loop-i-test.true c.if-text-i-eq10.true,
     )
 
-loop-again : tie.Need-loop-preserved invariant-loop decreases-loop
+loop-again : tie.Need-loop-i-preserved invariant-loop decreases-loop
 loop-again c =
-    let at-loop = c.before.before.before in (
+    let at-loop = c in (
       omega arith,
       sym
-          (end-behind at-loop.before.args.text.now at-loop.loop.i c.before.before.loop-test.true
-          c.if1.false)
-          ∙ at-loop.loop.invariant.1,
+          (end-behind at-loop.args.text.now at-loop.loop-i.i c.loop-i-test.true
+          c.if-text-i-eq10.false)
+          ∙ at-loop.loop-i.invariant.1,
     )
 
-returns-2 : tie.Need-returns-2 invariant-loop decreases-loop
+returns-2 : tie.Need-returns invariant-loop decreases-loop
 returns-2 c =
-    let at-loop = c.before in
+    let at-loop = c in
     omega (
       arith,
-      at-loop.loop.invariant.1,
-      end_none at-loop.before.args.text.now at-loop.loop.i c.loop-test.false,
+      at-loop.loop-i.invariant.1,
+      end_none at-loop.args.text.now at-loop.loop-i.i c.loop-i-test.false,
     )
 
-pub line-end-spec : {M : Type 1} → statement M
-line-end-spec = tie.close (tie.spec invariant-loop decreases-loop loop-holds (λ c. omega arith) returns (λ c. omega arith) (λ c. omega arith) loop-again returns-2)
+pub line_end_spec : {M : Type 1} → statement M
+line_end_spec = tie.close (tie.spec invariant-loop decreases-loop loop-holds (λ c. omega arith) returns (λ c. omega arith) (λ c. omega arith) loop-again returns-2)

@@ -10,19 +10,19 @@ use Rattle.van_fold.proofs.inner.row_at.Tie as tie
 at_row : (c : tie.Start) → Begun (ended (c.args.row.now ∷ [])) (c.args.row.now ∷ (10 ∷ []) ∷ []) c.args.out.now c.args.at
 at_row c = begun (record { is = refl }) c.requires
 
-bytes-at-requires : tie.Need-bytes-at-requires
-bytes-at-requires c κs = room (at_row c.before.before.before)
+bytes-at-requires : tie.Need-bytes_at-i-requires
+bytes-at-requires c κs = room (at_row c)
 
-byte-at-requires : tie.Need-byte-at-requires
+byte-at-requires : tie.Need-byte_at-requires
 byte-at-requires c κs =
-    let row = c.before.before.before in
-    room (step (at_row row.before.before.before.before) row.bytes-at.ensures)
+    let row = c in
+    room (step (at_row row.before.before.before.before) row.bytes_at-i.ensures)
 
 returns : tie.Need-returns
 returns c =
-    let end = c.before.before in
-    let row = end.before.before.before.before in
-    last (step (at_row row.before.before.before.before) row.bytes-at.ensures) end.byte_at.ensures
+    let end = c in
+    let row = end in
+    last (step (at_row row.before.before.before.before) row.bytes_at-i.ensures) end.byte_at.ensures
 
-pub row-at-spec : {M : Type 1} → statement M
-row-at-spec = tie.close (tie.spec bytes-at-requires byte-at-requires (search rules) returns)
+pub row_at_spec : {M : Type 1} → statement M
+row_at_spec = tie.close (tie.spec bytes-at-requires byte-at-requires (search rules) returns)

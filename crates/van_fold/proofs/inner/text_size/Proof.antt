@@ -11,65 +11,65 @@ use Rattle.van_fold.proofs.Counts.{Counted, counted_none, counted-all, text-low,
 use Rattle.van_fold.proofs.inner.text_size.Statement.{statement}
 use Rattle.van_fold.proofs.inner.text_size.Tie as tie
 
-abbrev invariant-loop : tie.invariant-loop
+abbrev invariant-loop : tie.invariant-loop-at
 invariant-loop text rows₀ bytes₀ at₀ rows bytes at = Counted (text_rows text) (text_rows (drop at text)) rows bytes
 
-abbrev decreases-loop : tie.decreases-loop
+abbrev decreases-loop : tie.decreases-loop-at
 decreases-loop text rows₀ bytes₀ at₀ rows bytes at = length text - at
 
 -- a line, whose end is found
-module _ (c : tie.After-line-end invariant-loop decreases-loop) where
-  abbrev at-loop : tie.At-loop invariant-loop decreases-loop
+module _ (c : tie.After-line_end-end invariant-loop decreases-loop) where
+  abbrev at-loop : tie.At-loop-at invariant-loop decreases-loop
   at-loop = c.before.before
 
   abbrev text : List ℕ
-  text = at-loop.before.before.args.text.now
+  text = at-loop.args.text.now
 
-  low : at-loop.loop.at ≤ c.line_end.result
-  low = omega (arith, c.line_end.ensures)
+  low : at-loop.loop-at.at ≤ c.line_end-end.result
+  low = omega (arith, c.line_end-end.ensures)
 
-  high : c.line_end.result ≤ length text
-  high = line-within text at-loop.loop.at (omega (arith, c.before.loop-test.true)) c.line_end.ensures
+  high : c.line_end-end.result ≤ length text
+  high = line-within text at-loop.loop-at.at (omega (arith, c.loop-at-test.true)) c.line_end-end.ensures
 
 -- its rows, counted
-next : (c : tie.After-line-size invariant-loop decreases-loop)
+next : (c : tie.After-line_size-size invariant-loop decreases-loop)
     → let end = c.before.before in
-    let l = (at-loop end).loop in
-    Counted (text_rows (text end)) (text_rows (drop (end.line_end.result + 1) (text end)))
-    (l.rows + c.line-size.result.rows) (l.bytes + c.line-size.result.bytes)
+    let l = (at-loop end).loop-at in
+    Counted (text_rows (text end)) (text_rows (drop (end.line_end-end.result + 1) (text end)))
+    (l.rows + c.line_size-size.result.rows) (l.bytes + c.line_size-size.result.bytes)
 next c =
     let end = c.before.before in
-    let l = (at-loop end).loop in
-    text-next (text end) l.at l.inv end.before.loop-test.true end.line_end.ensures c.line-size.ensures
+    let l = (at-loop end).loop-at in
+    text-next (text end) l.at l.inv end.loop-at-test.true end.line_end-end.ensures c.line_size-size.ensures
 
-add-rows : tie.Need-overflow-add-rows invariant-loop decreases-loop
+add-rows : tie.Need-overflow_add-rows invariant-loop decreases-loop
 add-rows c =
     let end = c.before.before.before in
-    omega (arith, (text-low (text end) (next c.before)).0, (at-loop end).before.before.well_formed.0.1)
+    omega (arith, (text-low (text end) (next c.before)).0, (at-loop end).well_formed.0.1)
 
-add-bytes : tie.Need-overflow-add-bytes invariant-loop decreases-loop
+add-bytes : tie.Need-overflow_add-bytes invariant-loop decreases-loop
 add-bytes c =
     let size = c.before.before in
     let end = size.before.before in
-    omega (arith, (text-low (text end) (next size)).1, (at-loop end).before.before.well_formed.0.1)
+    omega (arith, (text-low (text end) (next size)).1, (at-loop end).well_formed.0.1)
 
-add_at : tie.Need-overflow-add-at invariant-loop decreases-loop
+add_at : tie.Need-overflow_add-at invariant-loop decreases-loop
 add_at c =
     let end = c.before.before.before.before in
-    omega (arith, high end, (at-loop end).before.before.well_formed.0.1)
+    omega (arith, high end, (at-loop end).well_formed.0.1)
 
-loop-less : tie.Need-loop-smaller invariant-loop decreases-loop
+loop-less : tie.Need-loop-at-smaller invariant-loop decreases-loop
 loop-less c =
     let end = c.before.before.before.before in
-    omega (arith, low end, end.before.loop-test.true)
+    omega (arith, low end, end.loop-at-test.true)
 
 returns : tie.Need-returns invariant-loop decreases-loop
 returns c =
-    let at-loop = c.before in
-    counted-all (text-last at-loop.before.before.args.text.now at-loop.loop.at at-loop.loop.invariant c.loop-test.false)
+    let at-loop = c in
+    counted-all (text-last at-loop.args.text.now at-loop.loop-at.at at-loop.loop-at.invariant c.loop-at-test.false)
 
-pub text-size-spec : {M : Type 1} → statement M
-text-size-spec =
+pub text_size_spec : {M : Type 1} → statement M
+text_size_spec =
     tie.close
     (tie.spec invariant-loop decreases-loop (λ c. counted_none) (λ c κs. omega arith) (λ c. omega (arith, low c)) (λ c. low c)
     (λ c. high c) (search rules) add-rows add-bytes add_at loop-less (λ c. next c.before.before) returns)

@@ -9,10 +9,10 @@ use Rattle.van_label.proofs.sets.main_label_in_code.Tie as tie
 
 returns : tie.Need-returns
 returns c =
-    let folded = c.before.before in
-    let printed = folded.before.before.before.before in
-    let g = printed.before.before.before.before.before.before.before.before.before.before.before.args in
-    folding-as (code_label (main_of (set_of g.localities.now g.thoroughfares.now g.descriptors.now g.buildings.now g.subs.now g.organisations.now g.addresses.now)) g.code.now g.k) g.out.now printed.label-in-code.ensures folded.fold-label.ensures
+    let folded = c in
+    let printed = folded in
+    let g = printed.args in
+    folding-as (code_label (main_of (set_of g.localities.now g.thoroughfares.now g.descriptors.now g.buildings.now g.subs.now g.organisations.now g.addresses.now)) g.code.now g.k) g.out.now printed.label_in_code-answer.ensures folded.fold_label.ensures
 
-pub main-label-in-code-spec : {M : Type 1} → statement M
-main-label-in-code-spec = tie.close (tie.spec (search rules) (search rules) (search rules) (search rules) (search rules) returns)
+pub main_label_in_code_spec : {M : Type 1} → statement M
+main_label_in_code_spec = tie.close (tie.spec (search rules) (search rules) (search rules) (search rules) (search rules) returns)

@@ -9,10 +9,10 @@ use Rattle.van_label.proofs.sets.main_label_view.Tie as tie
 
 returns : tie.Need-returns
 returns c =
-    let folded = c.before.before in
-    let printed = folded.before.before.before.before in
-    let g = printed.before.before.before.before.before.before.before.before.before.before.args in
-    folding-as (view_label (main_of (set_of g.localities.now g.thoroughfares.now g.descriptors.now g.buildings.now g.subs.now g.organisations.now g.addresses.now)) g.view) g.out.now printed.label-view.ensures folded.fold-label.ensures
+    let folded = c in
+    let printed = folded in
+    let g = printed.args in
+    folding-as (view_label (main_of (set_of g.localities.now g.thoroughfares.now g.descriptors.now g.buildings.now g.subs.now g.organisations.now g.addresses.now)) g.view) g.out.now printed.label_view-answer.ensures folded.fold_label.ensures
 
-pub main-label-view-spec : {M : Type 1} → statement M
-main-label-view-spec = tie.close (tie.spec (search rules) (search rules) (search rules) (search rules) (search rules) returns)
+pub main_label_view_spec : {M : Type 1} → statement M
+main_label_view_spec = tie.close (tie.spec (search rules) (search rules) (search rules) (search rules) (search rules) returns)
