@@ -50,7 +50,8 @@ def newchain(t,p,q,log):
         if nx in anc and nx!=q: break
         cur=nx;k+=1
     return k,cur
-def follow(t,place,segs,log):
+def follow(t,pl2,segs,log):
+    place,actual=pl2
     """segs from a context at old place. returns (newsegs, resulting place or None)"""
     P=place;i=0
     while i<len(segs) and segs[i]=='before':
@@ -59,8 +60,8 @@ def follow(t,place,segs,log):
         if par is None: return None
         P=par;i+=1
     if i==len(segs):
-        k,cur=newchain(t,place,P,log)
-        return ['before']*k,cur
+        k,cur=newchain(t,actual,P,log)
+        return ['before']*k,(P,cur)
     s=segs[i];rest=segs[i+1:]
     if s=='pre' and t.pre is not None:
         f=t.pre['fields'];out=['requires']
@@ -75,27 +76,24 @@ def follow(t,place,segs,log):
         return out+rest,None
     n=norm(s)
     if n.endswith('_lem') : n=n[:-4]
-    # find the place with this own step at or above P
-    Q=P
-    seen=set()
-    while Q and t.pl[Q]['step']!=n and norm(t.pl[Q]['nstep'] or '')!=n:
-        if Q in seen: Q=None; break
-        seen.add(Q); Q=t.pl[Q]['parent']
-    if Q:
-        nst=t.pl[Q]['nstep'];arm=t.pl[Q]['arm']
-        # choose the arm info of deepest place in same arm chain from `place`
+    start=place if P==place else P
+    for by_new in (False,True):
+      cur=actual
+      if not by_new and P!=place and P in ancestors(t,actual) and t.pl[P]['step']==n:
+        pass
+      guard=0
+      while cur and guard<500:
+        guard+=1
+        v=t.pl[cur];arm=v['arm']
         if arm:
-            # fields may be in deeper place with the same arm name
-            best=arm
-            for a in ancestors(t,place):
-                b=t.pl[a]['arm']
-                if b and b[0]==arm[0]: best=b;break
-            for f,src,path in best[2]:
-                if norm(src)==t.pl[Q]['step'] and [str(x) for x in path]==rest[:len(path)] and (path or f.endswith('-own')):
-                    return [best[0],f]+rest[len(path):],None
-            return [best[0]]+rest,None
-        if rest and rest[0]=='inv': rest=['invariant']+rest[1:]
-        return [nst]+rest,None
+            best=None
+            for f,src,path in arm[2]:
+                if norm(src)==n and [str(x) for x in path]==rest[:len(path)] and (best is None or len(path)>best[1]): best=(f,len(path))
+            if best: return [arm[0],best[0]]+rest[best[1]:],None
+        if (v['step']==n if not by_new else norm(v['nstep'] or '')==n):
+            if rest and rest[0]=='inv': rest=['invariant']+rest[1:]
+            return [v['nstep']]+rest,None
+        cur=nparent(t,cur)
     fl=flat(t,segs)
     if fl is not None: return fl,None
     return [s]+rest,None
@@ -131,6 +129,39 @@ def flat(t,segs,force=False):
         return out+rest
     if k>0: return [s]+rest
     return None
+def respec(t,T,text,log):
+    m=re.search(r"\(?tie\.spec\s",text)
+    if not m: return text
+    i=m.end();d=0;args=[];cur=''
+    while i<len(text):
+        ch=text[i]
+        if ch in '([{': d+=1
+        if ch in ')]}':
+            if d==0: break
+            d-=1
+        if ch.isspace() and d==0:
+            if cur: args.append(cur);cur=''
+        else: cur+=ch
+        i+=1
+    if cur: args.append(cur)
+    want=len(T['needs'])+2*len(T['loops'])
+    if len(args)==want: return text
+    defs={}
+    for mm in re.finditer(rf"(?m)^({SEG}) : tie\.Need-({SEG})",text): defs[mm.group(2)]=mm.group(1)
+    new=args[:2*len(T['loops'])]
+    for o,n in T['needs']: new.append(defs.get(n,'(search rules)'))
+    log.append(f'respec {len(args)} {want}')
+    if 'Rules.{rules}' not in text: text='use borrow.Author.Rules.{rules}\n'+text if not text.startswith('--') else text.replace('\nuse ','\nuse borrow.Author.Rules.{rules}\nuse ',1)
+    m=re.search(r"\(?tie\.spec\s",text)
+    i=m.end();d=0
+    while i<len(text):
+        ch=text[i]
+        if ch in '([{': d+=1
+        if ch in ')]}':
+            if d==0: break
+            d-=1
+        i+=1
+    return text[:m.end()]+' '.join(new)+text[i:]
 def t_place(t,p,segs):
     for x in segs:
         if x=='before': p=t.pl[p]['parent']
@@ -169,7 +200,8 @@ def convert(text,T,fn,log):
         if m and '=' not in l.split(':')[0]:
             name=m.group(1);rhs=m.group(2)
             mm=re.match(rf"tie\.Need-({SEG})",rhs)
-            if mm: sig[name]=[t.at.get(needn(mm.group(1)))]
+            if mm:
+                q0=t.at.get(needn(mm.group(1)));sig[name]=[(q0,q0) if q0 else None]
             else:
                 bs=[]
                 r=rhs
@@ -179,16 +211,17 @@ def convert(text,T,fn,log):
                     pm=re.match(rf"tie\.({SEG})",b.group(2))
                     for v in b.group(1).split():
                         p=place_of(t,pm.group(1)) if pm else None
+                        p=(p,p) if p else None
                         bs.append(p)
                         if p: var[v]=p
                     r=r[b.end():]
                 if bs: sig[name]=bs
                 pm=re.match(rf"tie\.({SEG})",r)
-                if pm and place_of(t,pm.group(1)): ret[name]=place_of(t,pm.group(1)); var[name]=ret[name]
+                if pm and place_of(t,pm.group(1)): q0=place_of(t,pm.group(1)); ret[name]=(q0,q0); var[name]=ret[name]
         for b in re.finditer(rf"\(({SEG}(?: {SEG})*) : tie\.({SEG})",l):
             p=place_of(t,b.group(2))
             if p:
-                for v in b.group(1).split(): var[v]=p
+                for v in b.group(1).split(): var[v]=(p,p)
         m=re.match(rf"^\s*({SEG})((?: (?:{SEG}|_|\{{[^}}]*\}}))+) =",l)
         if m and m.group(1) in sig:
             vs=re.findall(rf" ({SEG}|_)",m.group(2))
@@ -247,7 +280,7 @@ def convert(text,T,fn,log):
                                 bare=[u for u in re.finditer(rf"(?<![A-Za-z0-9_'.-]){re.escape(v)}(?![A-Za-z0-9_'-])",body)]
                                 okk=all(body[u.end():u.end()+1]=='.' or body[:u.start()].endswith('let ') for u in bare)
                                 if okk:
-                                    P2=t_place(t,p,segs)
+                                    P2=(t_place(t,p[0],segs),p[1])
                                     ns=[];place=P2
                         newl+=head+''.join('.'+x for x in ns)
                 else:
@@ -278,6 +311,7 @@ def convert(text,T,fn,log):
         out.append(l)
     text='\n'.join(out)
     text=re.sub(rf"not-(?:false|true) _ ([A-Za-z0-9_'-]+(?:\.before)*\.if-not-[A-Za-z0-9_'-]+\.(?:true|false))",r'\1',text)
+    text=respec(t,T,text,log)
     for o,n in t.args:
         po=o.replace(' ','').replace('.',r'\.')
         for v in (po,po.replace('_','-')):

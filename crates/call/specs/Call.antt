@@ -17,9 +17,9 @@ use Rattle.ask.specs.Source.{Source}
 use Rattle.ask.specs.Labels.{view_label, code_label}
 use Rattle.ask.specs.Runs.{views_run, code_run}
 use Rattle.ask.specs.Lists.{views_list, code_list}
-use Rattle.csv.specs.Row.{view_row, view_rows}
-use Rattle.csv.specs.File.{csv_judged}
-use Rattle.csv.specs.Ask.{csv_label, csv_labels, csv_list}
+use Rattle.csv_paf.specs.Row.{view_row, view_rows}
+use Rattle.csv_paf.specs.File.{csv_judged}
+use Rattle.csv_paf.specs.Ask.{csv_label, csv_labels, csv_list}
 use Rattle.pack.specs.Opening.{opened}
 use Rattle.pack.specs.Points.{pack_label, pack_suffix, pack_sector}
 use Rattle.pack.specs.Cutting.{pack_built}

@@ -18,7 +18,7 @@ use Rattle.changes_pair.specs.Live.{views_at}
 use Rattle.changes_pair.specs.Pair.{pair_of}
 use Rattle.changes_pair.proofs.Live.{all-views, kth-there, kth-missing, resolve-number}
 use Rattle.changes_label.proofs.Laws.{counted}
-use Rattle.csv.specs.Row.{kth_row, view_row, view_rows}
+use Rattle.csv_paf.specs.Row.{kth_row, view_row, view_rows}
 use Rattle.csv_write.proofs.Placed.{Alike, placed-none, placed-kth}
 use Rattle.changes_csv.specs.Rows.{rows_asked}
 

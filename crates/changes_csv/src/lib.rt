@@ -4,7 +4,7 @@ mod places;
 ghost use Rattle.std.specs.Prelude.{◌≡◌};
 ghost use Rattle.refusal.specs.Outcome.{said};
 ghost use Rattle.changes_pair.specs.Pair.{pair_of};
-ghost use Rattle.csv.specs.Row.{view_row, view_rows};
+ghost use Rattle.csv_paf.specs.Row.{view_row, view_rows};
 
 use places::{row_at, run_rows};
 use refusal::Answer;

@@ -19,7 +19,7 @@ use Rattle.field_outward.specs.Inward.{fault_by, inward_letter, inward_fault, su
 use Rattle.field_outward.proofs.Codes.{to-3, four}
 use Rattle.field_outward.proofs.Long.{outward-long, inward-long, suffix-long}
 use Rattle.label.specs.Lines.{spaced}
-use Rattle.csv.specs.File.{is_outward, outward_in, inward_in, is_postcode}
+use Rattle.csv_paf.specs.File.{is_outward, outward_in, inward_in, is_postcode}
 use Rattle.csv_back.proofs.Texts.{row_byte, row-byte}
 
 -- ---- letters, digits and spaces are bytes of a row

@@ -15,11 +15,11 @@ use Rattle.field_outward.specs.Inward.{suffix_fault}
 use Rattle.source.specs.Address.{Elements}
 use Rattle.source.specs.Resolve.{elements}
 use Rattle.label.specs.Lines.{is_empty, street, number_text}
-use Rattle.csv.specs.Row.{indicator_mark, row_fields, row_text, plain, all_plain, row_texts, street_fits, carried}
-use Rattle.csv.specs.File.{rows_of, forms_for, widths}
-use Rattle.csv.specs.Ask.{row_elements, row_resolved}
-use Rattle.csv.proofs.Fields.{InFields, fields_back, rows_back}
-use Rattle.csv.proofs.Forms.{Held, Fitting, RowFine, row_fine}
+use Rattle.csv_paf.specs.Row.{indicator_mark, row_fields, row_text, plain, all_plain, row_texts, street_fits, carried}
+use Rattle.csv_paf.specs.File.{rows_of, forms_for, widths}
+use Rattle.csv_paf.specs.Ask.{row_elements, row_resolved}
+use Rattle.csv_paf.proofs.Fields.{InFields, fields_back, rows_back}
+use Rattle.csv_paf.proofs.Forms.{Held, Fitting, RowFine, row_fine}
 use Rattle.csv_back.specs.Back.{Entry, row_in, ElementsSound, Writable}
 use Rattle.csv_back.proofs.Texts.{row_byte, every-then, in-field, unquoted, Whole, good-whole, good-long, good-empty, whole-text, whole-filled, street-whole}
 use Rattle.csv_back.proofs.Numbers.{number-back}

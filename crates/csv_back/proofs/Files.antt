@@ -14,11 +14,11 @@ use Rattle.source.specs.Address.{Elements}
 use Rattle.source.specs.Resolve.{elements}
 use Rattle.label.specs.Label.{label_of, room_outcome}
 use Rattle.label.proofs.Room.{Fitting, fits, short, fitting}
-use Rattle.csv.specs.Row.{row_fields}
-use Rattle.csv.specs.File.{rows_of, csv_judged}
-use Rattle.csv.specs.Ask.{row_elements, kth_of, resolved_of, row_label, csv_label}
-use Rattle.csv.proofs.Rows.{rows_none}
-use Rattle.csv.proofs.Forms.{AllFine, file-fine}
+use Rattle.csv_paf.specs.Row.{row_fields}
+use Rattle.csv_paf.specs.File.{rows_of, csv_judged}
+use Rattle.csv_paf.specs.Ask.{row_elements, kth_of, resolved_of, row_label, csv_label}
+use Rattle.csv_paf.proofs.Rows.{rows_none}
+use Rattle.csv_paf.proofs.Forms.{AllFine, file-fine}
 use Rattle.csv_back.specs.Back.{lost, Prints, Entry, row_in, file_of, ElementsSound, Writable, AllWritable, PrintsEntry, RowBack, FileAccepted, FileBack}
 use Rattle.csv_back.proofs.Labels.{plain_of, label_same, label-longer}
 use Rattle.csv_back.proofs.Entries.{elements-back, entry-rows, entry-fine, entry-says}

@@ -11,8 +11,8 @@ use Rattle.field.specs.Test.{elem}
 use Rattle.field.proofs.Tests.{or-false}
 use Rattle.file_compare.specs.Order.{same}
 use Rattle.label.specs.Lines.{is_empty}
-use Rattle.csv.specs.Row.{indicator_mark}
-use Rattle.csv.specs.File.{is_filled, is_type, is_indicator, double_form, organisation_form}
+use Rattle.csv_paf.specs.Row.{indicator_mark}
+use Rattle.csv_paf.specs.File.{is_filled, is_type, is_indicator, double_form, organisation_form}
 use Rattle.csv_back.proofs.Texts.{Whole, whole-text, whole-filled, whole-blank}
 
 -- one byte is the same as another

@@ -17,7 +17,7 @@ use Rattle.label.specs.Lines.{is_empty, line, box_line, spaced, street, street_l
 use Rattle.label.specs.Label.{ended, label_of}
 use Rattle.label.proofs.Places.{ended-append}
 use Rattle.label.proofs.Table.{number-0}
-use Rattle.csv.specs.Ask.{filled, forbidden_in}
+use Rattle.csv_paf.specs.Ask.{filled, forbidden_in}
 use Rattle.csv_back.specs.Back.{lost, ElementsSound}
 use Rattle.csv_back.proofs.Texts.{good-empty, street-empty}
 use Rattle.csv_back.proofs.Numbers.{Digits, number-back}

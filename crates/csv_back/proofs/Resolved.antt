@@ -19,7 +19,7 @@ use Rattle.source.specs.Resolve.{forbidden, lacks, missing_from, lacks_organisat
 use Rattle.source.specs.Same.{AllOf}
 use Rattle.source.proofs.Cases.{Resolving, mixed, lacking as without, fine, resolving}
 use Rattle.label.specs.Lines.{is_empty}
-use Rattle.csv.specs.Ask.{filled}
+use Rattle.csv_paf.specs.Ask.{filled}
 use Rattle.pack.specs.Opening.{Slot, slot, slots_of, text_good}
 use Rattle.pack.specs.Sound.{slots_good, RowsSound, OrganisationSound}
 use Rattle.pack_sound.proofs.Texts.{may-be-blank}

@@ -15,9 +15,9 @@ use Rattle.field.proofs.Faults.{no-fault}
 use Rattle.field.proofs.Texts.{text-other, filled-other}
 use Rattle.field.proofs.Parts.{every_append}
 use Rattle.label.specs.Lines.{is_empty, street}
-use Rattle.csv.specs.Row.{plain_byte, plain}
-use Rattle.csv.specs.File.{is_text, is_filled}
-use Rattle.csv.proofs.Fields.{in_field}
+use Rattle.csv_paf.specs.Row.{plain_byte, plain}
+use Rattle.csv_paf.specs.File.{is_text, is_filled}
+use Rattle.csv_paf.proofs.Fields.{in_field}
 use Rattle.pack.specs.Opening.{slot, text_good}
 use Rattle.pack_sound.proofs.Texts.{trim-empty}
 

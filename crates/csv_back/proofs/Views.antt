@@ -25,8 +25,8 @@ use Rattle.label.proofs.Room.{room-value, room-front}
 use Rattle.ask.specs.Source.{Source}
 use Rattle.ask.specs.Labels.{kth, kth_label, view_label}
 use Rattle.ask.proofs.Kth.{kth-all}
-use Rattle.csv.specs.Row.{carried, written_outcome, row_of, row_outcome, row_or, kth_row, view_row, view_rows}
-use Rattle.csv.specs.File.{csv_judged}
+use Rattle.csv_paf.specs.Row.{carried, written_outcome, row_of, row_outcome, row_or, kth_row, view_row, view_rows}
+use Rattle.csv_paf.specs.File.{csv_judged}
 use Rattle.csv_back.specs.Back.{lost, Entry, row_in, file_of, Writable, AllWritable, PrintsEntry, entry_of, ViewSound, ViewsSound, lost_view, PrintsView, ViewBack, series_rows, written_file, RunBack}
 use Rattle.csv_back.proofs.Files.{file-accepted, file-back, row_back}
 

@@ -15,9 +15,9 @@ use Rattle.refusal.specs.Outcome.{said}
 use Rattle.source.specs.Address.{Elements}
 use Rattle.label.specs.Lines.{number_text, lines_of}
 use Rattle.label.specs.Label.{label_of, room_outcome}
-use Rattle.csv.specs.Row.{row_fields, row_text, carried}
-use Rattle.csv.specs.File.{rows_of, is_postcode, row_fault, row_fits, csv_judged}
-use Rattle.csv.specs.Ask.{row_elements, forbidden_in, row_resolved, row_label, csv_label}
+use Rattle.csv_paf.specs.Row.{row_fields, row_text, carried}
+use Rattle.csv_paf.specs.File.{rows_of, is_postcode, row_fault, row_fits, csv_judged}
+use Rattle.csv_paf.specs.Ask.{row_elements, forbidden_in, row_resolved, row_label, csv_label}
 use Rattle.pack.specs.Opening.{text_good}
 use Rattle.csv_back.specs.Back.{lost, Entry, row_in, Writable}
 

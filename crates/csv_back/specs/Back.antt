@@ -20,9 +20,9 @@ use Rattle.label.specs.Lines.{is_empty}
 use Rattle.label.specs.Label.{label_of, room_outcome}
 use Rattle.ask.specs.Source.{Source}
 use Rattle.ask.specs.Labels.{kth, view_label}
-use Rattle.csv.specs.Row.{row_text, carried, view_row, view_rows}
-use Rattle.csv.specs.File.{csv_judged}
-use Rattle.csv.specs.Ask.{filled, csv_label}
+use Rattle.csv_paf.specs.Row.{row_text, carried, view_row, view_rows}
+use Rattle.csv_paf.specs.File.{csv_judged}
+use Rattle.csv_paf.specs.Ask.{filled, csv_label}
 use Rattle.pack.specs.Opening.{slot, text_good}
 
 -- ---- where the label is another one

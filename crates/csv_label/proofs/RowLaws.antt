@@ -21,9 +21,9 @@ use Rattle.refusal.specs.declared.Answer.TheVariants.{Value, Refused}
 use Rattle.refusal.specs.Verdict.{or_else}
 use Rattle.refusal.proofs.Answers.{refused-value}
 use Rattle.refusal.proofs.Verdicts.{bad-fine, both-fine}
-use Rattle.csv.specs.File.{starts_with, row_ends, behind_row, rows_from, rows_of, row_fault, first_bad_row, row_fits, all_fit, rows_judged, judged_as, csv_judged}
-use Rattle.csv.specs.Ask.{kth_of}
-use Rattle.csv.proofs.Rows.{behind-less, rows_none, rows_next}
+use Rattle.csv_paf.specs.File.{starts_with, row_ends, behind_row, rows_from, rows_of, row_fault, first_bad_row, row_fits, all_fit, rows_judged, judged_as, csv_judged}
+use Rattle.csv_paf.specs.Ask.{kth_of}
+use Rattle.csv_paf.proofs.Rows.{behind-less, rows_none, rows_next}
 use Rattle.csv_spans.specs.Row.{GoodRow}
 use Rattle.csv_label.specs.Shown.{row_from, RowPlace}
 

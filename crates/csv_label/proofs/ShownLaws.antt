@@ -33,8 +33,8 @@ use Rattle.item_write.specs.declared.Line.{Line}
 use Rattle.item_write.specs.Line.{Holds}
 use Rattle.item_write.specs.Headed.{before, headed, Small}
 use Rattle.item_write.proofs.Headed.{Telling, Bounded, item-over, none_over, item-small, none-small}
-use Rattle.csv.specs.File.{fields_of, widths, csv_judged}
-use Rattle.csv.specs.Ask.{row_word, row_line, row_elements, forbidden_in, row_resolved, label_or, row_label, csv_label, csv_labels, row_item, csv_item, csv_list}
+use Rattle.csv_paf.specs.File.{fields_of, widths, csv_judged}
+use Rattle.csv_paf.specs.Ask.{row_word, row_line, row_elements, forbidden_in, row_resolved, label_or, row_label, csv_label, csv_labels, row_item, csv_item, csv_list}
 use Rattle.csv_spans.specs.Row.{GoodRow}
 use Rattle.csv_spans.proofs.Laws.{short, postcode-length}
 use Rattle.csv_label.specs.Shown.{resolved_at, shown_of, shown_row, rows_shown, RowPlace}

@@ -8,8 +8,8 @@ use Rattle.source.specs.Resolve.{Resolved}
 use Rattle.item.specs.Item.{item_outcome}
 use Rattle.run.specs.declared.Series.{Series}
 use Rattle.run.specs.Series.{Asking}
-use Rattle.csv.specs.File.{rows_of}
-use Rattle.csv.specs.Ask.{kth_of, resolved_of, label_or, row_line, csv_labels, csv_list}
+use Rattle.csv_paf.specs.File.{rows_of}
+use Rattle.csv_paf.specs.Ask.{kth_of, resolved_of, label_or, row_line, csv_labels, csv_list}
 use Rattle.csv_spans.specs.Row.{GoodRow}
 
 -- the row that begins at a place, where bytes are left

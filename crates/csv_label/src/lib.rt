@@ -5,7 +5,7 @@ mod walk;
 
 ghost use Rattle.std.specs.Prelude.{◌≡◌};
 ghost use Rattle.refusal.specs.Outcome.{said};
-ghost use Rattle.csv.specs.Ask.{csv_label, csv_labels, csv_list};
+ghost use Rattle.csv_paf.specs.Ask.{csv_label, csv_labels, csv_list};
 
 use csv_read::check_csv;
 use places::row_place;

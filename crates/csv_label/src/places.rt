@@ -1,7 +1,7 @@
 // Where the rows of a file begin.
 ghost use Rattle.std.specs.Prelude.{◌≡◌, ◌+◌, ◌≤◌, ◌<◌, length, get_or, drop};
-ghost use Rattle.csv.specs.File.{row_ends, behind_row, rows_of};
-ghost use Rattle.csv.specs.Ask.{kth_of};
+ghost use Rattle.csv_paf.specs.File.{row_ends, behind_row, rows_of};
+ghost use Rattle.csv_paf.specs.Ask.{kth_of};
 ghost use Rattle.csv_label.specs.Shown.{row_from};
 
 use csv_read::inner::has_none;

@@ -2,7 +2,7 @@
 ghost use Rattle.std.specs.Prelude.{◌≡◌, true, ◌≤◌, length};
 ghost use Rattle.refusal.specs.Outcome.{said};
 ghost use Rattle.run.specs.Series.{asked_behind};
-ghost use Rattle.csv.specs.Ask.{label_or};
+ghost use Rattle.csv_paf.specs.Ask.{label_or};
 ghost use Rattle.csv_label.specs.Shown.{resolved_at, shown_of, RowPlace};
 
 use csv_spans::forbidden_in;

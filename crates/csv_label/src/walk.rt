@@ -3,7 +3,7 @@ ghost use Rattle.std.specs.Prelude.{◌≡◌};
 ghost use Rattle.refusal.specs.declared.Answer.TheVariants.{Value};
 ghost use Rattle.refusal.specs.Outcome.{said};
 ghost use Rattle.run.specs.Series.{run_from};
-ghost use Rattle.csv.specs.File.{csv_judged};
+ghost use Rattle.csv_paf.specs.File.{csv_judged};
 ghost use Rattle.csv_label.specs.Shown.{shown_row};
 
 use crate::places::{row_behind, row_place};

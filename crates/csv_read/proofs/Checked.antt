@@ -16,8 +16,8 @@ use Rattle.refusal.specs.declared.Verdict.TheVariants.{Fine, Bad}
 use Rattle.refusal.specs.declared.Answer.TheVariants.{Value, Refused}
 use Rattle.refusal.specs.Verdict.{or_else}
 use Rattle.field.specs.Test.{every}
-use Rattle.csv.specs.File.{behind_row, rows_of, row_fault, first_bad_row, not_quote, row_fits, all_fit, rows_judged, judged_as, csv_judged}
-use Rattle.csv.proofs.Rows.{rows_none, rows_next}
+use Rattle.csv_paf.specs.File.{behind_row, rows_of, row_fault, first_bad_row, not_quote, row_fits, all_fit, rows_judged, judged_as, csv_judged}
+use Rattle.csv_paf.proofs.Rows.{rows_none, rows_next}
 use Rattle.csv_read.specs.Judged.{row_short, Ends}
 use Rattle.csv_read.specs.declared.rows.Judged.{Judged}
 use Rattle.csv_read.proofs.Reading.{and_assoc}

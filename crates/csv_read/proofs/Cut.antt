@@ -11,7 +11,7 @@ use lib.Dec.{eqb, ltb}
 use lib.ListN.{length, take, drop, get_or, length-drop, drop_of_length-le}
 use lib.Seq.{drop-cons, drop-drop}
 use Rattle.field.specs.Text.{part}
-use Rattle.csv.specs.File.{starts_with, row_ends, onto, fields_of, is_ended, behind_row}
+use Rattle.csv_paf.specs.File.{starts_with, row_ends, onto, fields_of, is_ended, behind_row}
 use Rattle.csv_read.specs.Cut.{ends_field, field_length, more_fields, field_end}
 
 -- where a row ends there is no comma

@@ -13,7 +13,7 @@ use Rattle.field.specs.Test.{within}
 use Rattle.field.specs.Text.{blank, text_fault, filled_fault}
 use Rattle.field_outward.specs.Inward.{inward_fault}
 use Rattle.file_compare.specs.Order.{same}
-use Rattle.csv.specs.File.{padded, is_outward, is_postcode, is_text, is_filled, outward_in, inward_in, double_form, organisation_form, forms_for}
+use Rattle.csv_paf.specs.File.{padded, is_outward, is_postcode, is_text, is_filled, outward_in, inward_in, double_form, organisation_form, forms_for}
 use Rattle.csv_read.specs.Judged.{no_form}
 
 -- ---- a postcode

@@ -6,7 +6,7 @@ use mathlib.Core.Bool.{Bool, true, false, cond}
 use mathlib.Core.List.{List, [], ◌∷◌}
 use native.Mathlib.Omega.{arith}
 use lib.ListN.{length, get_or}
-use Rattle.csv.specs.File.{field_fault}
+use Rattle.csv_paf.specs.File.{field_fault}
 use Rattle.csv_read.specs.Judged.{no_form}
 
 -- of fields without a fault: as many as there are forms, each of its own

@@ -11,7 +11,7 @@ use lib.Dec.{eqb, leb}
 use lib.ListN.{length, drop}
 use Rattle.field.specs.Test.{every}
 use Rattle.field.proofs.Tests.{and_left, and_right}
-use Rattle.csv.specs.File.{starts_with, row_ends, onto, fields_of, is_ended, behind_row, forms_for, row_fault, widths, not_quote, field_fits, fields_fit, row_fits}
+use Rattle.csv_paf.specs.File.{starts_with, row_ends, onto, fields_of, is_ended, behind_row, forms_for, row_fault, widths, not_quote, field_fits, fields_fit, row_fits}
 use Rattle.csv_read.specs.Judged.{fields_short, row_short}
 use Rattle.csv_read.proofs.Formed.{all-formed}
 use Rattle.csv_read.proofs.Reading.{and_assoc}

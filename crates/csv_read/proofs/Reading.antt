@@ -14,7 +14,7 @@ use lib.Seq.{drop-cons, drop-drop, get_or-drop}
 use Rattle.field.specs.Test.{every}
 use Rattle.field.proofs.Tests.{and_left, and_right}
 use Rattle.field.specs.Text.{part}
-use Rattle.csv.specs.File.{fields_of, is_ended, behind_row, forms_for, field_fault, row_fault, widths}
+use Rattle.csv_paf.specs.File.{fields_of, is_ended, behind_row, forms_for, field_fault, row_fault, widths}
 use Rattle.csv_read.specs.declared.rows.Judged.{Judged}
 use Rattle.csv_read.specs.Cut.{more_fields, field_end}
 use Rattle.csv_read.specs.Judged.{no_form, fields_short, row_short, Reading, faulty_row, ended_row, Ends, Judges}

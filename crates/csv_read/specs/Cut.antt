@@ -1,7 +1,7 @@
 -- Where the fields of a row stand in a file.
 -- Assumes nothing.
 use Rattle.std.specs.Prelude.{ℕ, zero, suc, ◌+◌, Bool, cond, ◌||◌, List, [], ◌∷◌, eqb, drop}
-use Rattle.csv.specs.File.{row_ends, fields_of}
+use Rattle.csv_paf.specs.File.{row_ends, fields_of}
 
 -- "Only a comma, CR LF or the end of the file ends a field"
 abbrev pub ends_field : ℕ → List ℕ → Bool

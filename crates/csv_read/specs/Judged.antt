@@ -1,7 +1,7 @@
 -- A row as it is judged.
 -- Assumes nothing.
 use Rattle.std.specs.Prelude.{ℕ, suc, ◌+◌, ◌≤◌, ◌<◌, ◌≡◌, Bool, true, false, cond, ◌&&◌, List, [], ◌∷◌, eqb, leb, length, drop, get_or}
-use Rattle.csv.specs.File.{fields_of, is_ended, behind_row, forms_for, field_fault, row_fault, widths}
+use Rattle.csv_paf.specs.File.{fields_of, is_ended, behind_row, forms_for, field_fault, row_fault, widths}
 use Rattle.csv_read.specs.declared.rows.Judged.{Judged}
 
 -- no field is of this form

@@ -1,7 +1,7 @@
 // Whether the bytes of a field are what it has to be.
 ghost use Rattle.std.specs.Prelude.{◌≡◌, List, [], ◌∷◌, ℕ, ◌+◌, ◌≤◌, ◌<◌, length, get_or, drop};
 ghost use Rattle.file_compare.specs.Order.{same};
-ghost use Rattle.csv.specs.File.{fields_of, is_postcode, is_outward, is_type, is_indicator, double_form, organisation_form, forms_for};
+ghost use Rattle.csv_paf.specs.File.{fields_of, is_postcode, is_outward, is_type, is_indicator, double_form, organisation_form, forms_for};
 ghost use Rattle.csv_read.specs.Judged.{no_form};
 
 use crate::fields::field_end;

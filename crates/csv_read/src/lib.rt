@@ -5,7 +5,7 @@ pub mod inner;
 mod rows;
 
 ghost use Rattle.std.specs.Prelude.{◌≡◌};
-ghost use Rattle.csv.specs.File.{csv_judged};
+ghost use Rattle.csv_paf.specs.File.{csv_judged};
 
 use inner::has_none;
 use refusal::{Answer, Reason};

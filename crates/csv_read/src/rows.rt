@@ -1,6 +1,6 @@
 // The rows of a file, judged one by one.
 ghost use Rattle.std.specs.Prelude.{◌≡◌, ◌+◌, ◌≤◌, ◌<◌, length, get_or};
-ghost use Rattle.csv.specs.File.{widths};
+ghost use Rattle.csv_paf.specs.File.{widths};
 ghost use Rattle.csv_read.specs.Judged.{faulty_row, ended_row, Judges};
 
 use crate::fields::field_end;

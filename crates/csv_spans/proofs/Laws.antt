@@ -14,8 +14,8 @@ use lib.Seq.{take-nil, take-take, drop-drop, get_or-drop}
 use Rattle.field.specs.Test.{every, within}
 use Rattle.field.specs.Text.{trim, part, text_in}
 use Rattle.field.proofs.Tests.{and_left, and_right}
-use Rattle.csv.specs.File.{fields_of, is_ended, is_postcode, outward_in, inward_in, forms_for, row_fault, widths, not_quote, field_fits, fields_fit, row_fits}
-use Rattle.csv.specs.Ask.{text_at}
+use Rattle.csv_paf.specs.File.{fields_of, is_ended, is_postcode, outward_in, inward_in, forms_for, row_fault, widths, not_quote, field_fits, fields_fit, row_fits}
+use Rattle.csv_paf.specs.Ask.{text_at}
 use Rattle.csv_read.specs.Cut.{more_fields, field_end, field_start}
 use Rattle.csv_read.proofs.Cut.{end_low, end-within, fields_at, fields-behind, fields-none, comma-within}
 use Rattle.csv_read.proofs.Formed.{AllFormed, all-formed}

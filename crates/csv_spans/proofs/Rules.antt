@@ -10,7 +10,7 @@ use lib.Dec.{eqb}
 use lib.ListN.{length}
 use Rattle.source.specs.Address.{present}
 use Rattle.source.specs.Resolve.{forbidden_of}
-use Rattle.csv.specs.Ask.{filled}
+use Rattle.csv_paf.specs.Ask.{filled}
 
 filled-length : (t : List ℕ) → not (eqb (length t) 0) ≡ filled t
 filled-length [] = refl

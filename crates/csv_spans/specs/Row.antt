@@ -3,8 +3,8 @@
 use Rattle.std.specs.Prelude.{ℕ, suc, ◌≤◌, ◌≡◌, true, List, [], length, drop, get_or}
 use Rattle.field.specs.Digits.{value}
 use Rattle.label.specs.Spans.{text_in2}
-use Rattle.csv.specs.File.{fields_of, row_fault, row_fits}
-use Rattle.csv.specs.Ask.{text_at}
+use Rattle.csv_paf.specs.File.{fields_of, row_fault, row_fits}
+use Rattle.csv_paf.specs.Ask.{text_at}
 use Rattle.csv_read.specs.Cut.{field_start}
 use Rattle.csv_spans.specs.declared.fields.Places.{Places}
 use Rattle.csv_spans.specs.declared.fields.Premises.{Premises}

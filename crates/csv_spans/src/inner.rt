@@ -1,8 +1,8 @@
 // The spans of a row of an accepted file.
 ghost use Rattle.std.specs.Prelude.{◌≡◌, drop};
 ghost use Rattle.label.specs.Spans.{elements_in};
-ghost use Rattle.csv.specs.File.{fields_of};
-ghost use Rattle.csv.specs.Ask.{row_elements};
+ghost use Rattle.csv_paf.specs.File.{fields_of};
+ghost use Rattle.csv_paf.specs.Ask.{row_elements};
 ghost use Rattle.csv_spans.specs.Row.{GoodRow};
 
 use crate::fields::{inward_span, no_text, outward_span, places_of, premises_of};

@@ -4,7 +4,7 @@ pub mod inner;
 
 ghost use Rattle.std.specs.Prelude.{◌≡◌};
 ghost use Rattle.label.specs.Spans.{elements_in};
-ghost use Rattle.csv.specs.Ask.{forbidden_in};
+ghost use Rattle.csv_paf.specs.Ask.{forbidden_in};
 
 use label::Spans;
 use label_length::inner::text_len;

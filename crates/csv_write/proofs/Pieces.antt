@@ -10,7 +10,7 @@ use Rattle.label.specs.Put.{tail_text, tail_in}
 use Rattle.label.specs.Spans.{text_in2, elements_in}
 use Rattle.label.proofs.Places.{street-tail}
 use Rattle.label.proofs.Walk.{Made}
-use Rattle.csv.specs.Row.{row_fields, row_text}
+use Rattle.csv_paf.specs.Row.{row_fields, row_text}
 use Rattle.csv_write.specs.declared.Ending.{Ending}
 use Rattle.csv_write.specs.Pieces.{number_field, ending_text, field_in, street_in, postcode_in, places_in, premises_in, row_in}
 

@@ -16,7 +16,7 @@ use Rattle.source.specs.Address.{Lookup, Address, Elements}
 use Rattle.source.specs.Resolve.{Resolved, elements, refused, resolve}
 use Rattle.source.specs.Delivery.{Says}
 use Rattle.ask.specs.Labels.{kth}
-use Rattle.csv.specs.Row.{row_of, row_outcome, row_or, kth_row}
+use Rattle.csv_paf.specs.Row.{row_of, row_outcome, row_or, kth_row}
 use Rattle.csv_write.specs.declared.Ending.{Ending}
 use Rattle.csv_write.specs.Ending.{written_by, EndingOf}
 use Rattle.csv_write.specs.Placed.{placed_row}

@@ -8,7 +8,7 @@ use lib.ListN.{length}
 use Rattle.field.proofs.Tests.{and_left, and_right, and-true}
 use Rattle.source.specs.Address.{Elements}
 use Rattle.label.specs.Lines.{street}
-use Rattle.csv.specs.Row.{all_plain, row_texts, street_fits, carried}
+use Rattle.csv_paf.specs.Row.{all_plain, row_texts, street_fits, carried}
 use Rattle.csv_write.specs.Carried.{places_plain, premises_plain}
 
 module _ (e : Elements) where

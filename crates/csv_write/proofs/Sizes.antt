@@ -15,7 +15,7 @@ use Rattle.label.specs.Widths.{Fits}
 use Rattle.label.proofs.Texts.{text-short}
 use Rattle.label.proofs.Places.{street-tail}
 use Rattle.label.proofs.Bounds.{street-length, number-length, spanned}
-use Rattle.csv.specs.Row.{row_fields, row_text, carried}
+use Rattle.csv_paf.specs.Row.{row_fields, row_text, carried}
 use Rattle.csv_write.specs.declared.Ending.{Ending}
 use Rattle.csv_write.specs.Ending.{suffix_of}
 use Rattle.csv_write.specs.Pieces.{places_in, premises_in, row_in}

@@ -17,7 +17,7 @@ use Rattle.refusal.proofs.Outcomes.{answer-of}
 use Rattle.source.specs.Address.{Elements}
 use Rattle.label.specs.Label.{room_outcome}
 use Rattle.label.proofs.Room.{room_within}
-use Rattle.csv.specs.Row.{carried, written_outcome}
+use Rattle.csv_paf.specs.Row.{carried, written_outcome}
 
 -- the two bytes of a suffix
 pub suffix-bytes : (own : List ℕ) (at : ℕ) → at + 2 ≤ length own

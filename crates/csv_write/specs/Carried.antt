@@ -2,7 +2,7 @@
 -- Assumes nothing.
 use Rattle.std.specs.Prelude.{Bool, ◌&&◌}
 use Rattle.source.specs.Address.{Elements}
-use Rattle.csv.specs.Row.{plain}
+use Rattle.csv_paf.specs.Row.{plain}
 
 unfoldable pub places_plain : Elements → Bool
 places_plain e =

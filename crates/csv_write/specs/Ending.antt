@@ -6,7 +6,7 @@ use Rattle.refusal.specs.declared.Answer.{Answer}
 use Rattle.refusal.specs.Outcome.{Outcome}
 use Rattle.source.specs.declared.DeliveryPoint.{DeliveryPoint}
 use Rattle.source.specs.Address.{Elements}
-use Rattle.csv.specs.Row.{row_text, written_outcome}
+use Rattle.csv_paf.specs.Row.{row_text, written_outcome}
 use Rattle.csv_write.specs.declared.Ending.{Ending}
 
 abbrev pub suffix_of : Ending → List ℕ

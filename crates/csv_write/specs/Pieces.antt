@@ -6,7 +6,7 @@ use Rattle.label.specs.declared.Span.{Span}
 use Rattle.label.specs.declared.Spans.{Spans}
 use Rattle.label.specs.Lines.{spaced, street, number_text}
 use Rattle.label.specs.Spans.{text_in2, elements_in}
-use Rattle.csv.specs.Row.{indicator_mark}
+use Rattle.csv_paf.specs.Row.{indicator_mark}
 use Rattle.csv_write.specs.declared.Ending.{Ending}
 use Rattle.csv_write.specs.Ending.{row_by}
 

@@ -7,7 +7,7 @@ use Rattle.refusal.specs.declared.Answer.TheVariants.{Refused}
 use Rattle.refusal.specs.Outcome.{Outcome, said}
 use Rattle.source.specs.Address.{Lookup, Address}
 use Rattle.source.specs.Resolve.{resolve}
-use Rattle.csv.specs.Row.{row_outcome}
+use Rattle.csv_paf.specs.Row.{row_outcome}
 
 -- "7: no view or point of that number" where there is no place
 unfoldable pub placed_row : Lookup → Address → (place : ℕ) → List ℕ → Outcome Answer

@@ -1,7 +1,7 @@
 // Whether a row can carry its texts: none has a comma or a double quote, and no joined street is too long.
 ghost use Rattle.std.specs.Prelude.{◌≡◌, not};
 ghost use Rattle.label.specs.Spans.{text_in2, elements_in};
-ghost use Rattle.csv.specs.Row.{plain_byte, plain, street_fits, carried};
+ghost use Rattle.csv_paf.specs.Row.{plain_byte, plain, street_fits, carried};
 ghost use Rattle.csv_write.specs.Carried.{places_plain, premises_plain};
 
 use crate::length::street_len;

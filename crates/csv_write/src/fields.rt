@@ -1,7 +1,7 @@
 // The fields of a row, written at a place of a lent buffer. All else stays as it was.
 ghost use Rattle.std.specs.Prelude.{◌≡◌, ◌+◌, ◌≤◌, length};
 ghost use Rattle.label.specs.Put.{Wrote, Put};
-ghost use Rattle.csv.specs.Row.{indicator_mark};
+ghost use Rattle.csv_paf.specs.Row.{indicator_mark};
 ghost use Rattle.csv_write.specs.Pieces.{number_field, ending_text, field_in, street_in, postcode_in, places_in, premises_in, row_in};
 
 use crate::Ending;

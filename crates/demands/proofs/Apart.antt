@@ -18,9 +18,9 @@ use Rattle.pack_runs.specs.Runs.{pack_run}
 use Rattle.pack_items.specs.Lists.{pack_list}
 use Rattle.call.specs.Call.{source_of, lent_of, Call, of_table, of_points, of_views, of_letter, of_live, of_codes, of_main, of_main_live, of_main_codes, of_label, of_code_label, of_labels, of_code_labels, of_list, of_code_list, of_build, of_pack, of_pack_label, of_pack_labels, of_pack_list, of_pack_suffix, of_sector, of_unspace_table, of_unspace_points, of_csv_row, of_csv_rows, of_csv, of_csv_label, of_csv_labels, of_csv_list, of_book, of_book_live, of_book_event, of_book_tidy, outcome_of}
 use Rattle.demands.specs.Apart.{OfLabel, OfWhole, OfItem, SeriesApart, StopsBy, Apart, IsList, views_listed, code_listed, pack_listed, ListStops}
-use Rattle.csv.specs.Row.{view_rows}
-use Rattle.csv.specs.File.{rows_of}
-use Rattle.csv.specs.Ask.{csv_labels, csv_list}
+use Rattle.csv_paf.specs.Row.{view_rows}
+use Rattle.csv_paf.specs.File.{rows_of}
+use Rattle.csv_paf.specs.Ask.{csv_labels, csv_list}
 use Rattle.demands.specs.Apt.{WholeSays}
 use Rattle.demands.specs.Csv.{OfRow, OfCsvLabel, OfCsv, ForCsv, rows_written, rows_printed, rows_listed, CsvApart}
 use Rattle.demands.proofs.Csv.{rows-say, lent_rows, csv-whole, csv-labels-say, csv-list-says}

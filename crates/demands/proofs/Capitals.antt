@@ -43,8 +43,8 @@ use Rattle.mainfile.specs.Rows.{set_lookup}
 use Rattle.mainfile.specs.Addresses as Main
 use Rattle.mainfile.specs.Main.{number_line}
 use Rattle.mainfile_sound.proofs.Capitals.{views-printed}
-use Rattle.csv.specs.File.{fields_of, is_text, is_filled, padded, is_outward, outward_in, is_postcode, double_form, organisation_form}
-use Rattle.csv.specs.Ask.{row_elements, row_line}
+use Rattle.csv_paf.specs.File.{fields_of, is_text, is_filled, padded, is_outward, outward_in, is_postcode, double_form, organisation_form}
+use Rattle.csv_paf.specs.Ask.{row_elements, row_line}
 use Rattle.csv_spans.specs.Row.{GoodRow}
 use Rattle.csv_spans.proofs.Laws.{formed, short}
 use Rattle.csv_label.proofs.RowLaws.{accepted-row}

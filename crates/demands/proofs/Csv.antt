@@ -41,9 +41,9 @@ use Rattle.run.proofs.Count.{LabelSays}
 use Rattle.ask.specs.Source.{Source}
 use Rattle.ask.specs.Labels.{kth}
 use Rattle.ask.proofs.Kth.{kth-within, kth-all}
-use Rattle.csv.specs.Row.{row_fields, joined, row_text, plain_byte, carried, written_outcome, row_outcome, row_or, kth_row, view_row, view_rows}
-use Rattle.csv.specs.File.{fields_of, is_ended, rows_of, forms_for, field_fault, row_fault, first_bad_row, all_fit, judged_as, csv_judged}
-use Rattle.csv.specs.Ask.{filled, forbidden_in, row_resolved, kth_of, resolved_of, label_or, row_label, csv_label, csv_labels, row_line, row_item, csv_item, csv_list}
+use Rattle.csv_paf.specs.Row.{row_fields, joined, row_text, plain_byte, carried, written_outcome, row_outcome, row_or, kth_row, view_row, view_rows}
+use Rattle.csv_paf.specs.File.{fields_of, is_ended, rows_of, forms_for, field_fault, row_fault, first_bad_row, all_fit, judged_as, csv_judged}
+use Rattle.csv_paf.specs.Ask.{filled, forbidden_in, row_resolved, kth_of, resolved_of, label_or, row_label, csv_label, csv_labels, row_line, row_item, csv_item, csv_list}
 use Rattle.csv_label.proofs.RowLaws.{accepted-row, number-few, rows-within}
 use Rattle.csv_label.proofs.ShownLaws.{row-slim}
 use Rattle.csv_write.proofs.Sizes.{row-at-most-499}

@@ -81,9 +81,9 @@ use Rattle.demands.proofs.Says.{StopOf, StopSays, OneOf, SeriesOf, SeriesSays, c
 use Rattle.file_record.specs.Names.Table
 use Rattle.file_record.specs.Names.Point
 use Rattle.unspace_file.specs.Unspaced.{spaces_at, whole_records, last_start, unspaced_count}
-use Rattle.csv.specs.Row.{view_row, view_rows}
-use Rattle.csv.specs.File.{rows_of, csv_judged}
-use Rattle.csv.specs.Ask.{row_word, forbidden_in, row_resolved, kth_of, csv_label, csv_labels, row_line}
+use Rattle.csv_paf.specs.Row.{view_row, view_rows}
+use Rattle.csv_paf.specs.File.{rows_of, csv_judged}
+use Rattle.csv_paf.specs.Ask.{row_word, forbidden_in, row_resolved, kth_of, csv_label, csv_labels, row_line}
 use Rattle.csv_label.proofs.RowLaws.{number-few, rows-within}
 use Rattle.demands.specs.Apart.{OfLabel}
 use Rattle.demands.specs.Csv.{OfRow, OfCsvLabel, elements_for, CsvSays}

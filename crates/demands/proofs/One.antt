@@ -30,9 +30,9 @@ use Rattle.ask.specs.Runs.{views_run, code_run}
 use Rattle.ask.specs.Lists.{views_listed, code_listed, views_list, code_list}
 use Rattle.pack.specs.Layout.{pack_of}
 use Rattle.pack.specs.Cutting.{first_bad, cut_with, cut_outcome, pack_built}
-use Rattle.csv.specs.Row.{row_of, carried, written_outcome, row_outcome, row_or, kth_row, view_row, view_rows}
-use Rattle.csv.specs.File.{rows_of, csv_judged}
-use Rattle.csv.specs.Ask.{kth_of, resolved_of, label_or, row_label, csv_label, csv_labels, csv_list}
+use Rattle.csv_paf.specs.Row.{row_of, carried, written_outcome, row_outcome, row_or, kth_row, view_row, view_rows}
+use Rattle.csv_paf.specs.File.{rows_of, csv_judged}
+use Rattle.csv_paf.specs.Ask.{kth_of, resolved_of, label_or, row_label, csv_label, csv_labels, csv_list}
 use Rattle.pack.specs.Opening.{opened}
 use Rattle.pack.specs.Points.{elements_at, point_place, is_point, point_label, pack_label}
 use Rattle.pack_runs.specs.Runs.{pack_run}

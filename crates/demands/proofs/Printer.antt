@@ -16,8 +16,8 @@ use Rattle.label.specs.Label.{label_of, room_outcome, resolved_outcome}
 use Rattle.ask.specs.Source.{Source, in_code}
 use Rattle.ask.specs.Labels.{kth, label_outcome, kth_label, view_label, code_label}
 use Rattle.ask.proofs.Laws.{by-good-code}
-use Rattle.csv.specs.File.{fields_of, rows_of, csv_judged}
-use Rattle.csv.specs.Ask.{row_elements, forbidden_in, row_resolved, kth_of, resolved_of, label_or, row_label, csv_label}
+use Rattle.csv_paf.specs.File.{fields_of, rows_of, csv_judged}
+use Rattle.csv_paf.specs.Ask.{row_elements, forbidden_in, row_resolved, kth_of, resolved_of, label_or, row_label, csv_label}
 use Rattle.pack.specs.Opening.{point_count, opened}
 use Rattle.pack.specs.Points.{elements_at, point_place, is_point, point_label, pack_label}
 use Rattle.pack_open.proofs.Opened.{opened-all}

@@ -18,9 +18,9 @@ use Rattle.label.specs.Lines.{lines_of}
 use Rattle.label.specs.Label.{label_of}
 use Rattle.ask.specs.Source.{Source}
 use Rattle.ask.specs.Labels.{kth}
-use Rattle.csv.specs.Row.{row_of, carried, view_row}
-use Rattle.csv.specs.File.{fields_of, rows_of, row_fault, all_fit, csv_judged}
-use Rattle.csv.specs.Ask.{row_elements, forbidden_in, kth_of, csv_label, row_line}
+use Rattle.csv_paf.specs.Row.{row_of, carried, view_row}
+use Rattle.csv_paf.specs.File.{fields_of, rows_of, row_fault, all_fit, csv_judged}
+use Rattle.csv_paf.specs.Ask.{row_elements, forbidden_in, kth_of, csv_label, row_line}
 use Rattle.csv_back.specs.Back.{ViewBack, RunBack}
 use Rattle.call.specs.Call.{Files, Call, of_csv_rows, of_csv_labels, of_csv_list, Saying, one, run}
 use Rattle.demands.specs.Two.{written, too_short, Printed, refused_as, Bounded, NoneSmall}

@@ -6,7 +6,7 @@ use Rattle.refusal.specs.Packed.{packed, FitsRefusal, Fits}
 use Rattle.run.specs.declared.Series.{Series}
 use Rattle.run.specs.declared.Series.TheVariants.{Unasked, Stopped, Done}
 use Rattle.run.specs.Packed.{packed_series, series_bytes}
-use Rattle.csv.specs.File.{rows_of}
+use Rattle.csv_paf.specs.File.{rows_of}
 use Rattle.pack.specs.Opening.{point_count}
 use Rattle.call.specs.Call.{Call, of_pack, of_pack_labels, of_pack_list, of_sector, of_csv, of_csv_label, of_csv_labels, of_csv_list, Saying, one, run, outcome_of, number_of}
 

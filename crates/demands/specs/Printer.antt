@@ -10,8 +10,8 @@ use Rattle.source.specs.Resolve.{elements_of}
 use Rattle.label.specs.Label.{label_of, room_outcome}
 use Rattle.ask.specs.Source.{in_code}
 use Rattle.ask.specs.Labels.{kth}
-use Rattle.csv.specs.File.{fields_of, rows_of, csv_judged}
-use Rattle.csv.specs.Ask.{row_elements, forbidden_in, kth_of}
+use Rattle.csv_paf.specs.File.{fields_of, rows_of, csv_judged}
+use Rattle.csv_paf.specs.Ask.{row_elements, forbidden_in, kth_of}
 use Rattle.pack.specs.Opening.{opened}
 use Rattle.pack.specs.Points.{elements_at, point_place}
 use Rattle.call.specs.Call.{Lent, source_of, Call, of_label, of_code_label, of_pack_label, of_csv_label, Saying, writing}

@@ -19,7 +19,7 @@ use Rattle.mainfile.specs.Addresses.{address_of, addresses_from, addresses_in}
 use Rattle.mainfile.specs.Main.{main_of}
 use Rattle.mainfile_views.specs.Range.{views_in}
 use Rattle.mainfile_label.proofs.Laws.{resolve-number, kth-zero, kth-there, kth-none}
-use Rattle.csv.specs.Row.{kth_row, view_row, view_rows}
+use Rattle.csv_paf.specs.Row.{kth_row, view_row, view_rows}
 use Rattle.csv_write.proofs.Placed.{Alike, placed-none, placed-kth}
 use Rattle.mainfile_csv.specs.Rows.{address_at, place_row, rows_among}
 

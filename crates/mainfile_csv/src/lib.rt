@@ -6,7 +6,7 @@ ghost use Rattle.std.specs.Prelude.{◌≡◌};
 ghost use Rattle.refusal.specs.Outcome.{said};
 ghost use Rattle.mainfile.specs.Set.{set_of};
 ghost use Rattle.mainfile.specs.Main.{main_of};
-ghost use Rattle.csv.specs.Row.{view_row, view_rows};
+ghost use Rattle.csv_paf.specs.Row.{view_row, view_rows};
 
 use mainfile_check::check_set;
 use mainfile_label::inner::place_among;

@@ -18,7 +18,7 @@ use Rattle.ask.specs.Source.{Source}
 use Rattle.ask.specs.Labels.{view_label, code_label}
 use Rattle.ask.specs.Runs.{views_run, code_run}
 use Rattle.ask.specs.Lists.{views_list, code_list}
-use Rattle.csv.specs.Row.{view_row, view_rows}
+use Rattle.csv_paf.specs.Row.{view_row, view_rows}
 use Rattle.pack.specs.Cutting.{pack_built}
 use Rattle.changes_pair.specs.Pair.{pair_of}
 use Rattle.unspace_file.proofs.Kept.{length-unspaced, unspaced-outside, unspaced-again}

@@ -12,7 +12,7 @@ use Rattle.ask.specs.Source.{Source}
 use Rattle.ask.specs.Labels.{view_label, code_label}
 use Rattle.ask.specs.Runs.{views_run, code_run}
 use Rattle.ask.specs.Lists.{views_list, code_list}
-use Rattle.csv.specs.Row.{view_row, view_rows}
+use Rattle.csv_paf.specs.Row.{view_row, view_rows}
 use Rattle.pack.specs.Cutting.{pack_built}
 use Rattle.changes_views.specs.Views.{wanted_count, wanted_at}
 use Rattle.changes_list.specs.Listing.{views_answer, letter_at, letter_answer, live_at, live_answer}

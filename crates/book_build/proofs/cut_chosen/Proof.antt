@@ -52,7 +52,7 @@ returns : tie.Need-returns-in-Fine
 returns c =
     let w = c in
     let m = w in
-    let b = s m.before.before.before.before in
+    let b = s m.before.before.before.before.before.before.before.before.before.before.before.before.before in
     let told = w.in-Fine.is in
     w.write_if_room.ensures
     ∙ sym (cut_as b.pre.packable b.args.out.now Fine (sym m.mark_chosen.ensures.said ∙ told))
@@ -61,7 +61,7 @@ returns-2 : tie.Need-returns-in-Bad
 returns-2 c =
     let k = c in
     let m = k in
-    let b = s m.before.before.before.before in
+    let b = s m.before.before.before.before.before.before in
     sym
     (cut_as b.pre.packable b.args.out.now (Bad k.in-Bad.reason)
     (sym m.mark_chosen.ensures.said ∙ k.in-Bad.is))

@@ -134,7 +134,7 @@ write-pack-requires c κs =
 returns-2 : tie.Need-returns
 returns-2 c =
     let p = c in
-    let o = p.before.before.before.before.before.before.before.before in
+    let o = p.before.before.before.before.before.before.before.before.before.before in
     let out = (s o).args.out.now in
     let is = written (may o).packable (s o).requires.1.1 (placed o) in
     let fits : length (pack o) ≤ length out = omega (arith, whole o) in

@@ -19,7 +19,7 @@ unfolding code_label
 returns c =
     let f = c in
     let t = f in
-    let k = t.before in
+    let k = t.before.before.before in
     let a = (start k).args in
     sym
     (by-bad-code Refused a.code.now a.out.now _ (book_of a.book.now a.table.now)
@@ -28,7 +28,7 @@ returns c =
 label-among-requires : tie.Need-label_among-requires
 label-among-requires c κs =
     let t = c in
-    let k = t.before.before in
+    let k = t.before.before.before.before in
     let a = (start k).args in
     let taken = sym k.check_source.ensures ∙ t.in-Value.is in
     (book-good a.book.now a.table.now taken, table-accepted a.book.now a.table.now taken)
@@ -39,7 +39,7 @@ returns-2 c =
     let good = w in
     let f = good in
     let t = f in
-    let k = t.before in
+    let k = t.before.before.before.before.before.before.before in
     let a = (start k).args in
     w.label_among.ensures
     ∙ code-label a.book.now a.table.now (sym k.check_source.ensures ∙ t.in-Value.is) a.code.now

@@ -25,7 +25,7 @@ returns : tie.Need-returns-in-Value
 returns c =
     let w = c in
     let t = w in
-    let k = t.before.before in
+    let k = t.before.before.before.before.before.before in
     let a = (start k).args in
     let taken = sym k.check_source.ensures ∙ t.in-Value.is in
     w.label_among.ensures ∙ view-label a.book.now a.table.now taken a.place a.out.now

@@ -53,7 +53,7 @@ returns : tie.Need-returns-in-Fine
 returns c =
     let w = c in
     let m = w in
-    let b = s m.before.before.before.before in
+    let b = s m.before.before.before.before.before.before.before.before.before.before.before.before.before in
     let a = b.args in
     let told = w.in-Fine.is in
     w.write_if_room.ensures
@@ -65,7 +65,7 @@ returns-2 : tie.Need-returns-in-Bad
 returns-2 c =
     let k = c in
     let m = k in
-    let b = s m.before.before.before.before in
+    let b = s m.before.before.before.before.before.before in
     let a = b.args in
     sym
     (cut_as (packable a.table.now a.points.now a.code.now b.pre) a.out.now (Bad k.in-Bad.reason)

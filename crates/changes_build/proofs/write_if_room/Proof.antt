@@ -135,7 +135,7 @@ write-pack-requires c κs =
 returns-2 : tie.Need-returns
 returns-2 c =
     let p = c in
-    let w = p.before.before.before.before.before.before.before.before in
+    let w = p.before.before.before.before.before.before.before.before.before.before in
     let out = (s w).args.out.now in
     let is = written (ready w) (s w).requires.1.1 (placed w) in
     let fits : length (pack w) ≤ length out = omega (arith, whole w) in

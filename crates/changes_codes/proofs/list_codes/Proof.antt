@@ -64,7 +64,7 @@ write-if-room-requires c κs =
 returns : tie.Need-returns
 returns c =
     let w = c in
-    let q = w.before.before.before.before.before.before in
+    let q = w.before.before.before.before.before.before.before.before in
     w.write_if_room.ensures ∙ told q.count_codes-k.ensures (points q) _ (listed q) (s q).args.out.now
 
 pub list_codes_spec : {M : Type 1} → statement M

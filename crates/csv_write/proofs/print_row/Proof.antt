@@ -9,7 +9,7 @@ use lib.ListN.{length}
 use Rattle.source.specs.Address.{Elements}
 use Rattle.label.specs.Spans.{elements_in}
 use Rattle.label.proofs.Room.{counted-short, counted-written}
-use Rattle.csv.specs.Row.{carried}
+use Rattle.csv_paf.specs.Row.{carried}
 use Rattle.csv_write.specs.Pieces.{row_in}
 use Rattle.csv_write.proofs.Written.{written-carried, written-not}
 use Rattle.csv_write.proofs.print_row.Statement.{statement}
@@ -43,7 +43,7 @@ fits c = (c.needed_of-needed.ensures (start c.before.before).args.x).0 (omega (a
 returns-2 : tie.Need-returns-then-is_carried
 returns-2 c =
     let written = c in
-    let room = written.before.before in
+    let room = written.before.before.before.before in
     let kept = room.before.before in
     let out = (start kept).args.out.now in
     counted-written (row kept) out (fits room) written.write_row.ensures.size written.write_row.ensures.is

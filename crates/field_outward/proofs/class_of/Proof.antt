@@ -12,19 +12,19 @@ returns c = sym (ap class c.in-32.is)
 
 returns-2 : tie.Need-returns-in-48-to-57
 unfolding class
-returns-2 c = sym (run_at class 2 48 10 refl _ c.if-b-lt48.false c.in-48-to-57.if-b-lt58-own.true)
+returns-2 c = sym (run_at class 2 48 10 refl _ c.in-48-to-57.if-b-lt48-own.false c.in-48-to-57.if-b-lt58-own.true)
 
 returns-3 : tie.Need-returns-in-65-to-90
 unfolding class
-returns-3 c = sym (run_at class 1 65 26 refl _ c.if-b-lt65.false c.in-65-to-90.if-b-lt91-own.true)
+returns-3 c = sym (run_at class 1 65 26 refl _ c.in-65-to-90.if-b-lt65-own.false c.in-65-to-90.if-b-lt91-own.true)
 
 returns-4 : tie.Need-returns-in_default
 unfolding class
-returns-4 c = sym (run-but class 3 32 0 48 refl _ (omega arith) c.in_default.if-b-lt48-own.true c.in_default-1.rest.1)
+returns-4 c = sym (run-but class 3 32 0 48 refl _ (omega arith) c.in_default.if-b-lt48-own.true c.in_default.in_default-own.rest.1)
 
 returns-5 : tie.Need-returns-in_default-2
 unfolding class
-returns-5 c = sym (run_at class 3 58 7 refl _ c.if-b-lt58.false c.in_default.if-b-lt65-own.true)
+returns-5 c = sym (run_at class 3 58 7 refl _ c.in_default.if-b-lt58-own.false c.in_default.if-b-lt65-own.true)
 
 returns-6 : tie.Need-returns-in_default-3
 unfolding class

@@ -28,5 +28,4 @@ returns-3 c =
 pub is_allowed_spec : {M : Type 1} → statement M
 is_allowed_spec =
     tie.close
-    (tie.spec (search rules) (search rules) (search rules) (search rules) (search rules) (search rules) returns
-    returns-2 returns-3)
+    (tie.spec (search rules) (search rules) (search rules) returns returns-2 returns-3)

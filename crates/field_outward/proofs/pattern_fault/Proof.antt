@@ -51,7 +51,7 @@ returns c =
     let first = m in
     let g = first.args in
     rw (c.unless.ensures, first.is_allowed-first.ensures)
-    (sym (one-letter g.a g.b g.c g.d (rw (classes first.before) at m.in-1200.is)))
+    (sym (one-letter g.a g.b g.c g.d (rw (classes first.before.before.before) at m.in-1200.is)))
 
 returns-2 : tie.Need-returns-in-1120
 returns-2 c =
@@ -60,7 +60,7 @@ returns-2 c =
     let first = m in
     let g = first.args in
     rw (c.unless-in-1120-2.ensures, c.unless-in-1120.ensures, second.is_allowed.ensures, first.is_allowed-first.ensures)
-    (sym (two-letters g.a g.b g.c g.d (rw (classes first.before) at m.in-1120.is)))
+    (sym (two-letters g.a g.b g.c g.d (rw (classes first.before.before.before.before.before) at m.in-1120.is)))
 
 returns-3 : tie.Need-returns-in-1210
 returns-3 c =
@@ -69,7 +69,7 @@ returns-3 c =
     let first = m in
     let g = first.args in
     rw (c.unless-in-1210-2.ensures, c.unless-in-1210.ensures, second.is_allowed-in-1210.ensures, first.is_allowed-first.ensures)
-    (sym (apart-letters g.a g.b g.c g.d (rw (classes first.before) at m.in-1210.is)))
+    (sym (apart-letters g.a g.b g.c g.d (rw (classes first.before.before.before.before.before) at m.in-1210.is)))
 
 returns-4 : tie.Need-returns-in-1121
 returns-4 c =
@@ -86,7 +86,7 @@ returns-4 c =
       third.is_allowed-in-1121.ensures,
       first.is_allowed-first.ensures,
     )
-    (sym (three-letters g.a g.b g.c g.d (rw (classes first.before) at m.in-1121.is)))
+    (sym (three-letters g.a g.b g.c g.d (rw (classes first.before.before.before.before.before.before.before) at m.in-1121.is)))
 
 returns-5 : tie.Need-returns-in_default
 returns-5 c =

@@ -31,7 +31,7 @@ module _ (room : tie.Else-out-needed) where
 returns-2 : tie.Need-returns
 returns-2 c =
     let written = c in
-    let room = written.before.before in
+    let room = written.before.before.before.before in
     counted-written (text room) (start room).args.out.now (fits room) written.write_label.ensures.0
     written.write_label.ensures.1
 

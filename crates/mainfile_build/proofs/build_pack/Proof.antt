@@ -26,7 +26,7 @@ unfolding pack_built
 returns c =
     let f = c in
     let t = f in
-    let k = t.before in
+    let k = t.before.before.before in
     let a = (start k).args in
     sym
     (by-bad-code Refused a.code.now a.out.now _ (main_of (files k))
@@ -36,7 +36,7 @@ cut-requires : tie.Need-cut-requires
 cut-requires c κs =
     let f = c in
     let t = f in
-    let k = t.before in
+    let k = t.before.before.before.before in
     record {
       of_set = set-accepted (files k) (sym k.check_set.ensures ∙ t.in-Value.is);
       of_code = rw f.outward_fault.ensures at c.if-outward_fault-ne0.false;
@@ -49,7 +49,7 @@ returns-2 c =
     let i = l in
     let f = i in
     let t = f in
-    let k = t.before in
+    let k = t.before.before.before.before.before.before.before in
     let a = (start k).args in
     l.cut.ensures
     ∙ sym

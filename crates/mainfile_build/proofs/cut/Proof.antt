@@ -72,7 +72,7 @@ returns : tie.Need-returns-in-Fine
 returns c =
     let w = c in
     let t = w in
-    let m = t.before.before.before.before.before.before in
+    let m = t.before.before.before.before.before.before.before.before.before.before.before.before.before.before.before in
     let f = found m in
     w.write_if_room.ensures
     ∙ sym
@@ -81,7 +81,7 @@ returns c =
 returns-2 : tie.Need-returns-in-Bad
 returns-2 c =
     let k = c in
-    let m = k.before.before.before.before.before in
+    let m = k.before.before.before.before.before.before in
     let f = found m in
     sym
     (cut_as (files f) (code f) (start f).args.out.now (start f).pre (Bad k.in-Bad.reason)

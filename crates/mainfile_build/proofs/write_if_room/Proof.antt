@@ -165,7 +165,7 @@ write-pack-requires c κs =
 returns-2 : tie.Need-returns
 returns-2 c =
     let p = c in
-    let o = p.before.before.before.before.before.before.before.before.before.before.before.before in
+    let o = p.before.before.before.before.before.before.before.before.before.before.before.before.before.before in
     let f = k o in
     let out = (start f).args.out.now in
     let is = written (files f) (code f) (l f) (t f) (d f) (b f) (s f) (marked f) in

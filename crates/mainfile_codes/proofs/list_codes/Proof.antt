@@ -41,14 +41,14 @@ returns c =
 write-codes-requires : tie.Need-write_codes-requires
 write-codes-requires c κs =
     let e = c in
-    let k = e.before in
+    let k = e.before.before in
     ((s k).requires, omega (arith, needed k, e.if-out-needed.false))
 
 returns-2 : tie.Need-returns
 returns-2 c =
     let w = c in
     let e = w in
-    let k = e.before in
+    let k = e.before.before.before.before.before in
     said-as (ap Value k.count_codes-n.ensures.0) w.write_codes.ensures.is
     ∙ sym (fits (length (es k)) (entry_bytes (es k)) (out k) (omega (arith, needed k, e.if-out-needed.false)))
 

@@ -8,7 +8,7 @@ use Rattle.run.specs.Series.{run_from}
 use Rattle.mainfile.specs.Set.{Set, set_of}
 use Rattle.mainfile_check.proofs.Laws.{set-accepted}
 use Rattle.mainfile_label.proofs.Laws.{all-between}
-use Rattle.csv.specs.Row.{view_rows}
+use Rattle.csv_paf.specs.Row.{view_rows}
 use Rattle.mainfile_csv.specs.Rows.{rows_among}
 use Rattle.mainfile_csv.proofs.Laws.{rows-by-place}
 use Rattle.mainfile_csv.proofs.rows_of_views.Statement.{statement}
@@ -38,7 +38,7 @@ returns c =
     let w = c in
     let all = w in
     let t = all in
-    let k = t.before in
+    let k = t.before.before.before.before.before.before in
     let a = (start k).args in
     w.walk.ensures
     ∙ (ap₂ (λ (n m : ℕ). run_from (rows_among (files k) n m) a.first a.count a.out.now)

@@ -59,7 +59,7 @@ returns : tie.Need-returns-then-outward_fault-ne0
 unfolding code_label
 returns c =
     let f = c in
-    let t = f.before in
+    let t = f.before.before in
     let k = judged t in
     let a = (start k).args in
     sym
@@ -80,7 +80,7 @@ label-at-requires c κs =
 returns-2 : tie.Need-returns-else-outward_fault-ne0
 returns-2 c =
     let l = c in
-    let p = l.before.before in
+    let p = l.before.before.before.before in
     let f = (good p).before in
     let t = told p in
     let k = judged t in

@@ -60,7 +60,7 @@ label-at-requires c κs =
 returns : tie.Need-returns-in-Value
 returns c =
     let l = c in
-    let p = l.before.before in
+    let p = l.before.before.before.before in
     let t = told p in
     let k = judged t in
     let a = (start k).args in

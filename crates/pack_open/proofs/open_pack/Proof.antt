@@ -112,7 +112,7 @@ returns-2 c =
 all-points-good-requires : tie.Need-all_points_good-requires
 all-points-good-requires c κs =
     let e = c in
-    let g = e.before in
+    let g = e.before.before in
     (sized (past g), ((past g).layout_in-layout.ensures, kept g (e.if-not-all_rows_good.false)))
 
 returns-3 : tie.Need-returns-then-not-all_points_good
@@ -120,7 +120,7 @@ unfolding opened
 returns-3 c =
     let p = c in
     let e = p in
-    let g = e.before in
+    let g = e.before.before.before.before.before.before in
     rw c.bad_pack-then-not-all_points_good.ensures
     (simp (
       trailer (past g),
@@ -152,7 +152,7 @@ returns-4 : tie.Need-returns-then-not-counts_good
 unfolding opened
 returns-4 c =
     let asked = c in
-    let e = asked.before in
+    let e = asked.before.before.before in
     rw c.bad_pack-then-not-counts_good.ensures
     (simp (
       trailer (past (of_rows e)),
@@ -169,7 +169,7 @@ unfolding opened
 returns-5 c =
     let last = c in
     let asked = last in
-    let e = asked.before in
+    let e = asked.before.before.before in
     rw c.trailer_number.ensures.0
     (simp (
       trailer (past (of_rows e)),

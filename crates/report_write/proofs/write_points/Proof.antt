@@ -18,7 +18,7 @@ returns c =
 write-pair-requires : tie.Need-write_pair-requires
 write-pair-requires c κs =
     let k = c in
-    let s = k.before.before.before.before.before in
+    let s = k.before.before.before.before.before.before.before.before.before in
     (accepted table_format s.args.table.now s.args.t s.requires, accepted point_format s.args.points.now _ (sym k.check_points.ensures ∙ c.in-Value.is))
 
 returns-2 : tie.Need-returns-in-Value
@@ -38,6 +38,4 @@ returns-3 c =
 pub write_points_spec : {M : Type 1} → statement M
 write_points_spec =
     tie.close
-    (tie.spec (search rules) (search rules) (search rules) returns (search rules) (search rules)
-    write-pair-requires (search rules) (search rules) (search rules) (search rules) returns-2 (search rules)
-    returns-3)
+    (tie.spec (search rules) (search rules) returns (search rules) (search rules) write-pair-requires (search rules) (search rules) (search rules) returns-2 (search rules) returns-3)

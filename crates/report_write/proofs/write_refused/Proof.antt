@@ -14,4 +14,4 @@ returns c =
 pub write_refused_spec : {M : Type 1} → statement M
 write_refused_spec =
     tie.close
-    (tie.spec (search rules) (search rules) (search rules) (search rules) (search rules) returns)
+    (tie.spec (search rules) (search rules) (search rules) (search rules) returns)

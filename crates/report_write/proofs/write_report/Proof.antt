@@ -34,6 +34,4 @@ returns-3 c =
 pub write_report_spec : {M : Type 1} → statement M
 write_report_spec =
     tie.close
-    (tie.spec (search rules) (search rules) (search rules) returns (search rules) (search rules)
-    write-points-requires (search rules) (search rules) (search rules) (search rules) returns-2 (search rules)
-    returns-3)
+    (tie.spec (search rules) (search rules) returns (search rules) (search rules) write-points-requires (search rules) (search rules) (search rules) returns-2 (search rules) returns-3)

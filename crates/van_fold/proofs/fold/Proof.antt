@@ -47,7 +47,7 @@ fits c =
 returns-3 : tie.Need-returns
 returns-3 c =
     let w = c in
-    let e = w.before.before in
+    let e = w.before.before.before.before in
     let n = e.before.before.before in
     counted-folded (text n) (out n) (rows_are n) e.if-size-gt-ROWS.false (fits e) w.write_text.ensures
 

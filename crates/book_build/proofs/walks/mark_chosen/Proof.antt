@@ -103,7 +103,7 @@ returns : tie.Need-returns-in-Bad invariant-loop decreases-loop
 returns c =
     let w = c in
     let m = w in
-    let r = m.before.before in
+    let r = m.before.before.before.before.before.before.before in
     let bad = sym (m.mark_point.ensures.0 ∙ refusal_is r) ∙ w.in-Bad.is in
     record {
       said =
@@ -121,7 +121,7 @@ add-i c =
 loop-again : tie.Need-loop-i-preserved invariant-loop decreases-loop
 loop-again c =
     let m = c in
-    let r = m.before.before in
+    let r = m.before.before.before.before.before in
     let told = c.in-Fine.is in (
       m.mark_point.auto.1.1.0 ∙ (l r).loop-i.invariant.0,
       omega (arith, high r),

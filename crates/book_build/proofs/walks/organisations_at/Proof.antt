@@ -78,7 +78,7 @@ add-i c =
 loop-again : tie.Need-loop-i-preserved invariant-loop decreases-loop
 loop-again c =
     let w = c in
-    let d = w.before.before in (
+    let d = w.before.before.before.before in (
       w.organisation_at-end.auto.1.1.1.1.0 ∙ (l d).loop-i.invariant.0,
       omega (arith, high d),
       organisation-on (next d) (rest d) (s d).requires.1 (book d) (left d)

@@ -74,7 +74,7 @@ add-i c =
 loop-again : tie.Need-loop-i-preserved invariant-loop decreases-loop
 loop-again c =
     let o = c in
-    let d = o.before in
+    let d = o.before.before in
     let i = (l d).loop-i.i in
     let same = d.delivery_of-p.ensures in
     let len = c.organisation_len-bytes.ensures.0 ∙ ap (λ (p : DeliveryPoint). length (organisation_row (book d) p)) same in

@@ -151,7 +151,7 @@ add-i c =
 loop-again : tie.Need-loop-i-preserved invariant-loop decreases-loop
 loop-again c =
     let w = c in
-    let k = w.before.before in (
+    let k = w.before.before.before.before.before in (
       w.point_at-end.auto.1.1.1.1.1.0 ∙ (l k).loop-i.invariant.0,
       omega (arith, high k),
       omega (arith, more k, len c, (l k).loop-i.invariant.2),

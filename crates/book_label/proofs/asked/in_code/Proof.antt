@@ -16,7 +16,7 @@ returns : tie.Need-returns-then-outward_fault-ne0
 returns c =
     let f = c in
     let t = f in
-    let k = t.before in
+    let k = t.before.before.before in
     let a = (start k).args in
     code_refused (book_of a.book.now a.table.now) (sym k.check_source.ensures ∙ t.in-Value.is)
     a.first a.count a.out.now a.code.now (rw f.outward_fault.ensures at c.if-outward_fault-ne0.true) a.listed
@@ -24,7 +24,7 @@ returns c =
 walk-requires : tie.Need-walk-requires
 walk-requires c κs =
     let t = c in
-    let k = t.before.before in
+    let k = t.before.before.before.before in
     let a = (start k).args in
     let taken = sym k.check_source.ensures ∙ t.in-Value.is in
     (book-good a.book.now a.table.now taken, table-accepted a.book.now a.table.now taken)
@@ -35,7 +35,7 @@ returns-2 c =
     let good = w in
     let f = good in
     let t = f in
-    let k = t.before in
+    let k = t.before.before.before.before.before.before.before in
     let a = (start k).args in
     let taken = sym k.check_source.ensures ∙ t.in-Value.is in
     let clean = rw f.outward_fault.ensures at good.if-outward_fault-ne0.false in

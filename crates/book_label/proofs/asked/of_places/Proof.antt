@@ -24,7 +24,7 @@ returns : tie.Need-returns-in-Value
 returns c =
     let w = c in
     let t = w in
-    let k = t.before.before in
+    let k = t.before.before.before.before.before.before in
     let a = (start k).args in
     let taken = sym k.check_source.ensures ∙ t.in-Value.is in
     w.walk.ensures

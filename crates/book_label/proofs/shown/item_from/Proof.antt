@@ -72,7 +72,7 @@ headed-item-requires c κs =
 returns-2 : tie.Need-returns
 returns-2 c =
     let whole = c in
-    let l = whole.before.before.before.before in
+    let l = whole.before.before.before.before.before.before in
     let s = start (found l) in
     let a = s.args in
     rw (line-is (found l)) at whole.headed_item.ensures
@@ -84,14 +84,4 @@ returns-2 c =
 pub item_from_spec : {M : Type 1} → statement M
 item_from_spec =
     tie.close
-    (tie.spec returns (search rules)
-    (λ c κs. let e = c in e.requires.inside e.if-at-eq0.false)
-    (λ c κs. search rules)
-    (search rules)
-    (λ c. sym (length-take-le _ _ c.worded_line-line.ensures.within))
-    (λ c κs. search rules)
-    within
-    (λ c. let h = within c in search rules)
-    (search rules)
-    (λ c κs. search rules)
-    headed-item-requires (search rules) returns-2)
+    (tie.spec returns (search rules) (search rules) (search rules) (search rules) (search rules) (search rules) (search rules) (search rules) (search rules) headed-item-requires (search rules) returns-2)

@@ -28,7 +28,7 @@ label-there-requires c κs =
 returns-2 : tie.Need-returns
 returns-2 c =
     let l = c in
-    let e = l.before.before.before in
+    let e = l.before.before.before.before.before in
     let a = (start e).args in
     l.label_there.ensures ∙ sym (shown-some false a.table.now a.book.now a.at a.out.now e.if-at-eq0.false)
 

@@ -38,7 +38,7 @@ module _ (f : tie.After-start_among) where
 returns : tie.Need-returns
 returns c =
     let l = c in
-    let f = l.before.before in
+    let f = l.before.before.before.before in
     let a = (start f).args in
     l.label_from.ensures ∙ ap (λ at. shown_from false a.table.now a.book.now at a.out.now) (found f)
 

@@ -30,7 +30,7 @@ run-starts-requires c κs =
 returns : tie.Need-returns
 returns c =
     let w = c in
-    let f = w.before.before.before.before in
+    let f = w.before.before.before.before.before.before in
     let a = (start f).args in
     w.run_starts.ensures
     ∙ ap

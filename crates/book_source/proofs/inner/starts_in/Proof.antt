@@ -126,11 +126,11 @@ returns c =
     let l = c in
     let none : l.number_within-count.result - l.loop-i.i ≡ 0 = omega arith in
     record {
-      few = omega (arith, count-is l.before, (facts l.before).few, l.loop-i.invariant.0, l.loop-i.invariant.1.0);
+      few = omega (arith, count-is l.before.before, (facts l.before.before).few, l.loop-i.invariant.0, l.loop-i.invariant.1.0);
       long = l.loop-i.invariant.1.1.0;
       are =
           sym (append-nil (take l.loop-i.many l.loop-i.at))
-          ∙ (ap (λ n. take l.loop-i.many l.loop-i.at ++ starts_from (code l.before) (book l.before) n (suc l.loop-i.i))
+          ∙ (ap (λ n. take l.loop-i.many l.loop-i.at ++ starts_from (code l.before.before) (book l.before.before) n (suc l.loop-i.i))
           (sym none) ∙ l.loop-i.invariant.1.1.1);
     }
 

@@ -27,21 +27,21 @@ loop-holds c = (omega arith, refl, refl)
 mul-marks : tie.Need-offset_bounds-marks-row invariant-loop decreases-loop
 mul-marks c =
     let l = c in
-    let s = l.before in
+    let s = l.before.before.before in
     let seven : length s.args.rows ≡ 7 = seven-rows s in
     omega (arith, below_at (length s.args.marks.now) s.args.rows s.requires l.loop-i.i (omega arith))
 
 slice-write-marks : tie.Need-bounds-marks-row invariant-loop decreases-loop
 slice-write-marks c =
     let l = c in
-    let s = l.before in
+    let s = l.before.before.before in
     let seven : length s.args.rows ≡ 7 = seven-rows s in
     omega (arith, below_at (length s.args.marks.now) s.args.rows s.requires l.loop-i.i (omega arith))
 
 loop-again : tie.Need-loop-i-preserved invariant-loop decreases-loop
 loop-again c =
     let l = c in
-    let s = l.before in
+    let s = l.before.before.before in
     let i = l.loop-i.i in
     let rows = s.args.rows in
     let seven : length rows ≡ 7 = seven-rows s in
@@ -58,7 +58,7 @@ loop-again c =
 returns : tie.Need-returns invariant-loop decreases-loop
 returns c =
     let l = c in
-    let s = l.before in
+    let s = l.before.before in
     let rows = s.args.rows in
     let seven : length rows ≡ 7 = seven-rows s in
     sym (l.loop-i.invariant.2 ∙ mark-end rows l.loop-i.marks l.loop-i.i (omega arith))

@@ -49,7 +49,7 @@ text-at-requires-2 : tie.Need-text_at-requires
 text-at-requires-2 c κs =
     let width = c in
     let at-if = width in
-    let s = at-if.before.before.before in
+    let s = at-if.before.before.before.before.before.before in
     let a = s.args in
     let w = width.text_width in
     let same = other-bytes a.s a.kind a.rec.now w.result at-if.if-kind-eq1.false w.ensures.0 in

@@ -99,7 +99,7 @@ returns : tie.Need-returns-in-Bad invariant-loop decreases-loop
 returns c =
     let w = c in
     let m = w in
-    let r = m.before.before in
+    let r = m.before.before.before.before.before.before.before in
     let bad = sym (m.mark_point.ensures.0 ∙ refusal_is r) ∙ w.in-Bad.is in
     record {
       said =
@@ -117,7 +117,7 @@ loop-again : tie.Need-loop-at-preserved invariant-loop decreases-loop
 loop-again c =
     let e = c in
     let m = e in
-    let r = m.before.before in
+    let r = m.before.before.before.before.before.before in
     let told = e.in-Fine.is in
     rw c.next_wanted-at-in-loop-at.ensures (
       m.mark_point.auto.1.1.0 ∙ (l r).loop-at.invariant.0,

@@ -54,7 +54,7 @@ loop-less c =
 loop-again : tie.Need-loop-at-preserved invariant-loop decreases-loop
 loop-again c =
     let n = c in
-    let t = n.before in
+    let t = n.before.before in
     let o = t in
     let d = o in
     let l = d in

@@ -148,7 +148,7 @@ loop-again : tie.Need-loop-place-preserved invariant-loop decreases-loop
 loop-again c =
     let o = c.before in
     let w = o in
-    let k = w.before.before in
+    let k = w.before.before.before.before.before in
     let i = (l k).loop-place.place in
     rw c.next_wanted-place-in-loop-place.ensures (
       w.point_at-end.auto.1.1.1.1.1.0 ∙ (l k).loop-place.invariant.0,

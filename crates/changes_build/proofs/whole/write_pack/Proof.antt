@@ -168,7 +168,7 @@ trailer-at-requires c κs =
 returns : tie.Need-returns
 returns c =
     let behind-trailer-at = c in
-    let at-points = behind-trailer-at.before.before.before.before in
+    let at-points = behind-trailer-at.before.before.before.before.before.before in
     wrote (going-last (trailer-left at-points) behind-trailer-at.trailer_at.ensures (room (start-of-points at-points)))
 
 pub write_pack_spec : {M : Type 1} → statement M

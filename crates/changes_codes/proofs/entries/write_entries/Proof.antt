@@ -69,7 +69,7 @@ entry-at-requires c κs =
 loop-again : tie.Need-loop-i-preserved invariant-loop decreases-loop
 loop-again c =
     let v = c in
-    let n = v.before.before.before.before in (
+    let n = v.before.before.before.before.before.before in (
       v.entry_at-at.auto.1.1.1.0 ∙ (l n).loop-i.invariant.0,
       going_step (behind n) (left n) v.entry_at-at.ensures (room n),
     )

@@ -37,7 +37,7 @@ returns-2 : tie.Need-returns
 returns-2 c =
     let w = c in
     let e = w in
-    let s = e.before.before.before.before in
+    let s = e.before.before.before.before.before.before.before.before in
     let out = s.args.out.now in
     said-as refl w.write_entries.ensures.is
     ∙ sym (fits (length s.args.codes.now) (bytes s) out (omega (arith, needed s, e.if-out-needed.false)))

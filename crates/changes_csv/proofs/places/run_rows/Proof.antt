@@ -99,7 +99,7 @@ place-behind-requires c κs =
 loop-again : tie.Need-loop-done-preserved invariant-loop decreases-loop
 loop-again c =
     let n = c in
-    let m = n.before.before.before.before in
+    let m = n.before.before.before.before.before in
     let l = at-loop m in
     let is = n.in-Value.is in
     let place = wanted_at [] (points l) (number l) in

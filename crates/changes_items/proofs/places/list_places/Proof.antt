@@ -131,7 +131,7 @@ number-on-requires c κs =
 loop-again : tie.Need-loop-done-preserved invariant-loop decreases-loop
 loop-again c =
     let p = c in
-    let n = p.before in
+    let n = p.before.before in
     let m = written n in
     let l = at-loop m in
     let is = n.in-Value.is in

@@ -16,6 +16,4 @@ pub head_digits_spec : {M : Type 1} → statement M
 head_digits_spec =
     tie.close
     (tie.spec
-    (λ c. search rules)
-    (λ c κs. search rules)
-    returns)
+(search rules) returns)

@@ -98,7 +98,7 @@ place-behind-requires c κs =
 loop-again : tie.Need-loop-done-preserved invariant-loop decreases-loop
 loop-again c =
     let n = c in
-    let m = n.before.before.before in
+    let m = n.before.before.before.before in
     let l = at-loop m in
     let is = n.in-Value.is in
     let some = place-some (table l) (points l) (wanted_at (code l) (points l) (number l)) _ _ (sym (answer-of (asked m)) ∙ is) in

@@ -13,4 +13,4 @@ returns c =
     (digits-where rec _ 1 9 fits refl, digits-where rec _ 9 23 fits refl)
 
 pub head_digits_spec : {M : Type 1} → statement M
-head_digits_spec = tie.close (tie.spec (λ c. search rules) (λ c κs. search rules) returns)
+head_digits_spec = tie.close (tie.spec (search rules) returns)

@@ -10,7 +10,7 @@ use Rattle.label.proofs.Puts.{lent, given_back}
 use Rattle.refusal.specs.Outcome.{said}
 use Rattle.item_write.specs.Headed.{before, headed}
 use Rattle.item_write.proofs.Headed.{cut-within}
-use Rattle.csv.specs.Ask.{label_or, row_line}
+use Rattle.csv_paf.specs.Ask.{label_or, row_line}
 use Rattle.csv_label.specs.Shown.{resolved_at}
 use Rattle.csv_label.proofs.ShownLaws.{line-worded, ap-short, asked-small, asked-item}
 use Rattle.csv_label.proofs.shown.item_at.Statement.{statement}
@@ -66,7 +66,7 @@ headed-item-requires c κs =
 returns : tie.Need-returns
 returns c =
     let whole = c in
-    let l = whole.before.before.before.before in
+    let l = whole.before.before.before.before.before.before in
     let s = start (found l) in
     let a = s.args in
     rw (line-is (found l)) at whole.headed_item.ensures
@@ -78,5 +78,4 @@ returns c =
 pub item_at_spec : {M : Type 1} → statement M
 item_at_spec =
     tie.close
-    (tie.spec (search rules) (search rules) (search rules) slice-aggregate-heading (search rules) within
-    part-label-at-start (search rules) (λ c κs. search rules) headed-item-requires (search rules) returns)
+    (tie.spec (search rules) (search rules) slice-aggregate-heading (search rules) (search rules) part-label-at-start (search rules) (search rules) headed-item-requires (search rules) returns)

@@ -4,8 +4,8 @@ use mathlib.Core.Path.{◌≡◌, sym, ap, ◌∙◌}
 use lib.ListN.{drop}
 use Rattle.source.specs.Address.{Elements}
 use Rattle.label.specs.Label.{label_of, room_outcome}
-use Rattle.csv.specs.File.{fields_of}
-use Rattle.csv.specs.Ask.{row_elements, forbidden_in}
+use Rattle.csv_paf.specs.File.{fields_of}
+use Rattle.csv_paf.specs.Ask.{row_elements, forbidden_in}
 use Rattle.csv_label.proofs.ShownLaws.{label-none, label-refused, label-printed}
 use Rattle.csv_label.proofs.shown.label_at.Statement.{statement}
 use Rattle.csv_label.proofs.shown.label_at.Tie as tie
@@ -39,7 +39,7 @@ returns-3 : tie.Need-returns
 returns-3 c =
     let p = c in
     let e = p in
-    let f = e.before in
+    let f = e.before.before.before.before.before in
     let a = (start f).args in
     p.print_label.ensures
     ∙ (ap (λ (x : Elements). room_outcome (label_of x) a.out.now) (read f).row_spans-spans.ensures

@@ -13,8 +13,8 @@ use Rattle.refusal.specs.Outcome.{said}
 use Rattle.refusal.proofs.Outcomes.{answer-of}
 use Rattle.run.specs.Series.{Asking, asked_behind}
 use Rattle.run.proofs.Going.{Fitting, Going, going_start, going-fits, going_step, going-stop, going_end}
-use Rattle.csv.specs.File.{rows_of}
-use Rattle.csv.specs.Ask.{kth_of, resolved_of}
+use Rattle.csv_paf.specs.File.{rows_of}
+use Rattle.csv_paf.specs.Ask.{kth_of, resolved_of}
 use Rattle.csv_label.specs.Shown.{row_from, resolved_at, shown_of, shown_row, RowPlace}
 use Rattle.csv_label.proofs.RowLaws.{kth-next, row_here, number-within}
 use Rattle.csv_label.proofs.ShownLaws.{shown-within, shown-there}
@@ -113,7 +113,7 @@ row-behind-requires c κs = (at-loop c.before.before.before).loop-done.invariant
 add_row : tie.Need-overflow_add-row invariant-loop decreases-loop
 add_row c =
     let n = c in
-    let m = n.before.before.before in
+    let m = n.before.before.before.before in
     let l = at-loop m in
     omega (
       arith,
@@ -124,7 +124,7 @@ add_row c =
 loop-again : tie.Need-loop-done-preserved invariant-loop decreases-loop
 loop-again c =
     let n = c in
-    let m = n.before.before.before in
+    let m = n.before.before.before.before in
     let l = at-loop m in
     let is = n.in-Value.is in (
       omega (arith, l.loop-done.invariant.0),

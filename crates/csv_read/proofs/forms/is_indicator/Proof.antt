@@ -12,4 +12,4 @@ returns c =
     rw (c.same_bytes-yes.ensures, space.same_bytes-space.ensures, same_none f) refl
 
 pub is_indicator_spec : {M : Type 1} → statement M
-is_indicator_spec = tie.close (tie.spec (search rules) (search rules) (search rules) (search rules) returns)
+is_indicator_spec = tie.close (tie.spec (search rules) (search rules) returns)

@@ -8,4 +8,4 @@ returns : tie.Need-returns
 returns c = rw (c.same_bytes-large.ensures, c.same_bytes-small.ensures) refl
 
 pub is_type_spec : {M : Type 1} → statement M
-is_type_spec = tie.close (tie.spec (search rules) (search rules) (search rules) (search rules) returns)
+is_type_spec = tie.close (tie.spec (search rules) (search rules) returns)

@@ -7,7 +7,7 @@ use mathlib.Core.List.{List, [], ◌∷◌}
 use native.Mathlib.Omega.{arith}
 use lib.ListN.{drop, get_or}
 use Rattle.file_compare.specs.Order.{same}
-use Rattle.csv.specs.File.{fields_of}
+use Rattle.csv_paf.specs.File.{fields_of}
 use Rattle.csv_read.proofs.Cut.{comma-within, this-field, next_field, no_field}
 use Rattle.csv_read.proofs.forms.small_ahead.Statement.{statement}
 use Rattle.csv_read.proofs.forms.small_ahead.Tie as tie
@@ -51,10 +51,10 @@ add-field-end c =
 returns-2 : tie.Need-returns-then-byte_of-ne44-2
 returns-2 c =
     let e = c in
-    let f = one e.before in
+    let f = one e.before.before.before in
     sym
     (ap is-small
-    (one_on e.before
+    (one_on e.before.before.before
     ∙ no_field (csv f) (first f + 1) e.field_end-second.result e.field_end-second.ensures 0
     (λ z. c.if-byte_of-ne44-2.true (c.byte_of-2.ensures ∙ z))))
 
@@ -86,7 +86,7 @@ returns-3 : tie.Need-returns
 returns-3 c =
     let p = c in
     let third = p in
-    let behind = third.before in
+    let behind = third.before.before.before.before in
     c.same_bytes.ensures
     ∙ ap is-small
     (p.part_of.ensures
@@ -98,5 +98,4 @@ returns-3 c =
 pub small_ahead_spec : {M : Type 1} → statement M
 small_ahead_spec =
     tie.close
-    (tie.spec (search rules) (search rules) returns add-field-end (search rules) (search rules) returns-2
-    add-field-end-2 (search rules) add-part-of (search rules) (search rules) (search rules) returns-3)
+    (tie.spec (search rules) (search rules) returns add-field-end (search rules) (search rules) returns-2 add-field-end-2 (search rules) add-part-of (search rules) (search rules) returns-3)

@@ -11,7 +11,7 @@ use borrow.Author.Tests.{not-true, not-false}
 use lib.Dec.{leb}
 use lib.ListN.{length, drop, get_or}
 use Rattle.field.specs.Text.{part}
-use Rattle.csv.specs.File.{fields_of, forms_for, widths}
+use Rattle.csv_paf.specs.File.{fields_of, forms_for, widths}
 use Rattle.csv_read.specs.Cut.{field_end}
 use Rattle.csv_read.specs.Judged.{no_form, Reading, faulty_row, ended_row, Judges}
 use Rattle.csv_read.proofs.Cut.{end-within, comma-within}
@@ -105,7 +105,7 @@ ended-row-requires c κs =
 returns-2 : tie.Need-returns-then-byte_of-ne44 invariant-loop decreases-loop
 returns-2 c =
     let b = c in
-    let w = b.before in
+    let w = b.before.before.before in
     let j = judged w in
     subst (Judges (csv j) (at j))
     (sym (c.ended_row.ensures ∙ ap (λ (t : Bool). ended_row (csv j) (n j) (end j) ((at-loop j).loop-n.fit && t)) (short w)))

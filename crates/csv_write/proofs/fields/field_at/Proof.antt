@@ -22,7 +22,7 @@ returns : tie.Need-returns
 returns c =
     let comma = c in
     let text = comma in
-    last (step (at-text text.before.before.before.before.before) text.text_at-i.ensures) comma.byte_at.ensures
+    last (step (at-text text.before.before.before.before.before.before.before.before.before.before.before) text.text_at-i.ensures) comma.byte_at.ensures
 
 pub field_at_spec : {M : Type 1} → statement M
 field_at_spec = tie.close (tie.spec text-at-requires byte-at-requires (search rules) returns)

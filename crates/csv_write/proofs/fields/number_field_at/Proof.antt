@@ -21,7 +21,7 @@ returns : tie.Need-returns
 returns c =
     let comma = c in
     let number = comma in
-    last (step (at-number number.before.before.before) number.number_at-i.ensures) comma.byte_at.ensures
+    last (step (at-number number.before.before.before.before.before.before.before.before.before) number.number_at-i.ensures) comma.byte_at.ensures
 
 pub number_field_at_spec : {M : Type 1} → statement M
 number_field_at_spec = tie.close (tie.spec number-at-requires byte-at-requires (search rules) returns)

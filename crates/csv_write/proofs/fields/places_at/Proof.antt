@@ -51,7 +51,7 @@ street c = step (double c.before.before.before.before) c.street_at-m.ensures
 returns : tie.Need-returns
 returns c =
     let beside = c in
-    last (street beside.before.before.before.before) beside.street_at.ensures
+    last (street beside.before.before.before.before.before.before) beside.street_at.ensures
 
 pub places_at_spec : {M : Type 1} → statement M
 places_at_spec =

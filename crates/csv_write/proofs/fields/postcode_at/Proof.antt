@@ -33,7 +33,7 @@ returns c =
     let space = inward in
     let outward = space in
     last
-    (step (step (at-outward outward.before.before.before.before.before) outward.text_at-i.ensures)
+    (step (step (at-outward outward.before.before.before.before.before.before.before.before.before.before.before.before.before.before.before) outward.text_at-i.ensures)
     space.byte_at-j.ensures)
     inward.field_at.ensures
 

@@ -52,7 +52,7 @@ department c = step (box c.before.before.before.before) c.field_at-m.ensures
 returns : tie.Need-returns
 returns c =
     let organisation = c in
-    last (department organisation.before.before.before.before) organisation.field_at.ensures
+    last (department organisation.before.before.before.before.before.before) organisation.field_at.ensures
 
 pub premises_at_spec : {M : Type 1} → statement M
 premises_at_spec =

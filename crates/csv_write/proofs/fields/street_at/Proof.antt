@@ -31,7 +31,7 @@ returns c =
     let beside = comma in
     let name = beside in
     last
-    (step (step (at_name name.before.before.before.before.before) name.text_at-i.ensures) beside.tail_at-j.ensures)
+    (step (step (at_name name.before.before.before.before.before.before.before.before.before.before.before.before.before.before.before) name.text_at-i.ensures) beside.tail_at-j.ensures)
     comma.byte_at.ensures
 
 pub street_at_spec : {M : Type 1} → statement M

@@ -34,7 +34,7 @@ returns c =
     let places = premises in
     wrote
     (last
-    (step (step (at_places places.before.before.before.before.before) places.places_at-i.ensures)
+    (step (step (at_places places.before.before.before.before.before.before.before.before.before.before.before.before.before.before.before) places.places_at-i.ensures)
     premises.premises_at-j.ensures)
     ending.Ending-at.ensures)
 

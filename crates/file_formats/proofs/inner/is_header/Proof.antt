@@ -13,4 +13,4 @@ returns-3 : tie.Need-returns-in-Main
 returns-3 c = rw c.in-Main.is c.is_header.ensures
 
 pub is_header_spec : {M : Type 1} → statement M
-is_header_spec = tie.close (tie.spec (search rules) (search rules) (search rules) (search rules) (search rules) (search rules) (search rules) (search rules) returns returns-2 returns-3)
+is_header_spec = tie.close (tie.spec (search rules) (search rules) (search rules) (search rules) (search rules) (search rules) returns returns-2 returns-3)

@@ -39,7 +39,7 @@ returns c =
     let end = c in
     let number = end in
     let word = number in
-    let s = word.before.before.before in
+    let s = word.before.before.before.before.before.before.before.before.before.before in
     line-holds _ (short s)
     (last (step (step (begun s) word.bytes_at-i.ensures) number.spaced_at-j.ensures) end.byte_at-len.ensures)
 

@@ -31,7 +31,7 @@ returns c =
     let box = c in
     let department = box in
     let organisation = department in
-    let start = organisation.before.before.before.before.before.before.before.before in
+    let start = organisation.before.before.before.before.before.before.before.before.before.before.before.before.before.before.before.before.before.before in
     last (step (step (at-start start) organisation.line_at-i.ensures) department.line_at-j.ensures) box.box_at.ensures
 
 pub head_at_spec : {M : Type 1} → statement M

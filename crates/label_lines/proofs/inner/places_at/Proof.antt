@@ -23,14 +23,14 @@ place-at-requires c κs = room (at-dependent c.before)
 place-at-requires-2 : tie.Need-place_at-j-requires
 place-at-requires-2 c κs =
     let dependent = c in
-    room (step (at-dependent dependent.before.before) dependent.place_at-i.ensures)
+    room (step (at-dependent dependent.before.before.before.before.before) dependent.place_at-i.ensures)
 
 localities-at-requires : tie.Need-localities_at-requires
 localities-at-requires c κs =
     let street = c in
     let dependent = street in
     room
-    (step (step (at-dependent dependent.before.before) dependent.place_at-i.ensures) street.place_at-j.ensures)
+    (step (step (at-dependent dependent.before.before.before.before.before.before.before.before.before) dependent.place_at-i.ensures) street.place_at-j.ensures)
 
 returns : tie.Need-returns
 returns c =
@@ -38,7 +38,7 @@ returns c =
     let street = rest in
     let dependent = street in
     last
-    (step (step (at-dependent dependent.before.before) dependent.place_at-i.ensures) street.place_at-j.ensures)
+    (step (step (at-dependent dependent.before.before.before.before.before.before.before.before.before.before.before.before) dependent.place_at-i.ensures) street.place_at-j.ensures)
     rest.localities_at.ensures
 
 pub places_at_spec : {M : Type 1} → statement M

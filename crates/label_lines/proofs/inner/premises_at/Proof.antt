@@ -20,13 +20,13 @@ place-at-requires c κs = room (at-upper c.before)
 line-at-requires : tie.Need-line_at-requires
 line-at-requires c κs =
     let upper = c in
-    room (step (at-upper upper.before.before) upper.place_at-i.ensures)
+    room (step (at-upper upper.before.before.before.before.before) upper.place_at-i.ensures)
 
 returns : tie.Need-returns
 returns c =
     let lower = c in
     let upper = lower in
-    last (step (at-upper upper.before.before) upper.place_at-i.ensures) lower.line_at.ensures
+    last (step (at-upper upper.before.before.before.before.before.before.before.before) upper.place_at-i.ensures) lower.line_at.ensures
 
 pub premises_at_spec : {M : Type 1} → statement M
 premises_at_spec =

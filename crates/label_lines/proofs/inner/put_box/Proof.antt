@@ -42,10 +42,10 @@ returns-2 c =
     let end = c in
     let text = end in
     let box = text in
-    let two = step (step (at-box box.before.before.before) box.bytes_at-i.ensures) text.text_at-j.ensures in
+    let two = step (step (at-box box.before.before.before.before.before.before.before.before.before.before.before.before.before) box.bytes_at-i.ensures) text.text_at-j.ensures in
     wrote (last two end.byte_at.ensures)
 
 pub put_box_spec : {M : Type 1} → statement M
 put_box_spec =
     tie.close
-    (tie.spec (search rules) returns (search rules) bytes-at-requires text-at-requires byte-at-requires (search rules) returns-2)
+    (tie.spec (search rules) returns bytes-at-requires text-at-requires byte-at-requires (search rules) returns-2)

@@ -29,13 +29,13 @@ text-at-requires c κs = room (at-text c.before)
 byte-at-requires : tie.Need-byte_at-requires
 byte-at-requires c κs =
     let text = c in
-    room (step (at-text text.before.before) text.text_at-i.ensures)
+    room (step (at-text text.before.before.before.before.before) text.text_at-i.ensures)
 
 returns-2 : tie.Need-returns
 returns-2 c =
     let end = c in
     let text = end in
-    wrote (last (step (at-text text.before.before) text.text_at-i.ensures) end.byte_at.ensures)
+    wrote (last (step (at-text text.before.before.before.before.before.before.before.before) text.text_at-i.ensures) end.byte_at.ensures)
 
 pub put_line_spec : {M : Type 1} → statement M
 put_line_spec =

@@ -40,7 +40,7 @@ returns c =
     let other = end in
     let space = other in
     let text = space in
-    let one = step (at-start text.before.before.before.before.before) text.text_at-i.ensures in
+    let one = step (at-start text.before.before.before.before.before.before.before.before.before.before.before.before.before.before.before.before.before.before.before) text.text_at-i.ensures in
     wrote (last (step (step one space.byte_at-j.ensures) other.text_at-k.ensures) end.byte_at.ensures)
 
 pub put_pair_spec : {M : Type 1} → statement M

@@ -35,7 +35,7 @@ lead-at-requires c κs = room (at-lead c.before)
 text-at-requires : tie.Need-text_at-j-requires
 text-at-requires c κs =
     let lead = c in
-    room (step (at-lead lead.before.before) lead.lead_at-i.ensures)
+    room (step (at-lead lead.before.before.before.before.before) lead.lead_at-i.ensures)
 
 tail-at-requires : tie.Need-tail_at-k-requires
 tail-at-requires c κs =
@@ -57,7 +57,7 @@ returns-2 c =
     let tail = end in
     let name = tail in
     let lead = name in
-    let two = step (step (at-lead lead.before.before) lead.lead_at-i.ensures) name.text_at-j.ensures in
+    let two = step (step (at-lead lead.before.before.before.before.before.before.before.before.before.before.before.before.before.before.before.before) lead.lead_at-i.ensures) name.text_at-j.ensures in
     wrote (last (step two tail.tail_at-k.ensures) end.byte_at.ensures)
 
 pub put_place_spec : {M : Type 1} → statement M

@@ -49,7 +49,7 @@ returns c =
     let places = pair in
     let premises = places in
     let head = premises in
-    let one = step (at_head head.before.before.before.before) head.head_at-i.ensures in
+    let one = step (at_head head.before.before.before.before.before.before.before.before.before.before.before.before.before.before.before.before.before.before) head.head_at-i.ensures in
     let three = step (step one premises.premises_at-j.ensures) places.places_at-k.ensures in
     let all = wrote (last three pair.pair_at.ensures) in
     (all.size, all.is)

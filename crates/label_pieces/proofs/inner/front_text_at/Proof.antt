@@ -20,7 +20,7 @@ number-at-requires c κs = room (at-number c.before)
 text-at-requires : tie.Need-text_at-j-requires
 text-at-requires c κs =
     let number = c in
-    room (step (at-number number.before.before) number.number_at-i.ensures)
+    room (step (at-number number.before.before.before.before.before) number.number_at-i.ensures)
 
 tail-at-requires : tie.Need-tail_at-requires
 tail-at-requires c κs =
@@ -33,7 +33,7 @@ returns c =
     let beside = c in
     let text = beside in
     let number = text in
-    let one = step (at-number number.before.before) number.number_at-i.ensures in
+    let one = step (at-number number.before.before.before.before.before.before.before.before.before.before.before.before) number.number_at-i.ensures in
     last (step one text.text_at-j.ensures) beside.tail_at.ensures
 
 pub front_text_at_spec : {M : Type 1} → statement M

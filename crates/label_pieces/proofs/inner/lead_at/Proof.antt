@@ -35,13 +35,13 @@ front-text-at-requires c κs = room (at_front c.before)
 byte-at-requires : tie.Need-byte_at-requires
 byte-at-requires c κs =
     let front = c in
-    room (step (at_front front.before.before) front.front_text_at-i.ensures)
+    room (step (at_front front.before.before.before.before.before) front.front_text_at-i.ensures)
 
 returns-2 : tie.Need-returns-then-f
 returns-2 c =
     let space = c in
     let front = space in
-    last (step (at_front front.before.before) front.front_text_at-i.ensures) space.byte_at.ensures
+    last (step (at_front front.before.before.before.before.before.before.before.before) front.front_text_at-i.ensures) space.byte_at.ensures
 
 returns-3 : tie.Need-returns
 returns-3 c =

@@ -57,7 +57,7 @@ digit-at-requires c κs = (omega arith, room (at_one c.before))
 returns-2 : tie.Need-returns-then-n-lt10
 returns-2 c =
     let ones = c in
-    last (at_one ones.before.before) ones.digit_at.ensures
+    last (at_one ones.before.before.before.before) ones.digit_at.ensures
 
 tens-at-requires : tie.Need-tens_at-requires
 tens-at-requires c κs = room (at-two c.before)
@@ -65,7 +65,7 @@ tens-at-requires c κs = room (at-two c.before)
 returns-3 : tie.Need-returns-then-n-lt100
 returns-3 c =
     let tens = c in
-    last (at-two tens.before.before) tens.tens_at.ensures
+    last (at-two tens.before.before.before.before) tens.tens_at.ensures
 
 digit-at-requires-2 : tie.Need-digit_at-i-requires
 digit-at-requires-2 c κs = (omega arith, room (at-three c.before))
@@ -73,13 +73,13 @@ digit-at-requires-2 c κs = (omega arith, room (at-three c.before))
 tens-at-requires-2 : tie.Need-tens_at-requires-then-n-lt1000
 tens-at-requires-2 c κs =
     let hundreds = c in
-    room (step (at-three hundreds.before.before) hundreds.digit_at-i.ensures)
+    room (step (at-three hundreds.before.before.before.before.before) hundreds.digit_at-i.ensures)
 
 returns-4 : tie.Need-returns-then-n-lt1000
 returns-4 c =
     let tens = c in
     let hundreds = tens in
-    last (step (at-three hundreds.before.before) hundreds.digit_at-i.ensures) tens.tens_at-then-n-lt1000.ensures
+    last (step (at-three hundreds.before.before.before.before.before.before.before.before) hundreds.digit_at-i.ensures) tens.tens_at-then-n-lt1000.ensures
 
 digit-at-requires-3 : tie.Need-digit_at-i-requires-2
 digit-at-requires-3 c κs = (omega arith, room (at-four c.before))
@@ -87,20 +87,20 @@ digit-at-requires-3 c κs = (omega arith, room (at-four c.before))
 digit-at-requires-4 : tie.Need-digit_at-j-requires
 digit-at-requires-4 c κs =
     let thousands = c in
-    (omega arith, room (step (at-four thousands.before.before) thousands.digit_at-i-2.ensures))
+    (omega arith, room (step (at-four thousands.before.before.before.before.before) thousands.digit_at-i-2.ensures))
 
 tens-at-requires-3 : tie.Need-tens_at-requires-2
 tens-at-requires-3 c κs =
     let hundreds = c in
     let thousands = hundreds in
-    room (step (step (at-four thousands.before.before) thousands.digit_at-i-2.ensures) hundreds.digit_at-j.ensures)
+    room (step (step (at-four thousands.before.before.before.before.before.before.before.before.before) thousands.digit_at-i-2.ensures) hundreds.digit_at-j.ensures)
 
 returns-5 : tie.Need-returns
 returns-5 c =
     let tens = c in
     let hundreds = tens in
     let thousands = hundreds in
-    let one = step (at-four thousands.before.before) thousands.digit_at-i-2.ensures in
+    let one = step (at-four thousands.before.before.before.before.before.before.before.before.before.before.before.before) thousands.digit_at-i-2.ensures in
     last (step one hundreds.digit_at-j.ensures) tens.tens_at-2.ensures
 
 pub number_at_spec : {M : Type 1} → statement M

@@ -32,7 +32,7 @@ returns-2 : tie.Need-returns
 returns-2 c =
     let text = c in
     let space = text in
-    last (step (at-space space.before.before) space.byte_at-i.ensures) text.bytes_at.ensures
+    last (step (at-space space.before.before.before.before.before.before.before.before) space.byte_at-i.ensures) text.bytes_at.ensures
 
 pub tail_bytes_at_spec : {M : Type 1} → statement M
 tail_bytes_at_spec =

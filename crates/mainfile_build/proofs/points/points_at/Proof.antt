@@ -131,7 +131,7 @@ offsets-at-requires : tie.Need-offsets_at-offsets-requires invariant-loop decrea
 offsets-at-requires c κs =
     let t = c in
     let l = t in
-    let f = start_of l.before in
+    let f = start_of l.before.before.before in
     (f.requires.placed, (l.loop-i.invariant.1, t.loop-i-test.true))
 
 point-at-requires : tie.Need-point_at-end-requires invariant-loop decreases-loop
@@ -178,7 +178,7 @@ loop-again : tie.Need-loop-i-preserved invariant-loop decreases-loop
 loop-again c =
     let n = c in
     let w = n in
-    let o = w.before.before in (
+    let o = w.before.before.before.before.before in (
       w.point_at-end.auto.1.1.1.1.1.0 ∙ (l o).loop-i.invariant.0,
       omega (arith, (l o).loop-i.invariant.1),
       omega (arith, more o, len n, (l o).loop-i.invariant.2),
@@ -189,7 +189,7 @@ loop-again c =
 returns : tie.Need-returns invariant-loop decreases-loop
 returns c =
     let l = c in
-    let s = start_of l.before in
+    let s = start_of l.before.before in
     let none = packed-end (own s) (others s) l.loop-i.i (stop s) c.loop-i-test.false in
     going_end (going-as (ap (points s l.loop-i.row) none) l.loop-i.invariant.3)
 

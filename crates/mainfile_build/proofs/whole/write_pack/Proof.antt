@@ -202,7 +202,7 @@ trailer-at-requires c κs =
 returns : tie.Need-returns
 returns c =
     let t = c in
-    let p = t.before.before.before.before in
+    let p = t.before.before.before.before.before.before in
     wrote (going-last (trailer-left p) t.trailer_at.ensures (room (p-start p)))
 
 pub write_pack_spec : {M : Type 1} → statement M

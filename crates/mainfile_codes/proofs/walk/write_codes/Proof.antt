@@ -99,7 +99,7 @@ loop-less c =
 loop-again : tie.Need-loop-i-preserved invariant-loop decreases-loop
 loop-again c =
     let v = c in
-    let e = v.before.before in
+    let e = v.before.before.before.before in
     let is = ap (λ (code : ℕ). one_entry code (end e - i (turn e))) e.code_at-code.ensures in (
       v.entry_at-at.auto.1.1.1.0 ∙ (l (turn e)).loop-i.invariant.0,
       omega (arith, (on e).further),

@@ -28,31 +28,4 @@ pub is_header_spec : {M : Type 1} → statement M
 is_header_spec =
     tie.close
     (tie.spec
-    (search rules)
-    (search rules)
-    (search rules)
-    (search rules)
-    (search rules)
-    (search rules)
-    (search rules)
-    (search rules)
-    (search rules)
-    (search rules)
-    (search rules)
-    (search rules)
-    (search rules)
-    (search rules)
-    (search rules)
-    (search rules)
-    (search rules)
-    (search rules)
-    (search rules)
-    (search rules)
-    (search rules)
-    returns
-    returns-2
-    returns-3
-    returns-4
-    returns-5
-    returns-6
-    returns-7)
+(search rules) (search rules) (search rules) (search rules) (search rules) (search rules) (search rules) (search rules) (search rules) (search rules) (search rules) (search rules) (search rules) (search rules) returns returns-2 returns-3 returns-4 returns-5 returns-6 returns-7)

@@ -72,7 +72,7 @@ print-from-requires c κs =
 returns-2 : tie.Need-returns-in-Fine
 returns-2 c =
     let told = c in
-    let judged = told.before in
+    let judged = told.before.before.before.before.before in
     let s = files judged in
     let out = (start judged).args.out.now in
     let fine = sym (verdict-is judged) ∙ told.in-Fine.is in

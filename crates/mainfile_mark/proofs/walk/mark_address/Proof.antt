@@ -48,7 +48,7 @@ module _ (looked : tie.After-kind_rows-found) where
 returns : tie.Need-returns
 returns c =
     let m = c in
-    let k = m.before.before.before.before.before.before in
+    let k = m.before.before.before.before.before.before.before.before.before.before.before.before.before.before.before.before in
     let s = files k in
     let a = (start k).args in
     let ok = (start k).requires.0.accepted in

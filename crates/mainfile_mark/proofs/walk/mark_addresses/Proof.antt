@@ -81,7 +81,7 @@ module _ (l : tie.At-loop-i invariant-loop decreases-loop) where
 mark-address-requires : tie.Need-mark_address-requires invariant-loop decreases-loop
 mark-address-requires c κs =
     let t = c in
-    let l = t.before in
+    let l = t.before.before.before.before.before.before in
     let s = start_of l in (
       record {
         accepted = s.requires.markable.accepted;
@@ -113,7 +113,7 @@ returns : tie.Need-returns-in-Bad invariant-loop decreases-loop
 returns c =
     let w = c in
     let m = w in
-    let t = m.before.before.before.before.before.before in
+    let t = m.before.before.before.before.before.before.before.before.before.before.before.before.before.before.before.before.before.before in
     let bad = sym m.mark_address.ensures.said ∙ w.in-Bad.is in
     record {
       said = rw c.with_view.ensures (sym (marking-stop (left t) w.in-Bad.why bad));
@@ -123,7 +123,7 @@ returns c =
 add-i : tie.Need-overflow_add-i invariant-loop decreases-loop
 add-i c =
     let m = c in
-    let t = m.before.before.before.before.before.before in
+    let t = m.before.before.before.before.before.before.before.before.before.before.before.before.before.before.before.before.before in
     omega (arith, (s t).requires.1, t.loop-i-test.true, (s t).well_formed.1.1.1.1.1.1.0.1)
 
 loop-less : tie.Need-loop-i-smaller invariant-loop decreases-loop
@@ -135,7 +135,7 @@ loop-less c =
 loop-again : tie.Need-loop-i-preserved invariant-loop decreases-loop
 loop-again c =
     let m = c in
-    let t = m.before.before.before.before.before.before in
+    let t = m.before.before.before.before.before.before.before.before.before.before.before.before.before.before.before.before.before in
     let v = (l t).loop-i.invariant in
     let k = m.mark_address.auto.1.1.1.1.1.1.1.1 in
     let told = c.in-Fine.is in (

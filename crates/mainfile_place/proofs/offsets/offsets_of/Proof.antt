@@ -60,7 +60,7 @@ returns c =
     let third = fourth in
     let second = third in
     let first = second in
-    let s = start first.before in
+    let s = start first.before.before.before.before.before.before.before in
     let a = s.args in
     let starts = s.pre.blocks in
     offsets-placed (files s) a.l-bits.now a.t-bits.now a.d-bits.now a.b-bits.now

@@ -134,7 +134,7 @@ rows-at-requires-5 c κs =
 same_length : tie.Need-shape_of-out
 same_length c =
     let fifth = c in
-    let fourth = fifth.before.before.before.before.before in
+    let fourth = fifth.before.before.before.before.before.before.before in
     let third = c₃ fourth in
     let second = c₂ third in
     let first = c₁ second in
@@ -146,7 +146,7 @@ same_length c =
 returns : tie.Need-returns
 returns c =
     let l = c in
-    let w = l.before.before.before.before.before in
+    let w = l.before.before.before.before.before.before.before in
     let b = b₄ w in
     going-last (after₄ w)
     (put_of 5 l.row_shelf-5.ensures b.args.sub_buildings.now b.args.of_sub_buildings.now

@@ -47,7 +47,7 @@ organisation-len-requires : tie.Need-organisation_len-bytes-requires invariant-l
 organisation-len-requires c κs =
     let d = c in
     let l = d in
-    let s = l.before.before.before in
+    let s = l.before.before.before.before.before.before in
     rw d.delivery_at-p.ensures
     (inside-at s.args.addresses.now s.args.organisations.now l.loop-i.i (omega (arith, s.requires.before))
     s.requires.headed).organisation

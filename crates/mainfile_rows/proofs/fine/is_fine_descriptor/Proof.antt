@@ -17,7 +17,4 @@ pub is_fine_descriptor_spec : {M : Type 1} → statement M
 is_fine_descriptor_spec =
     tie.close
     (tie.spec
-    (search rules)
-    (search rules)
-    (search rules)
-    returns)
+(search rules) (search rules) returns)

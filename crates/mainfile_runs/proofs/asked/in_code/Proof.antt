@@ -28,7 +28,7 @@ returns : tie.Need-returns-then-outward_fault-ne0
 returns c =
     let f = c in
     let t = f in
-    let k = t.before in
+    let k = t.before.before.before in
     let a = (start k).args in
     code_refused (main_of (files k)) (sym k.check_set.ensures ∙ t.in-Value.is) a.first a.count a.out.now
     a.code.now (rw f.outward_fault.ensures at c.if-outward_fault-ne0.true) a.listed
@@ -37,7 +37,7 @@ walk-requires : tie.Need-walk-requires
 walk-requires c κs =
     let s = c.before in
     let t = s in
-    let k = t.before.before in
+    let k = t.before.before.before.before in
     rw (s.stretch_in-s.ensures.0, s.stretch_in-s.ensures.1)
     (code-between (files k) (set-accepted (files k) (sym k.check_set.ensures ∙ t.in-Value.is))
     (start k).args.code.now)
@@ -49,7 +49,7 @@ returns-2 c =
     let good = s in
     let f = good in
     let t = f in
-    let k = t.before in
+    let k = t.before.before.before.before.before.before.before.before in
     let a = (start k).args in
     let taken = sym k.check_set.ensures ∙ t.in-Value.is in
     let clean = rw f.outward_fault.ensures at good.if-outward_fault-ne0.false in

@@ -37,7 +37,7 @@ returns c =
     let w = c in
     let all = w in
     let t = all in
-    let k = t.before in
+    let k = t.before.before.before.before.before.before in
     let a = (start k).args in
     let taken = sym k.check_set.ensures ∙ t.in-Value.is in
     w.walk.ensures

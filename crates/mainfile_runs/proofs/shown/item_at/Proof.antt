@@ -68,7 +68,7 @@ headed-item-requires c κs =
 returns : tie.Need-returns
 returns c =
     let whole = c in
-    let l = whole.before.before.before.before in
+    let l = whole.before.before.before.before.before.before in
     let s = start (found l) in
     let a = s.args in
     rw (line (found l)).worded_line-line.ensures.is at whole.headed_item.ensures
@@ -80,5 +80,4 @@ returns c =
 pub item_at_spec : {M : Type 1} → statement M
 item_at_spec =
     tie.close
-    (tie.spec (search rules) (search rules) (search rules) slice-aggregate-heading (search rules) within part-label-at-start
-    (search rules) (λ c κs. search rules) headed-item-requires (search rules) returns)
+    (tie.spec (search rules) (search rules) slice-aggregate-heading (search rules) (search rules) part-label-at-start (search rules) (search rules) headed-item-requires (search rules) returns)

@@ -19,7 +19,7 @@ returns : tie.Need-returns-then-listed
 returns c =
     let item = c in
     let listed = item in
-    let s = listed.before.before.before.before.before.before.before.before.before in
+    let s = listed.before.before.before.before.before.before.before.before.before.before.before.before.before in
     item.item_at.ensures
     ∙ sym (ap (λ (t : Bool). shown_at t (files s) s.args.place s.args.out.now) listed.if-listed.true)
 
@@ -27,7 +27,7 @@ returns-2 : tie.Need-returns
 returns-2 c =
     let label = c in
     let alone = label in
-    let s = alone.before.before.before.before.before.before.before.before.before in
+    let s = alone.before.before.before.before.before.before.before.before.before.before.before.before.before in
     label.label_at.ensures
     ∙ (shown-label (files s) s.args.place s.args.out.now
     ∙ sym (ap (λ (t : Bool). shown_at t (files s) s.args.place s.args.out.now) alone.if-listed.false))

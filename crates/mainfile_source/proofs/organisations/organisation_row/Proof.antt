@@ -33,7 +33,7 @@ returns-2 : tie.Need-returns-then-number_at-r
 unfolding organisation_found
 returns-2 c =
     let k = c in
-    let b = k.before.before in
+    let b = k.before.before.before in
     rw (upper b)
     (sym
     (found_here (number_at (file b)) (r b) (last_in (file b)) (rw (upper b) at k.if-end-le1.false)
@@ -43,7 +43,7 @@ returns-3 : tie.Need-returns-else-number_at-r
 unfolding organisation_found
 returns-3 c =
     let k = c in
-    let b = k.before.before in
+    let b = k.before.before.before in
     sym
     (found-other (number_at (file b)) (r b) (last_in (file b)) (rw (upper b) at k.if-end-le1.false)
     (λ e. c.if-number_at-r.false (k.number_at.ensures ∙ (rw (upper b) e ∙ sym b.number_of-r.ensures))))

@@ -55,7 +55,7 @@ returns-2 c =
     let counted = c in
     let counts-read = counted in
     let starts-read = counts-read in
-    let past = starts-read.before in
+    let past = starts-read.before.before.before.before.before in
     let p = pack past.before in
     c.counts_said.ensures
     ∙ (ap (counts_said p 0)

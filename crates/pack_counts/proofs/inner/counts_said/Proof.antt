@@ -31,7 +31,7 @@ returns : tie.Need-returns-then-count_said-counts invariant-loop decreases-loop
 returns c =
     let asked = c in
     let l = asked in
-    let s = l.before.before.before in
+    let s = l.before.before.before.before.before in
     sym
     (l.loop-digit.invariant.1
     ∙ said-stop s.args.pack.now s.args.counts l.loop-digit.digit (omega (arith, ten s))
@@ -41,7 +41,7 @@ loop-again : tie.Need-loop-digit-preserved invariant-loop decreases-loop
 loop-again c =
     let asked = c in
     let l = asked in
-    let s = l.before.before.before in (
+    let s = l.before.before.before.before.before in (
       omega arith,
       l.loop-digit.invariant.1 ∙ said-step s.args.pack.now s.args.counts l.loop-digit.digit (omega (arith, ten s))
           (sym asked.count_said.ensures ∙ c.if-count_said-counts.false),

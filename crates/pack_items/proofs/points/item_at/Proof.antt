@@ -44,7 +44,7 @@ label-at-requires c κs =
 headed-item-requires : tie.Need-headed_item-requires
 headed-item-requires c κs =
     let label = c in
-    let found = label.before.before in
+    let found = label.before.before.before.before.before in
     let s = start found in
     let a = s.args in
     let asked =
@@ -58,7 +58,7 @@ returns : tie.Need-returns
 returns c =
     let whole = c in
     let label = whole in
-    let found = label.before.before in
+    let found = label.before.before.before.before.before.before.before.before in
     let s = start found in
     let a = s.args in
     let asked =

@@ -75,7 +75,7 @@ returns : tie.Need-returns
 returns c =
     let printed = c in
     let spanned = printed in
-    let read = spanned.before.before.before.before in
+    let read = spanned.before.before.before.before.before.before.before.before in
     let meant = spanned.spans_at.ensures ∙ ap₂ (elements_from (pack read)) (place read) (rest read) in
     rw meant at printed.print_label.ensures
 

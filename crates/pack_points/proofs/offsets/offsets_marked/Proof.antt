@@ -90,7 +90,7 @@ returns c =
 add_at : tie.Need-overflow_add-at invariant-loop decreases-loop
 add_at c =
     let n = c in
-    let l = n.before in
+    let l = n.before.before.before.before.before in
     omega (arith, room l n.loop-i-test.true, (start l).requires.1.0.point)
 
 good : (c : tie.After-struct_known-in-loop-i-1 invariant-loop decreases-loop)
@@ -104,7 +104,7 @@ shared-slice-read-first c = c.requires.1.1.fine.some
 loop-again : tie.Need-loop-i-preserved invariant-loop decreases-loop
 loop-again c =
     let g = c in
-    let l = g.before.before.before in
+    let l = g.before.before.before.before.before in
     let width = (start l).requires.1.0.point in (
       omega arith,
       omega (arith, l.loop-i.invariant.1, width),

@@ -85,7 +85,7 @@ returns c =
 add_at : tie.Need-overflow_add-at invariant-loop decreases-loop
 add_at c =
     let n = c in
-    let l = n.before in
+    let l = n.before.before.before.before.before in
     omega (arith, room l n.loop-i-test.true, (start l).requires.1.0.point)
 
 loop-again : tie.Need-loop-i-preserved invariant-loop decreases-loop

@@ -27,7 +27,7 @@ room : (c : tie.In-loop-i invariant-loop decreases-loop)
     → PointIn c.args.pack.now c.loop-i.at
 room c =
     let loop = c in
-    let counted = loop.before.before in
+    let counted = loop.before.before.before in
     let start = counted in
     point-in start.args.pack.now start.requires.0 loop.loop-i.i loop.loop-i.at
     (omega (arith, counted.trailer_number-count.ensures.0, c.loop-i-test.true)) loop.loop-i.invariant.1
@@ -76,7 +76,7 @@ add_at : tie.Need-overflow_add-at invariant-loop decreases-loop
 add_at c =
     let judged = c in
     let start = judged in
-    omega (arith, room judged.before, start.requires.1.0.point)
+    omega (arith, room judged.before.before.before, start.requires.1.0.point)
 
 loop-again : tie.Need-loop-i-preserved invariant-loop decreases-loop
 loop-again c =

@@ -38,7 +38,7 @@ returns-2 c =
 returns-3 : tie.Need-returns
 returns-3 c =
     let i = c in
-    let e = i.before.before.before in
+    let e = i.before.before.before.before.before in
     let a = e.args in
     let kind = type_byte a.pack.now a.rest in
     let mark = get_or a.pack.now (a.rest + concatenation_at) 0 in

@@ -38,7 +38,7 @@ is-marked-requires c κs =
 returns-2 : tie.Need-returns
 returns-2 c =
     let e = c in
-    let j = e.before in
+    let j = e.before.before.before in
     let s = j in
     let a = s.args in
     λ n fine.

@@ -55,7 +55,7 @@ returns-2 : tie.Need-returns
 returns-2 c =
     let counted = c in
     let read = counted in
-    let at-edition = read.before.before in
+    let at-edition = read.before.before.before.before in
     let s = start at-edition in
     let p = pack at-edition in
     ap (λ l. get_or l s.args.digit 0)

@@ -31,7 +31,7 @@ unfolding block
 returns c =
     let v = c in
     let t = v in
-    let l = t.before.before in
+    let l = t.before.before.before.before.before.before.before.before in
     let b = l in
     let r = b in
     let w = r in

@@ -45,13 +45,13 @@ slice-aggregate-text-at c =
 returns : tie.Need-returns-in-Value
 returns c =
     let a = c in
-    let l = a.before.before in
+    let l = a.before.before.before.before.before.before.before in
     fed-as (told-value (text l) _ (told l) a.in-Value.is refl).1 c.text_at.ensures
 
 returns-2 : tie.Need-returns-in-Refused
 returns-2 c =
     let a = c in
-    let l = a.before.before in
+    let l = a.before.before.before.before.before.before in
     fed-as (told-refused (text l) _ _ _ (told l) a.in-Refused.is) c.refused_at.ensures
 
 pub view_at_spec : {M : Type 1} → statement M

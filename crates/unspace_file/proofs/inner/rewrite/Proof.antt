@@ -21,7 +21,7 @@ returns-2 : tie.Need-returns
 returns-2 c =
     let f = c in
     let e = f in
-    let t = e.before in
+    let t = e.before.before.before.before.before in
     let p = t in
     let a = p.args in
     let spaces : spaces_at a.width a.at a.file.now ≡ true =

@@ -119,7 +119,7 @@ loop-less c = omega (arith, (behind c).0, (behind c).1)
 loop-again : tie.Need-loop-at-preserved invariant-loop decreases-loop
 loop-again c =
     let r = c in
-    let p = r.before.before.before in (
+    let p = r.before.before.before.before.before.before in (
       (behind c).1,
       search rules,
       going_step (others p c.done_at-at.result) (row p c.done_at-at.ensures) r.row_at-i.ensures (start p.before).pre,
@@ -144,7 +144,7 @@ row-at-requires-2 c κs =
 returns : tie.Need-returns invariant-loop decreases-loop
 returns c =
     let r = c in
-    let end = r.before.before.before in
+    let end = r.before.before.before.before.before in
     going-last (last end) r.row_at.ensures end.requires
 
 pub line_at_spec : {M : Type 1} → statement M

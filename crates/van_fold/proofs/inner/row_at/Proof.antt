@@ -22,7 +22,7 @@ returns : tie.Need-returns
 returns c =
     let end = c in
     let row = end in
-    last (step (at_row row.before.before.before.before) row.bytes_at-i.ensures) end.byte_at.ensures
+    last (step (at_row row.before.before.before.before.before.before.before.before.before.before) row.bytes_at-i.ensures) end.byte_at.ensures
 
 pub row_at_spec : {M : Type 1} → statement M
 row_at_spec = tie.close (tie.spec bytes-at-requires byte-at-requires (search rules) returns)

@@ -76,7 +76,7 @@ loop-less c =
 loop-again : tie.Need-loop-at-preserved invariant-loop decreases-loop
 loop-again c =
     let w = c in
-    let e = w.before.before.before in
+    let e = w.before.before.before.before.before in
     (search rules, going_step (others e) (line e) w.line_at-i.ensures (room e))
 
 returns : tie.Need-returns invariant-loop decreases-loop

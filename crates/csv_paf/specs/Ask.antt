@@ -17,7 +17,7 @@ use Rattle.label.specs.Lines.{is_empty}
 use Rattle.label.specs.Label.{resolved_outcome}
 use Rattle.item.specs.Lines.{spaced_number}
 use Rattle.item.specs.Item.{item_outcome}
-use Rattle.csv.specs.File.{fields_of, rows_of, outward_in, inward_in, csv_judged}
+use Rattle.csv_paf.specs.File.{fields_of, rows_of, outward_in, inward_in, csv_judged}
 
 -- a field's text: "trailing spaces are padding"
 abbrev pub text_at : List (List ℕ) → ℕ → List ℕ

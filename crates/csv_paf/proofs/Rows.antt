@@ -7,7 +7,7 @@ use mathlib.Core.Bool.{Bool, true, false, cond, true≢false}
 use mathlib.Core.List.{List, [], ◌∷◌}
 use native.Mathlib.Omega.{arith}
 use lib.ListN.{length, drop, length-drop}
-use Rattle.csv.specs.File.{row_ends, is_ended, behind_row, rows_from, rows_of}
+use Rattle.csv_paf.specs.File.{row_ends, is_ended, behind_row, rows_from, rows_of}
 
 pub behind-bound : (bytes : List ℕ) → length (behind_row bytes) ≤ length bytes
 behind-bound [] = omega arith

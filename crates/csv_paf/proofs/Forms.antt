@@ -8,9 +8,9 @@ use borrow.Author.Tests.{eq-eqb}
 use lib.ListN.{length}
 use Rattle.refusal.specs.declared.Verdict.TheVariants.{Fine}
 use Rattle.refusal.specs.declared.Answer.TheVariants.{Value}
-use Rattle.csv.specs.Row.{joined}
-use Rattle.csv.specs.File.{rows_of, forms_for, field_fault, row_fault, first_bad_row, widths, field_fits, fields_fit, row_fits, all_fit, csv_judged}
-use Rattle.csv.proofs.Fields.{InFields, fields_back, ended-back}
+use Rattle.csv_paf.specs.Row.{joined}
+use Rattle.csv_paf.specs.File.{rows_of, forms_for, field_fault, row_fault, first_bad_row, widths, field_fits, fields_fit, row_fits, all_fit, csv_judged}
+use Rattle.csv_paf.proofs.Fields.{InFields, fields_back, ended-back}
 
 -- each field has its form
 abbrev pub Held : List (List ℕ → Bool) → List (List ℕ) → Type 0

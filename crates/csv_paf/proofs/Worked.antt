@@ -16,9 +16,9 @@ use Rattle.source.specs.Address.{Address, Elements, none_needed}
 use Rattle.label.specs.Lines.{number_text, lines_of}
 use Rattle.label.specs.Label.{label_of, room_outcome}
 use Rattle.item.specs.Lines.{decimal}
-use Rattle.csv.specs.Row.{row_fields, row_text, row_of, carried}
-use Rattle.csv.specs.File.{rows_of, is_postcode, row_fault, row_fits, csv_judged}
-use Rattle.csv.specs.Ask.{row_elements, forbidden_in, row_resolved, row_label, csv_label, row_line, row_item, csv_item}
+use Rattle.csv_paf.specs.Row.{row_fields, row_text, row_of, carried}
+use Rattle.csv_paf.specs.File.{rows_of, is_postcode, row_fault, row_fits, csv_judged}
+use Rattle.csv_paf.specs.Ask.{row_elements, forbidden_in, row_resolved, row_label, csv_label, row_line, row_item, csv_item}
 
 -- `AB1 9ZZ,HARTWELL BAY,,,QUARRY LANE,,,110-114,ATTIC FLAT,,,,,S, ,1A` and CR LF
 abbrev row : List ℕ

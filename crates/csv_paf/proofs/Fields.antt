@@ -10,9 +10,9 @@ use lib.Dec.{eqb}
 use lib.ListN.{length}
 use Rattle.field.specs.Test.{every}
 use Rattle.field.proofs.Tests.{and_left, and_right}
-use Rattle.csv.specs.Row.{joined}
-use Rattle.csv.specs.File.{onto, fields_of, is_ended, behind_row, rows_of}
-use Rattle.csv.proofs.Rows.{rows-ended}
+use Rattle.csv_paf.specs.Row.{joined}
+use Rattle.csv_paf.specs.File.{onto, fields_of, is_ended, behind_row, rows_of}
+use Rattle.csv_paf.proofs.Rows.{rows-ended}
 
 -- a byte that neither ends a field nor begins the end of a row
 abbrev pub in_field : ℕ → Bool
