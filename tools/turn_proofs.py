@@ -11,8 +11,9 @@ def table(T):
     t.at={}
     for (o,n),(po,pn) in zip(T['needs'],T['asked_at']): t.at[n]=norm(po)
     t.pl={}
-    for p,n,a in zip(T['places'],T['places_by_name'],T['arms']):
-        t.pl.setdefault(norm(p[0]),dict(new=n,parent=norm(p[1]) if p[1] else None,step=norm(p[2][0]) if p[2][0] else None,nstep=p[2][1],arm=a))
+    for p,n,a,cl in zip(T['places'],T['places_by_name'],T['arms'],T['clauses']):
+        t.pl.setdefault(norm(p[0]),dict(new=n,parent=norm(p[1]) if p[1] else None,step=norm(p[2][0]) if p[2][0] else None,nstep=p[2][1],arm=a,callee=p[3],clauses=cl))
+    t.params=T['params']
     t.steps={}
     for p in T['places']:
         if p[2][0]: t.steps.setdefault(norm(p[2][0]),p[2][1])
@@ -63,6 +64,7 @@ def follow(t,pl2,segs,log):
         k,cur=newchain(t,actual,P,log)
         return ['before']*k,(P,cur)
     s=segs[i];rest=segs[i+1:]
+    if s=='pre' and t.pre is None: return ['requires']+rest,None
     if s=='pre' and t.pre is not None:
         f=t.pre['fields'];out=['requires']
         if len(f)>1 or (len(f)==1 and f[0] and f[0]!=''):
@@ -92,11 +94,34 @@ def follow(t,pl2,segs,log):
             if best: return [arm[0],best[0]]+rest[best[1]:],None
         if (v['step']==n if not by_new else norm(v['nstep'] or '')==n):
             if rest and rest[0]=='inv': rest=['invariant']+rest[1:]
-            return [v['nstep']]+rest,None
+            return [v['nstep']]+named(t,v,rest),None
         cur=nparent(t,cur)
     fl=flat(t,segs)
     if fl is not None: return fl,None
     return [s]+rest,None
+def tupix(rest,count):
+    "index path of a right nested tuple of count: (index, segments used) or None"
+    k=0;j=0
+    while j<len(rest) and rest[j]=='1' and (count is None or k<count-2): j+=1;k+=1
+    if j<len(rest) and rest[j] in('0','1'):
+        return k+int(rest[j]),j+1
+    return None
+def named(t,v,rest):
+    "fields of a call by name"
+    if not rest: return rest
+    if rest[0] in('last','new','kept') and v.get('callee') in t.params:
+        k=0;j=1
+        while j<len(rest) and rest[j]=='1': j+=1;k+=1
+        if j<len(rest) and rest[j]=='0' and k<len(t.params[v['callee']]):
+            w=rest[0]
+            if w=='last': w='new'
+            return [w,t.params[v['callee']][k]]+rest[j+1:]
+    if rest[0]=='ensures' and v.get('clauses'):
+        f=v['clauses'].get('fields') or []
+        if len(f)>1:
+            x=tupix(rest[1:],len(f))
+            if x: return ['ensures',f[x[0]]]+rest[1+x[1]:]
+    return rest
 def flat(t,segs,force=False):
     "strip befores and map the step by its name alone"
     k=0
@@ -117,7 +142,10 @@ def flat(t,segs,force=False):
                     if norm(src)==n and [str(x) for x in path]==rest[:len(path)] and path: best=(b[0],f,len(path))
         if best: return [best[0],best[1]]+rest[best[2]:]
         if rest and rest[0]=='inv': rest=['invariant']+rest[1:]
+        for p,v in t.pl.items():
+            if v['step']==n: rest=named(t,v,rest);break
         return [t.steps[n]]+rest
+    if s=='pre' and t.pre is None: return ['requires']+rest
     if s=='pre' and t.pre is not None:
         f=t.pre['fields'];out=['requires']
         if len(f)>1:
@@ -162,15 +190,57 @@ def respec(t,T,text,log):
             d-=1
         i+=1
     return text[:m.end()]+' '.join(new)+text[i:]
+def parts_of(g):
+    "top-level parts of a parenthesised tuple"
+    d=0;out=[];cur=''
+    for ch in g[1:-1]:
+        if ch in '([{': d+=1
+        if ch in ')]}': d-=1
+        if ch==',' and d==0: out.append(cur);cur=''
+        else: cur+=ch
+    if cur.strip(): out.append(cur)
+    return out
+def records(t,T,text,log):
+    asked={norm(k):v for k,v in (T['asked'] or {}).items()}
+    new={}
+    for o,n in T['needs']:
+        if norm(o) in asked: new[n]=asked[norm(o)]
+    blocks=text.split('\n\n')
+    for i,b in enumerate(blocks):
+        m=re.search(rf"(?m)^({SEG}) : tie\.Need-({SEG})",b)
+        if not m or m.group(2) not in new: continue
+        f=new[m.group(2)]
+        bb=b.rstrip()
+        if not bb.endswith(')'): log.append('asked '+m.group(1)); continue
+        d=0;j=len(bb)-1
+        while j>=0:
+            if bb[j]==')': d+=1
+            if bb[j]=='(':
+                d-=1
+                if d==0: break
+            j-=1
+        g=bb[j:]
+        before=bb[:j].rstrip()
+        if not(before.endswith('=') or before.endswith(' in')): log.append('asked '+m.group(1)); continue
+        ps=parts_of(g)
+        while len(ps)<len(f) and len(ps)>1:
+            lastp=ps[-1].strip()
+            if lastp.startswith('(') and lastp.endswith(')') and len(parts_of(lastp))>1: ps=ps[:-1]+parts_of(lastp)
+            else: break
+        if len(ps)!=len(f): log.append(f'asked {m.group(1)} {len(ps)} {len(f)}'); continue
+        blocks[i]=bb[:j]+'record { '+'; '.join(f'{a} = {p.strip()}' for a,p in zip(f,ps))+' }'+('\n' if b.endswith('\n') else '')
+    return '\n\n'.join(blocks)
 def t_place(t,p,segs):
     for x in segs:
         if x=='before': p=t.pl[p]['parent']
     return p
 def convert(text,T,fn,log):
+    text=re.sub(r'«([^»]*)»',r'\1',text)
     t=table(T)
     ret={}   # name -> place (as value in module or function)
     var={}
     sig={}
+    msig={}
     argheads=set(re.findall(r"let ([A-Za-z0-9_'-]+) = [^\n=]*\.args in",text))|set(re.findall(r"^\s*([A-Za-z0-9_'-]+) = [^\n=]*\.args\s*$",text,re.M))
     def needn(name):
         if norm(name) in t.needs: return t.needs[norm(name)]
@@ -186,7 +256,7 @@ def convert(text,T,fn,log):
             if norm(name) in t.loops: return f'tie.{k}{t.loops[norm(name)]}'
             log.append('loop '+name); return m.group(0)
     lines=text.split('\n');out=[]
-    pend=None
+    pend=None;modind=None;modplace=None
     def deftext(i):
         j=i
         while j>0 and lines[j].strip()!='': j-=1
@@ -196,6 +266,9 @@ def convert(text,T,fn,log):
     for li,l in enumerate(lines):
         if l.startswith('use ') or l.lstrip().startswith('--'): out.append(l); continue
         # signatures
+        mmod=re.match(rf"^(\s*)module _ \(({SEG}) : tie\.({SEG})",l)
+        if mmod: modind=len(mmod.group(1));modplace=place_of(t,mmod.group(3))
+        elif modind is not None and l.strip() and len(l)-len(l.lstrip())<=modind: modind=None;sig.update({k:v for k,v in msig.items() if k not in sig});msig.clear()
         m=re.match(rf"^\s*(?:abbrev +|unfoldable +)?(?:pub +)?({SEG})\s*:\s*(.*)$",l)
         if m and '=' not in l.split(':')[0]:
             name=m.group(1);rhs=m.group(2)
@@ -216,6 +289,7 @@ def convert(text,T,fn,log):
                         if p: var[v]=p
                     r=r[b.end():]
                 if bs: sig[name]=bs
+                elif modind is not None and modplace and len(l)-len(l.lstrip())==modind+2: msig[name]=[(modplace,modplace)]
                 pm=re.match(rf"tie\.({SEG})",r)
                 if pm and place_of(t,pm.group(1)): q0=place_of(t,pm.group(1)); ret[name]=(q0,q0); var[name]=ret[name]
         for b in re.finditer(rf"\(({SEG}(?: {SEG})*) : tie\.({SEG})",l):
@@ -248,6 +322,17 @@ def convert(text,T,fn,log):
                 p=ret.get(f.group(0)) if f else None
                 return (p,segs)
             return (var.get(head),segs)
+        # a context handed to a helper that says its type
+        def handed(m):
+            f,h,bs=m.group(1),m.group(2),m.group(3)
+            if f in sig and sig[f] and sig[f][0] and h in var and h not in sig:
+                want=sig[f][0][0]; 
+                oldp=var[h][0]
+                k,cur=newchain(t,var[h][1],want,log)
+                if cur==want or t.pl[cur]['new']==t.pl[want]['new']:
+                    return f'{f} {h}'+'.BEFORE'*k
+            return m.group(0)
+        l=re.sub(rf"(?<![A-Za-z0-9_'.-])({SEG}) ({SEG})((?:\.before)*)(?![A-Za-z0-9_'.-])",handed,l)
         newl=''
         while pos<len(l):
             mm=TOK.search(l,pos)
@@ -257,7 +342,7 @@ def convert(text,T,fn,log):
             newl+=l[pos:st]
             pre=newl
             prevc=l[st-1] if st>0 else ' '
-            r=None if prevc in ".'-" else path_at(mm,l[:st])
+            r=None if prevc in ".'-" or '.BEFORE' in mm.group('path') else path_at(mm,l[:st])
             head=mm.group('head')
             place=None
             if r is None: newl+=mm.group(0)
@@ -278,7 +363,7 @@ def convert(text,T,fn,log):
                                 v=lm0.group(1)
                                 uses=re.findall(rf"(?<![A-Za-z0-9_'.-]){re.escape(v)}(?![A-Za-z0-9_'-])(\.(?!before\b(?![.A-Za-z_-]*[a-z]))[A-Za-z])?",body)
                                 bare=[u for u in re.finditer(rf"(?<![A-Za-z0-9_'.-]){re.escape(v)}(?![A-Za-z0-9_'-])",body)]
-                                okk=all(body[u.end():u.end()+1]=='.' or body[:u.start()].endswith('let ') for u in bare)
+                                okk=all(body[u.end():u.end()+1]=='.' or body[:u.start()].endswith('let ') or (lambda q: q and q.group(1) in sig and sig[q.group(1)] and sig[q.group(1)][0])(re.search(rf"({SEG}) $",body[:u.start()])) for u in bare)
                                 if okk:
                                     P2=(t_place(t,p[0],segs),p[1])
                                     ns=[];place=P2
@@ -301,7 +386,7 @@ def convert(text,T,fn,log):
         for lm in re.finditer(rf"let ({SEG}) = ({SEG})((?: [^\s()]+| \([^()]*\))*) in",l):
             if lm.group(2) in ret and '.' not in lm.group(2): var[lm.group(1)]=ret[lm.group(2)]
             elif lm.group(2) in var and not lm.group(3): var[lm.group(1)]=var[lm.group(2)]
-        l=newl
+        l=newl.replace('.BEFORE','.before')
         l=re.sub(rf"tie\.(Need-|invariant-|decreases-)({SEG})",ty,l)
         def prep(m):
             p=place_of(t,m.group(1))
@@ -312,6 +397,7 @@ def convert(text,T,fn,log):
     text='\n'.join(out)
     text=re.sub(rf"not-(?:false|true) _ ([A-Za-z0-9_'-]+(?:\.before)*\.if-not-[A-Za-z0-9_'-]+\.(?:true|false))",r'\1',text)
     text=respec(t,T,text,log)
+    text=records(t,T,text,log)
     for o,n in t.args:
         po=o.replace(' ','').replace('.',r'\.')
         for v in (po,po.replace('_','-')):

@@ -20,13 +20,13 @@ module _ (f : tie.After-fill_refs) where
   abbrev s : tie.Start
   s = t.before.before.before.before.before.before
 
-  known : Known s.args.table.now f.fill_refs.last.1.1.0 s.args.book.now s.args.chosen.now
+  known : Known s.args.table.now f.fill_refs.new.refs s.args.book.now s.args.chosen.now
   known =
       record {
-        of_table = s.pre.packable.of_table;
-        filled = subst (λ (z : Shelf). Filled z s.args.table.now f.fill_refs.last.1.1.0) t.table_shelf.ensures
+        of_table = s.requires.packable.of_table;
+        filled = subst (λ (z : Shelf). Filled z s.args.table.now f.fill_refs.new.refs) t.table_shelf.ensures
             f.fill_refs.ensures;
-        of_chosen = s.pre.of_chosen;
+        of_chosen = s.requires.of_chosen;
       }
 
 fill-refs-requires : tie.Need-fill_refs-requires
@@ -39,14 +39,14 @@ fill-refs-requires c κs =
 mark-chosen-requires : tie.Need-mark_chosen-requires
 mark-chosen-requires c κs =
     let f = c.before.before.before in
-    (known f, fresh-long (s f).args.table.now (s f).requires.packable.of_table 20000 (omega arith))
+    record { known = known f; table_in_bounds = fresh-long (s f).args.table.now (s f).requires.packable.of_table 20000 (omega arith) }
 
 write-if-room-requires : tie.Need-write_if_room-requires
 write-if-room-requires c κs =
     let m = c.before.before.before.before.before.before in
     let f = m.before.before.before.before in
     let told = c.in-Fine.is in
-    (known f, ((s f).requires, fresh-marked 20000 refl m.mark_chosen.ensures told))
+    record { known = known f; may_pack = (s f).requires; marked = fresh-marked 20000 refl m.mark_chosen.ensures told }
 
 returns : tie.Need-returns-in-Fine
 returns c =
@@ -55,7 +55,7 @@ returns c =
     let b = s m.before.before.before.before.before.before.before.before.before.before.before.before.before in
     let told = w.in-Fine.is in
     w.write_if_room.ensures
-    ∙ sym (cut_as b.pre.packable b.args.out.now Fine (sym m.mark_chosen.ensures.said ∙ told))
+    ∙ sym (cut_as b.requires.packable b.args.out.now Fine (sym m.mark_chosen.ensures.said ∙ told))
 
 returns-2 : tie.Need-returns-in-Bad
 returns-2 c =
@@ -63,7 +63,7 @@ returns-2 c =
     let m = k in
     let b = s m.before.before.before.before.before.before in
     sym
-    (cut_as b.pre.packable b.args.out.now (Bad k.in-Bad.reason)
+    (cut_as b.requires.packable b.args.out.now (Bad k.in-Bad.reason)
     (sym m.mark_chosen.ensures.said ∙ k.in-Bad.is))
 
 pub cut_chosen_spec : {M : Type 1} → statement M

@@ -41,7 +41,7 @@ module _ (o : tie.After-organisations_in-of_book) where
   marks = s.args.starts.now
 
   abbrev starts : List ℕ
-  starts = r.place_rows-of_table.last.1.1.0
+  starts = r.place_rows-of_table.new.marks
 
   abbrev ds : List Packed
   ds = packed_all s.args.book.now s.args.chosen.now
@@ -56,20 +56,20 @@ module _ (o : tie.After-organisations_in-of_book) where
   may = s.requires.may_pack
 
   placed : Placed (table_stock table) marks starts
-  placed = subst (λ (z : Shelf). Placed (stock_of z table) marks starts) t.table_shelf.ensures r.place_rows-of_table.ensures.1.1
+  placed = subst (λ (z : Shelf). Placed (stock_of z table) marks starts) t.table_shelf.ensures r.place_rows-of_table.ensures.placed
 
   rows_of : r.place_rows-of_table.result.rows ≡ all_count (table_stock table) marks
-  rows_of = r.place_rows-of_table.ensures.0 ∙ ap (λ (z : Shelf). all_count (stock_of z table) marks) t.table_shelf.ensures
+  rows_of = r.place_rows-of_table.ensures.rows ∙ ap (λ (z : Shelf). all_count (stock_of z table) marks) t.table_shelf.ensures
 
   bytes_of : r.place_rows-of_table.result.bytes ≡ all_bytes (table_stock table) marks
-  bytes_of = r.place_rows-of_table.ensures.1.0 ∙ ap (λ (z : Shelf). all_bytes (stock_of z table) marks) t.table_shelf.ensures
+  bytes_of = r.place_rows-of_table.ensures.bytes ∙ ap (λ (z : Shelf). all_bytes (stock_of z table) marks) t.table_shelf.ensures
 
   points : count ≡ length ds
   points = sym (packed-length s.args.book.now s.args.chosen.now)
 
   whole : length pack
       ≡ r.place_rows-of_table.result.bytes + o.organisations_in-of_book.result.bytes + point_width newest * count + trailer_width newest
-  whole = omega (arith, counted may.packable s.requires.marked placed, points, bytes_of, o.organisations_in-of_book.ensures.1)
+  whole = omega (arith, counted may.packable s.requires.marked placed, points, bytes_of, o.organisations_in-of_book.ensures.bytes)
 
   few : length pack < 4_294_967_295
   few = may.packable.small
@@ -100,46 +100,43 @@ add-needed-3 c = omega (arith, whole c.before.before, few c.before.before)
 
 returns : tie.Need-returns-then-out-needed
 returns c =
-    let o = c.before.before.before in
-    counted-short (pack o) (s o).args.out.now (sym (whole o)) (omega (arith, whole o))
+    let o = c in
+    counted-short (pack o.before.before.before) (s o.before.before.before).args.out.now (sym (whole o.before.before.before)) (omega (arith, whole o.before.before.before))
 
 add-rows : tie.Need-overflow_add-rows
 add-rows c =
-    let o = c.before.before.before.before.before in
+    let o = c in
     omega (
       arith,
-      rows-small (may o).packable (s o).requires.1.1 (placed o),
-      rows_of o,
-      o.organisations_in-of_book.ensures.0,
+      rows-small (may o.before.before.before.before.before).packable (s o.before.before.before.before.before).requires.1.1 (placed o.before.before.before.before.before),
+      rows_of o.before.before.before.before.before,
+      o.organisations_in-of_book.ensures.rows,
     )
 
 write-pack-requires : tie.Need-write_pack-requires
 write-pack-requires c κs =
-    let o = c.before.before.before.before.before.before.before in
-    let is = written (may o).packable (s o).requires.1.1 (placed o) in (
-      (s o).requires.0,
-      record {
+    let o = c in
+    let is = written (may o.before.before.before.before.before).packable (s o.before.before.before.before.before).requires.1.1 (placed o.before.before.before.before.before) in record { known = (s o.before.before.before.before.before).requires.0; ready = record {
         of_rows =
             omega (
               arith,
-              rows-counted (may o).packable (s o).requires.1.1 (placed o),
-              rows_of o,
-              o.organisations_in-of_book.ensures.0,
+              rows-counted (may o.before.before.before.before.before).packable (s o.before.before.before.before.before).requires.1.1 (placed o.before.before.before.before.before),
+              rows_of o.before.before.before.before.before,
+              o.organisations_in-of_book.ensures.rows,
             );
-        of_points = points o;
-        of_room = omega (arith, ap length is, whole o);
-      },
-    )
+        of_points = points o.before.before.before.before.before;
+        of_room = omega (arith, ap length is, whole o.before.before.before.before.before);
+      } }
 
 returns-2 : tie.Need-returns
 returns-2 c =
     let p = c in
-    let o = p.before.before.before.before.before.before.before.before.before.before in
-    let out = (s o).args.out.now in
-    let is = written (may o).packable (s o).requires.1.1 (placed o) in
-    let fits : length (pack o) ≤ length out = omega (arith, whole o) in
+    let o = p in
+    let out = (s o.before.before.before.before.before.before.before.before.before).args.out.now in
+    let is = written (may o.before.before.before.before.before.before.before.before.before).packable (s o.before.before.before.before.before.before.before.before.before).requires.1.1 (placed o.before.before.before.before.before.before.before.before.before) in
+    let fits : length (pack o.before.before.before.before.before.before.before.before.before) ≤ length out = omega (arith, whole o.before.before.before.before.before.before.before.before.before) in
     let wrote = wrote_as is p.write_pack.ensures in
-    counted-written (pack o) out fits wrote.size wrote.is
+    counted-written (pack o.before.before.before.before.before.before.before.before.before) out fits wrote.size wrote.is
 
 pub write_if_room_spec : {M : Type 1} → statement M
 write_if_room_spec =

@@ -19,8 +19,8 @@ unfolding code_label
 returns c =
     let f = c in
     let t = f in
-    let k = t.before.before.before in
-    let a = (start k).args in
+    let k = t in
+    let a = (start k.before.before.before).args in
     sym
     (by-bad-code Refused a.code.now a.out.now _ (book_of a.book.now a.table.now)
     (sym k.check_source.ensures ∙ t.in-Value.is) (rw f.outward_fault.ensures at c.if-outward_fault-ne0.true))
@@ -28,8 +28,8 @@ returns c =
 label-among-requires : tie.Need-label_among-requires
 label-among-requires c κs =
     let t = c in
-    let k = t.before.before.before.before in
-    let a = (start k).args in
+    let k = t in
+    let a = (start k.before.before.before).args in
     let taken = sym k.check_source.ensures ∙ t.in-Value.is in
     (book-good a.book.now a.table.now taken, table-accepted a.book.now a.table.now taken)
 
@@ -39,8 +39,8 @@ returns-2 c =
     let good = w in
     let f = good in
     let t = f in
-    let k = t.before.before.before.before.before.before.before in
-    let a = (start k).args in
+    let k = t in
+    let a = (start k.before.before.before.before.before.before.before).args in
     w.label_among.ensures
     ∙ code-label a.book.now a.table.now (sym k.check_source.ensures ∙ t.in-Value.is) a.code.now
     (rw f.outward_fault.ensures at good.if-outward_fault-ne0.false) a.k a.out.now
@@ -48,8 +48,8 @@ returns-2 c =
 returns-3 : tie.Need-returns-in-Refused
 unfolding code_label
 returns-3 c =
-    let k = c.before in
-    let a = (start k).args in
+    let k = c in
+    let a = (start k.before).args in
     sym
     (by-refused Refused a.code.now a.out.now _ (book_of a.book.now a.table.now)
     (sym k.check_source.ensures ∙ c.in-Refused.is))

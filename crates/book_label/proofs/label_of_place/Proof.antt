@@ -25,16 +25,16 @@ returns : tie.Need-returns-in-Value
 returns c =
     let w = c in
     let t = w in
-    let k = t.before.before.before.before.before.before in
-    let a = (start k).args in
+    let k = t in
+    let a = (start k.before.before.before.before.before).args in
     let taken = sym k.check_source.ensures ∙ t.in-Value.is in
     w.label_among.ensures ∙ view-label a.book.now a.table.now taken a.place a.out.now
 
 returns-2 : tie.Need-returns-in-Refused
 unfolding view_label
 returns-2 c =
-    let k = c.before in
-    sym (afterwards-refused Refused (start k).args.out.now _ (sym k.check_source.ensures ∙ c.in-Refused.is))
+    let k = c in
+    sym (afterwards-refused Refused (start k.before).args.out.now _ (sym k.check_source.ensures ∙ c.in-Refused.is))
 
 pub label_of_place_spec : {M : Type 1} → statement M
 label_of_place_spec =

@@ -21,12 +21,12 @@ module _ (f : tie.After-fill_refs) where
   abbrev s : tie.Start
   s = t.before.before.before.before.before
 
-  known : Known s.args.table.now f.fill_refs.last.1.1.0 s.args.points.now
+  known : Known s.args.table.now f.fill_refs.new.refs s.args.points.now
   known =
       record {
-        of_table = s.pre.of_table;
-        of_points = s.pre.of_points;
-        filled = subst (λ (z : Shelf). Filled z s.args.table.now f.fill_refs.last.1.1.0) t.table_shelf.ensures
+        of_table = s.requires.of_table;
+        of_points = s.requires.of_points;
+        filled = subst (λ (z : Shelf). Filled z s.args.table.now f.fill_refs.new.refs) t.table_shelf.ensures
             f.fill_refs.ensures;
       }
 
@@ -47,7 +47,7 @@ write-if-room-requires c κs =
     let m = c.before.before.before.before.before.before in
     let f = m.before.before.before.before in
     let told = c.in-Fine.is in
-    (known f, ((s f).requires, fresh-marked 20000 refl m.mark_views.ensures told))
+    record { known = known f; judged = (s f).requires; marked = fresh-marked 20000 refl m.mark_views.ensures told }
 
 returns : tie.Need-returns-in-Fine
 returns c =
@@ -58,7 +58,7 @@ returns c =
     let told = w.in-Fine.is in
     w.write_if_room.ensures
     ∙ sym
-    (cut_as (packable a.table.now a.points.now a.code.now b.pre) a.out.now Fine
+    (cut_as (packable a.table.now a.points.now a.code.now b.requires) a.out.now Fine
     (sym m.mark_views.ensures.said ∙ told))
 
 returns-2 : tie.Need-returns-in-Bad
@@ -68,7 +68,7 @@ returns-2 c =
     let b = s m.before.before.before.before.before.before in
     let a = b.args in
     sym
-    (cut_as (packable a.table.now a.points.now a.code.now b.pre) a.out.now (Bad k.in-Bad.reason)
+    (cut_as (packable a.table.now a.points.now a.code.now b.requires) a.out.now (Bad k.in-Bad.reason)
     (sym m.mark_views.ensures.said ∙ k.in-Bad.is))
 
 pub cut_spec : {M : Type 1} → statement M

@@ -51,7 +51,7 @@ module _ (w : tie.After-count_wanted-count) where
   marks = s.args.starts.now
 
   abbrev starts : List ℕ
-  starts = r.place_rows-of_table.last.1.1.0
+  starts = r.place_rows-of_table.new.marks
 
   abbrev pack : List ℕ
   pack = live_pack table points code
@@ -60,13 +60,13 @@ module _ (w : tie.After-count_wanted-count) where
   ready = packable table points code s.requires.judged
 
   placed : Placed (table_stock table) marks starts
-  placed = subst (λ (z : Shelf). Placed (stock_of z table) marks starts) t.table_shelf.ensures r.place_rows-of_table.ensures.1.1
+  placed = subst (λ (z : Shelf). Placed (stock_of z table) marks starts) t.table_shelf.ensures r.place_rows-of_table.ensures.placed
 
   rows_of : r.place_rows-of_table.result.rows ≡ all_count (table_stock table) marks
-  rows_of = r.place_rows-of_table.ensures.0 ∙ ap (λ (z : Shelf). all_count (stock_of z table) marks) t.table_shelf.ensures
+  rows_of = r.place_rows-of_table.ensures.rows ∙ ap (λ (z : Shelf). all_count (stock_of z table) marks) t.table_shelf.ensures
 
   bytes_of : r.place_rows-of_table.result.bytes ≡ all_bytes (table_stock table) marks
-  bytes_of = r.place_rows-of_table.ensures.1.0 ∙ ap (λ (z : Shelf). all_bytes (stock_of z table) marks) t.table_shelf.ensures
+  bytes_of = r.place_rows-of_table.ensures.bytes ∙ ap (λ (z : Shelf). all_bytes (stock_of z table) marks) t.table_shelf.ensures
 
   views : w.count_wanted-count.result ≡ length (packed_in points code)
   views = w.count_wanted-count.ensures ∙ count-of code points
@@ -74,7 +74,7 @@ module _ (w : tie.After-count_wanted-count) where
   whole : length pack
       ≡ r.place_rows-of_table.result.bytes + o.organisations_in-of_points.result.bytes + point_width newest * w.count_wanted-count.result
       + trailer_width newest
-  whole = omega (arith, counted ready s.requires.marked placed, views, bytes_of, o.organisations_in-of_points.ensures.1)
+  whole = omega (arith, counted ready s.requires.marked placed, views, bytes_of, o.organisations_in-of_points.ensures.bytes)
 
   few : length pack < 4_294_967_295
   few = ready.small
@@ -100,47 +100,44 @@ add-needed-3 c = omega (arith, whole c.before.before, few c.before.before)
 
 returns : tie.Need-returns-then-out-needed
 returns c =
-    let w = c.before.before.before in
-    let out = (s w).args.out.now in
-    counted-short (pack w) out (sym (whole w)) (omega (arith, whole w))
+    let w = c in
+    let out = (s w.before.before.before).args.out.now in
+    counted-short (pack w.before.before.before) out (sym (whole w.before.before.before)) (omega (arith, whole w.before.before.before))
 
 add-rows : tie.Need-overflow_add-rows
 add-rows c =
-    let w = c.before.before.before.before.before in
+    let w = c in
     omega (
       arith,
-      rows-small (ready w) (s w).requires.1.1 (placed w),
-      rows_of w,
-      (o w).organisations_in-of_points.ensures.0,
+      rows-small (ready w.before.before.before.before.before) (s w.before.before.before.before.before).requires.1.1 (placed w.before.before.before.before.before),
+      rows_of w.before.before.before.before.before,
+      (o w.before.before.before.before.before).organisations_in-of_points.ensures.rows,
     )
 
 write-pack-requires : tie.Need-write_pack-requires
 write-pack-requires c κs =
-    let w = c.before.before.before.before.before.before.before in
-    let is = written (ready w) (s w).requires.1.1 (placed w) in (
-      (s w).requires.0,
-      record {
+    let w = c in
+    let is = written (ready w.before.before.before.before.before) (s w.before.before.before.before.before).requires.1.1 (placed w.before.before.before.before.before) in record { known = (s w.before.before.before.before.before).requires.0; ready = record {
         of_rows =
             omega (
               arith,
-              rows-counted (ready w) (s w).requires.1.1 (placed w),
-              rows_of w,
-              (o w).organisations_in-of_points.ensures.0,
+              rows-counted (ready w.before.before.before.before.before) (s w.before.before.before.before.before).requires.1.1 (placed w.before.before.before.before.before),
+              rows_of w.before.before.before.before.before,
+              (o w.before.before.before.before.before).organisations_in-of_points.ensures.rows,
             );
-        of_points = views w;
-        of_room = omega (arith, ap length is, whole w);
-      },
-    )
+        of_points = views w.before.before.before.before.before;
+        of_room = omega (arith, ap length is, whole w.before.before.before.before.before);
+      } }
 
 returns-2 : tie.Need-returns
 returns-2 c =
     let p = c in
-    let w = p.before.before.before.before.before.before.before.before.before.before in
-    let out = (s w).args.out.now in
-    let is = written (ready w) (s w).requires.1.1 (placed w) in
-    let fits : length (pack w) ≤ length out = omega (arith, whole w) in
+    let w = p in
+    let out = (s w.before.before.before.before.before.before.before.before.before).args.out.now in
+    let is = written (ready w.before.before.before.before.before.before.before.before.before) (s w.before.before.before.before.before.before.before.before.before).requires.1.1 (placed w.before.before.before.before.before.before.before.before.before) in
+    let fits : length (pack w.before.before.before.before.before.before.before.before.before) ≤ length out = omega (arith, whole w.before.before.before.before.before.before.before.before.before) in
     let wrote = wrote_as is p.write_pack.ensures in
-    counted-written (pack w) out fits wrote.size wrote.is
+    counted-written (pack w.before.before.before.before.before.before.before.before.before) out fits wrote.size wrote.is
 
 pub write_if_room_spec : {M : Type 1} → statement M
 write_if_room_spec =

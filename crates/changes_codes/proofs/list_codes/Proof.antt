@@ -21,7 +21,7 @@ module _ (q : tie.After-count_codes-k) where
   abbrev points : List ℕ
   points = s.args.points.now
 
-  listed : take g.live_codes-n.result g.live_codes-n.last.1.0 ≡ all_codes points
+  listed : take g.live_codes-n.result g.live_codes-n.new.codes ≡ all_codes points
   listed = front-is g.live_codes-n.ensures
 
 live-codes-requires : tie.Need-live_codes-n-requires
@@ -55,17 +55,17 @@ slice-aggregate-write-if-room-2 c = counts-lent c.count_codes-k.ensures
 
 write-if-room-requires : tie.Need-write_if_room-requires
 write-if-room-requires c κs =
-    let q = c.before.before.before.before.before in
+    let q = c in
     let k = q.count_codes-k.ensures in (
-      as_many k (points q) _ (listed q),
-      few k (points q) _ (listed q) (s q).requires,
+      as_many k (points q.before.before.before.before) _ (listed q.before.before.before.before),
+      few k (points q.before.before.before.before) _ (listed q.before.before.before.before) (s q.before.before.before.before).requires,
     )
 
 returns : tie.Need-returns
 returns c =
     let w = c in
-    let q = w.before.before.before.before.before.before.before.before in
-    w.write_if_room.ensures ∙ told q.count_codes-k.ensures (points q) _ (listed q) (s q).args.out.now
+    let q = w in
+    w.write_if_room.ensures ∙ told q.count_codes-k.ensures (points q.before.before.before.before.before.before.before.before) _ (listed q.before.before.before.before.before.before.before.before) (s q.before.before.before.before.before.before.before.before).args.out.now
 
 pub list_codes_spec : {M : Type 1} → statement M
 list_codes_spec =

@@ -6,7 +6,7 @@ use mathlib.Core.Option.{Option}
 use Prim.Native.Nat.{ℕ}
 use Rattle.refusal.specs.declared.Answer.TheVariants.{Refused}
 use Rattle.refusal.proofs.Outcomes.{afterwards-refused}
-use Rattle.csv_paf.specs.Ask.{resolved_of, label_or, row_label, csv_label}
+use Rattle.csv.specs.Ask.{resolved_of, label_or, row_label, csv_label}
 use Rattle.csv_label.proofs.RowLaws.{row_here}
 use Rattle.csv_label.proofs.ShownLaws.{label-asked}
 use Rattle.csv_label.proofs.label_of_row.Statement.{statement}
@@ -29,8 +29,8 @@ unfolding row_label
 returns c =
     let l = c in
     let p = l in
-    let t = p.before.before.before.before.before in
-    let a = (start t).args in
+    let t = p in
+    let a = (start t.before.before.before.before.before).args in
     l.label_at.ensures
     ∙ (ap (λ (o : Option (List ℕ)). label_or (resolved_of o) a.out.now) p.row_place.ensures.1
     ∙ label-asked a.csv.now (sym t.check_csv.ensures ∙ t.in-Value.is) a.row a.out.now)

@@ -9,7 +9,7 @@ use Rattle.source.specs.Address.{present}
 use Rattle.source.specs.Resolve.{forbidden_of}
 use Rattle.label.specs.declared.Span.{Span}
 use Rattle.label.specs.Spans.{text_in2, elements_in}
-use Rattle.csv_paf.specs.Ask.{forbidden_in}
+use Rattle.csv.specs.Ask.{forbidden_in}
 use Rattle.csv_spans.proofs.Rules.{is-filled, forbidden-same, rule-one, rule-two, no-rule}
 use Rattle.csv_spans.proofs.forbidden_in.Statement.{statement}
 use Rattle.csv_spans.proofs.forbidden_in.Tie as tie
@@ -41,35 +41,35 @@ module _ (c : tie.After-struct_known-1) where
   unfolding forbidden_in elements_in
   told =
       forbidden-same start.args.e.number (is-filled (text start.args.e.sub_building) sub_read.text_len-sub.ensures.0)
-      (is-filled (text start.args.e.«building») name-read.text_len-name.ensures.0) (is-filled (text start.args.e.«thoroughfare») street-read.text_len-street.ensures.0)
-      (is-filled (text start.args.e.«dependent») dependent-read.text_len-dependent.ensures.0)
+      (is-filled (text start.args.e.building) name-read.text_len-name.ensures.0) (is-filled (text start.args.e.thoroughfare) street-read.text_len-street.ensures.0)
+      (is-filled (text start.args.e.dependent) dependent-read.text_len-dependent.ensures.0)
 
 returns : tie.Need-returns-then-sub-name
 returns c =
-    let t = c.before in
+    let t = c in
     sym
-    (rule-one (not (eqb (sub_read t).text_len-sub.result 0)) (not (eqb (name-read t).text_len-name.result 0))
-    (present (start t).args.e.number) (not (eqb (street-read t).text_len-street.result 0))
-    (not (eqb (dependent-read t).text_len-dependent.result 0)) c.if-sub-name.true)
-    ∙ told t
+    (rule-one (not (eqb (sub_read t.before).text_len-sub.result 0)) (not (eqb (name-read t.before).text_len-name.result 0))
+    (present (start t.before).args.e.number) (not (eqb (street-read t.before).text_len-street.result 0))
+    (not (eqb (dependent-read t.before).text_len-dependent.result 0)) c.if-sub-name.true)
+    ∙ told t.before
 
 returns-2 : tie.Need-returns-then-dependent-street
 returns-2 c =
-    let t = c.before.before in
+    let t = c in
     sym
-    (rule-two (not (eqb (sub_read t).text_len-sub.result 0)) (not (eqb (name-read t).text_len-name.result 0))
-    (present (start t).args.e.number) (not (eqb (street-read t).text_len-street.result 0))
-    (not (eqb (dependent-read t).text_len-dependent.result 0)) c.if-sub-name.false c.if-dependent-street.true)
-    ∙ told t
+    (rule-two (not (eqb (sub_read t.before.before).text_len-sub.result 0)) (not (eqb (name-read t.before.before).text_len-name.result 0))
+    (present (start t.before.before).args.e.number) (not (eqb (street-read t.before.before).text_len-street.result 0))
+    (not (eqb (dependent-read t.before.before).text_len-dependent.result 0)) c.if-sub-name.false c.if-dependent-street.true)
+    ∙ told t.before.before
 
 returns-3 : tie.Need-returns
 returns-3 c =
-    let t = c.before.before in
+    let t = c in
     sym
-    (no-rule (not (eqb (sub_read t).text_len-sub.result 0)) (not (eqb (name-read t).text_len-name.result 0))
-    (present (start t).args.e.number) (not (eqb (street-read t).text_len-street.result 0))
-    (not (eqb (dependent-read t).text_len-dependent.result 0)) c.if-sub-name.false c.if-dependent-street.false)
-    ∙ told t
+    (no-rule (not (eqb (sub_read t.before.before).text_len-sub.result 0)) (not (eqb (name-read t.before.before).text_len-name.result 0))
+    (present (start t.before.before).args.e.number) (not (eqb (street-read t.before.before).text_len-street.result 0))
+    (not (eqb (dependent-read t.before.before).text_len-dependent.result 0)) c.if-sub-name.false c.if-dependent-street.false)
+    ∙ told t.before.before
 
 pub forbidden_in_spec : {M : Type 1} → statement M
 forbidden_in_spec =

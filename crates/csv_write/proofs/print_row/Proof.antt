@@ -9,7 +9,7 @@ use lib.ListN.{length}
 use Rattle.source.specs.Address.{Elements}
 use Rattle.label.specs.Spans.{elements_in}
 use Rattle.label.proofs.Room.{counted-short, counted-written}
-use Rattle.csv_paf.specs.Row.{carried}
+use Rattle.csv.specs.Row.{carried}
 use Rattle.csv_write.specs.Pieces.{row_in}
 use Rattle.csv_write.proofs.Written.{written-carried, written-not}
 use Rattle.csv_write.proofs.print_row.Statement.{statement}
@@ -31,10 +31,10 @@ module _ (kept : tie.Then-is_carried) where
 
 returns : tie.Need-returns-then-out-needed
 returns c =
-    let kept = c.before.before in
-    let out = (start kept).args.out.now in
-    counted-short (row kept) out ((c.needed_of-needed.ensures (start kept).args.x).1 c.if-out-needed.true) c.if-out-needed.true
-    ∙ written-carried (row kept) (said_of kept) out (is_carried kept)
+    let kept = c in
+    let out = (start kept.before.before).args.out.now in
+    counted-short (row kept.before.before) out ((c.needed_of-needed.ensures (start kept.before.before).args.x).1 c.if-out-needed.true) c.if-out-needed.true
+    ∙ written-carried (row kept.before.before) (said_of kept.before.before) out (is_carried kept.before.before)
 
 -- and there is room
 fits : (c : tie.Else-out-needed) → length (row c.before.before) ≤ length (start c.before.before).args.out.now
@@ -43,11 +43,11 @@ fits c = (c.needed_of-needed.ensures (start c.before.before).args.x).0 (omega (a
 returns-2 : tie.Need-returns-then-is_carried
 returns-2 c =
     let written = c in
-    let room = written.before.before.before.before in
-    let kept = room.before.before in
-    let out = (start kept).args.out.now in
-    counted-written (row kept) out (fits room) written.write_row.ensures.size written.write_row.ensures.is
-    ∙ written-carried (row kept) (said_of kept) out (is_carried kept)
+    let room = written in
+    let kept = room in
+    let out = (start kept.before.before.before.before.before.before).args.out.now in
+    counted-written (row kept.before.before.before.before.before.before) out (fits room.before.before.before.before) written.write_row.ensures.size written.write_row.ensures.is
+    ∙ written-carried (row kept.before.before.before.before.before.before) (said_of kept.before.before.before.before.before.before) out (is_carried kept.before.before.before.before.before.before)
 
 returns-3 : tie.Need-returns
 returns-3 c =

@@ -90,9 +90,9 @@ returns-4 c =
 
 returns-5 : tie.Need-returns-in_default
 returns-5 c =
-    let k = c.before.before in
+    let k = c in
     let g = k.args in
-    let n = rw (classes k) at c.in_default.in_default-own.rest in
+    let n = rw (classes k.before.before) at c.in_default.in_default-own.rest in
     sym (no-pattern g.a g.b g.c g.d n.0.0.0.1 n.0.0.1 n.0.1 n.1)
 
 pub pattern_fault_spec : {M : Type 1} → statement M

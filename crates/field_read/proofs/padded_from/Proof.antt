@@ -43,8 +43,8 @@ less-requires-2 c κs =
 two-asked : (c : tie.After-less-two) → let g = c.args in
     Padded g.rec.now g.end 2 c.less-two.result
 two-asked c =
-    let four = c.before.before.before in
-    let p = four-asked four in
+    let four = c in
+    let p = four-asked four.before.before.before in
     let start = four in
     let rec = start.args.rec.now in
     padded-half rec start.args.end start.requires.0 2 four.less-four.result _ c.less-two.result p
@@ -66,8 +66,8 @@ less-requires-3 c κs =
 
 returns : tie.Need-returns
 returns c =
-    let two = c.before.before in
-    let p = two-asked two in
+    let two = c in
+    let p = two-asked two.before.before in
     let start = two in
     let rec = start.args.rec.now in
     padded-half rec start.args.end start.requires.0 1 two.less-two.result _ c.less.result p

@@ -29,9 +29,9 @@ at_first c =
 
 returns : tie.Need-returns-then-e-start invariant-loop decreases-loop
 returns c =
-    let first = c.before.before in
+    let first = c in
     let a = first.args in
-    sym (text-none a.rec.now a.start first.lesser-e.result (omega arith)) ∙ (at_first first).1
+    sym (text-none a.rec.now a.start first.lesser-e.result (omega arith)) ∙ (at_first first.before).1
 
 add-floor : tie.Need-overflow_add-floor invariant-loop decreases-loop
 add-floor c = omega (arith, (at_first c.before).0)
@@ -49,7 +49,7 @@ padded-from-requires c κs =
 sub-result : tie.Need-slice_bounds-result-count invariant-loop decreases-loop
 sub-result c = omega (arith, c.padded_from-from.ensures.room)
 
-part-result-end : tie.Need-slice_bounds-result-end invariant-loop decreases-loop
+part-result-end : tie.Need-slice_bounds-result-end-then-not-eight_blank invariant-loop decreases-loop
 part-result-end c = omega (arith, c.padded_from-from.ensures.before, c.loop-e.invariant.1)
 
 returns-2 : tie.Need-returns-then-not-eight_blank invariant-loop decreases-loop

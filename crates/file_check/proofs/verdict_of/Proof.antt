@@ -43,7 +43,7 @@ module _ (c : tie.Else-not-is_whole) where
   all = sym c.is_whole.ensures ∙ c.if-not-is_whole.false
 
 record-in-requires : tie.Need-record_in-first-requires
-record-in-requires c κs = omega (arith, at-least-two (f c.before) (file c.before) (all c.before))
+record-in-requires c κs = omega (arith, at-least-two (f c) (file c) (all c))
 
 -- the first record is asked for its identifier
 module _ (c : tie.After-is_retired) where
@@ -114,12 +114,12 @@ module _ (c : tie.After-is_retired-2) where
 
 returns-4 : tie.Need-returns-then-is_retired-2
 returns-4 c =
-    let q = c.before in
-    let p = past-2 q in
-    rw (many q)
+    let q = c in
+    let p = past-2 q.before in
+    rw (many q.before)
     (sym
-    (verdict-retired-end (fmt q) (bytes q) (all (whole-one p)) (current p.before) (headed p)
-    (sym (last-retired q) ∙ c.if-is_retired-2.true)))
+    (verdict-retired-end (fmt q.before) (bytes q.before) (all (whole-one p)) (current p.before) (headed p)
+    (sym (last-retired q.before) ∙ c.if-is_retired-2.true)))
 
 -- and whether it is the trailer
 module _ (c : tie.After-is_trailer) where
@@ -153,13 +153,13 @@ scan-records-requires c κs =
 
 returns-6 : tie.Need-returns
 returns-6 c =
-    let e = c.before.before in
-    let q = asked e in
+    let e = c in
+    let q = asked e.before.before in
     let p = past-2 q in
     rw (c.scan_records.ensures, many q)
     (sym
-    (verdict-scan (fmt q) (bytes q) (all (whole-one p)) (current p.before) (headed p) (ending e)
-    (sym (last-ended e) ∙ c.if-not-is_trailer.false)))
+    (verdict-scan (fmt q) (bytes q) (all (whole-one p)) (current p.before) (headed p) (ending e.before.before)
+    (sym (last-ended e.before.before) ∙ c.if-not-is_trailer.false)))
 
 pub verdict_of_spec : {M : Type 1} → statement M
 verdict_of_spec =

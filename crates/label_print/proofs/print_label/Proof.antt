@@ -31,10 +31,10 @@ module _ (room : tie.Else-out-needed) where
 returns-2 : tie.Need-returns
 returns-2 c =
     let written = c in
-    let room = written.before.before.before.before in
-    counted-written (text room) (start room).args.out.now (fits room) written.write_label.ensures.0
+    let room = written in
+    counted-written (text room.before.before.before.before) (start room.before.before.before.before).args.out.now (fits room.before.before.before.before) written.write_label.ensures.0
     written.write_label.ensures.1
 
 pub print_label_spec : {M : Type 1} → statement M
 print_label_spec =
-    tie.close (tie.spec (search rules) returns (λ c κs. fits c.before) (search rules) returns-2)
+    tie.close (tie.spec (search rules) returns (λ c κs. fits c.before.before.before.before) (search rules) returns-2)

@@ -26,19 +26,19 @@ unfolding pack_built
 returns c =
     let f = c in
     let t = f in
-    let k = t.before.before.before in
-    let a = (start k).args in
+    let k = t in
+    let a = (start k.before.before.before).args in
     sym
-    (by-bad-code Refused a.code.now a.out.now _ (main_of (files k))
+    (by-bad-code Refused a.code.now a.out.now _ (main_of (files k.before.before.before))
     (sym k.check_set.ensures ∙ t.in-Value.is) (rw f.outward_fault.ensures at c.if-outward_fault-ne0.true))
 
 cut-requires : tie.Need-cut-requires
 cut-requires c κs =
     let f = c in
     let t = f in
-    let k = t.before.before.before.before in
+    let k = t in
     record {
-      of_set = set-accepted (files k) (sym k.check_set.ensures ∙ t.in-Value.is);
+      of_set = set-accepted (files k.before.before.before) (sym k.check_set.ensures ∙ t.in-Value.is);
       of_code = rw f.outward_fault.ensures at c.if-outward_fault-ne0.false;
     }
 
@@ -49,20 +49,20 @@ returns-2 c =
     let i = l in
     let f = i in
     let t = f in
-    let k = t.before.before.before.before.before.before.before in
-    let a = (start k).args in
+    let k = t in
+    let a = (start k.before.before.before.before.before.before.before).args in
     l.cut.ensures
     ∙ sym
-    (by-good-code Refused a.code.now a.out.now _ (main_of (files k))
+    (by-good-code Refused a.code.now a.out.now _ (main_of (files k.before.before.before.before.before.before.before))
     (sym k.check_set.ensures ∙ t.in-Value.is) (rw f.outward_fault.ensures at i.if-outward_fault-ne0.false))
 
 returns-3 : tie.Need-returns-in-Refused
 unfolding pack_built
 returns-3 c =
-    let k = c.before in
-    let a = (start k).args in
+    let k = c in
+    let a = (start k.before).args in
     sym
-    (by-refused Refused a.code.now a.out.now _ (main_of (files k))
+    (by-refused Refused a.code.now a.out.now _ (main_of (files k.before))
     (sym k.check_set.ensures ∙ c.in-Refused.is))
 
 pub build_pack_spec : {M : Type 1} → statement M

@@ -31,18 +31,15 @@ module _ (f : tie.After-stretch_in-found) where
   code = start.args.code.now
 
   stretched : Stretched files code f.stretch_in-found.result.first f.stretch_in-found.result.many
-  stretched = record { first_is = f.stretch_in-found.ensures.0; many_is = f.stretch_in-found.ensures.1 }
+  stretched = record { first_is = f.stretch_in-found.ensures.first; many_is = f.stretch_in-found.ensures.many }
 
   packed-is : packed_in files code ≡ packed_from files f.stretch_in-found.result.first f.stretch_in-found.result.many
-  packed-is = stretch-packed files start.pre.of_set stretched
+  packed-is = stretch-packed files start.requires.of_set stretched
 
 mark-addresses-requires : tie.Need-mark_addresses-requires
 mark-addresses-requires c κs =
     let f = c.before.before.before.before.before in
-    let ok = (start f).requires.of_set in (
-      record { accepted = ok; bits = fresh-bits (files f) ok.rows 31_250 _ refl refl },
-      stretch-high (files f) ok (stretched f),
-    )
+    let ok = (start f).requires.of_set in record { markable = record { accepted = ok; bits = fresh-bits (files f) ok.rows 31_250 _ refl refl }; many_bound = stretch-high (files f) ok (stretched f) }
 
 -- and their rows are marked
 module _ (m : tie.After-mark_addresses) where
@@ -61,31 +58,28 @@ write-if-room-requires c κs =
     let f = found m in
     let told = t.in-Fine.is in
     let zeros : List ℕ = replicate 31_250 0 in
-    let none = set_marks (files f) zeros zeros zeros zeros zeros in (
-      fresh-marked (files f) (code f) zeros _ _ _ _ _ (start f).pre (fresh_unmarked 31_250) (sym (verdict-is m) ∙ told)
+    let none = set_marks (files f) zeros zeros zeros zeros zeros in record { marked = fresh-marked (files f) (code f) zeros _ _ _ _ _ (start f).requires (fresh_unmarked 31_250) (sym (verdict-is m) ∙ told)
           (m.mark_addresses.ensures.marks_all told
-          ∙ sym (ap (λ (ds : List Packed). mark_all (set_stock (files f)) ds none) (packed-is f))),
-      stretched f,
-    )
+          ∙ sym (ap (λ (ds : List Packed). mark_all (set_stock (files f)) ds none) (packed-is f))); stretched = stretched f }
 
 returns : tie.Need-returns-in-Fine
 returns c =
     let w = c in
     let t = w in
-    let m = t.before.before.before.before.before.before.before.before.before.before.before.before.before.before.before in
-    let f = found m in
+    let m = t in
+    let f = found m.before.before.before.before.before.before.before.before.before.before.before.before.before.before.before in
     w.write_if_room.ensures
     ∙ sym
-    (cut_as (files f) (code f) (start f).args.out.now (start f).pre Fine (sym (verdict-is m) ∙ t.in-Fine.is))
+    (cut_as (files f) (code f) (start f).args.out.now (start f).requires Fine (sym (verdict-is m.before.before.before.before.before.before.before.before.before.before.before.before.before.before.before) ∙ t.in-Fine.is))
 
 returns-2 : tie.Need-returns-in-Bad
 returns-2 c =
     let k = c in
-    let m = k.before.before.before.before.before.before in
-    let f = found m in
+    let m = k in
+    let f = found m.before.before.before.before.before.before in
     sym
-    (cut_as (files f) (code f) (start f).args.out.now (start f).pre (Bad k.in-Bad.reason)
-    (sym (verdict-is m) ∙ k.in-Bad.is))
+    (cut_as (files f) (code f) (start f).args.out.now (start f).requires (Bad k.in-Bad.reason)
+    (sym (verdict-is m.before.before.before.before.before.before) ∙ k.in-Bad.is))
 
 pub cut_spec : {M : Type 1} → statement M
 cut_spec =

@@ -66,7 +66,7 @@ place-set-requires : tie.Need-place_set-of_rows-requires
 place-set-requires c κs =
     let k = c.before.before.before.before.before in
     let ok = (marked k).judged.of_set.rows in
-    (rows-only (files k) ok, fresh-blocks (files k) ok 15_625 _ refl refl)
+    record { accepted_rows = rows-only (files k) ok; blocks_for = fresh-blocks (files k) ok 15_625 _ refl refl }
 
 -- once the blocks have their starts
 module _ (r : tie.After-place_set-of_rows) where
@@ -75,12 +75,12 @@ module _ (r : tie.After-place_set-of_rows) where
 
   rows_of : r.place_set-of_rows.result.rows ≡ all_count (set_stock (files r-start)) (marks r-start)
   rows_of =
-      r.place_set-of_rows.ensures.0
+      r.place_set-of_rows.ensures.rows
       ∙ sym (ap₂ all_count (same_rows (files r-start)) (marks-only (files r-start) (l r-start) (t r-start) (d r-start) (b r-start) (s r-start)))
 
   bytes_of : r.place_set-of_rows.result.bytes ≡ all_bytes (set_stock (files r-start)) (marks r-start)
   bytes_of =
-      r.place_set-of_rows.ensures.1.0
+      r.place_set-of_rows.ensures.bytes
       ∙ sym (ap₂ all_bytes (same_rows (files r-start)) (marks-only (files r-start) (l r-start) (t r-start) (d r-start) (b r-start) (s r-start)))
 
 organisations-in-requires : tie.Need-organisations_in-of_own-requires
@@ -113,7 +113,7 @@ module _ (o : tie.After-organisations_in-of_own) where
         counted (files k) (code k) (l k) (t k) (d k) (b k) (s k) (marked k),
         stretch-long (files k) (marked k).judged.of_set (stretched k),
         bytes_of placed,
-        o.organisations_in-of_own.ensures.1,
+        o.organisations_in-of_own.ensures.bytes,
         ap (λ (ds : List Packed). length (organisation_rows others ds)) packed-is,
       )
 
@@ -123,7 +123,7 @@ module _ (o : tie.After-organisations_in-of_own) where
   rows_all : placed.place_set-of_rows.result.rows + o.organisations_in-of_own.result.rows
       ≡ all_count (set_stock (files k)) (marks k) + organisation_count (packed_in (files k) (code k))
   rows_all =
-      omega (arith, rows_of placed, o.organisations_in-of_own.ensures.0, ap organisation_count packed-is)
+      omega (arith, rows_of placed, o.organisations_in-of_own.ensures.rows, ap organisation_count packed-is)
 
 add-needed : tie.Need-overflow_add-needed
 add-needed c = omega (arith, whole c.before.before, few c.before.before)
@@ -139,38 +139,35 @@ add-needed-3 c = omega (arith, whole c.before.before, few c.before.before)
 
 returns : tie.Need-returns-then-out-needed
 returns c =
-    let o = c.before.before.before in
-    let out = (start (k o)).args.out.now in
-    counted-short (pack (k o)) out (sym (whole o)) (omega (arith, whole o))
+    let o = c in
+    let out = (start (k o.before.before.before)).args.out.now in
+    counted-short (pack (k o.before.before.before)) out (sym (whole o.before.before.before)) (omega (arith, whole o.before.before.before))
 
 add-rows : tie.Need-overflow_add-rows
 add-rows c =
-    let o = c.before.before.before.before.before in
-    omega (arith, rows-small (files (k o)) (code (k o)) (l (k o)) (t (k o)) (d (k o)) (b (k o)) (s (k o)) (marked (k o)), rows_all o)
+    let o = c in
+    omega (arith, rows-small (files (k o.before.before.before.before.before)) (code (k o.before.before.before.before.before)) (l (k o.before.before.before.before.before)) (t (k o.before.before.before.before.before)) (d (k o.before.before.before.before.before)) (b (k o.before.before.before.before.before)) (s (k o.before.before.before.before.before)) (marked (k o.before.before.before.before.before)), rows_all o.before.before.before.before.before)
 
 write-pack-requires : tie.Need-write_pack-requires
 write-pack-requires c κs =
-    let o = c.before.before.before.before.before.before.before.before.before.before.before in
-    let f = k o in
-    let is = written (files f) (code f) (l f) (t f) (d f) (b f) (s f) (marked f) in (
-      record { marks = marked f; blocks = (placed o).place_set-of_rows.ensures.1.1; stretch = stretched f },
-      record {
+    let o = c in
+    let f = k o.before.before.before.before.before in
+    let is = written (files f) (code f) (l f) (t f) (d f) (b f) (s f) (marked f) in record { placed = record { marks = marked f; blocks = (placed o.before.before.before.before.before).place_set-of_rows.ensures.placed; stretch = stretched f }; ready_for = record {
         of_rows =
-            omega (arith, rows-counted (files f) (code f) (l f) (t f) (d f) (b f) (s f) (marked f), rows_all o);
+            omega (arith, rows-counted (files f) (code f) (l f) (t f) (d f) (b f) (s f) (marked f), rows_all o.before.before.before.before.before);
         of_points = sym (stretch-long (files f) (marked f).judged.of_set (stretched f));
-        of_room = omega (arith, ap length is, whole o);
-      },
-    )
+        of_room = omega (arith, ap length is, whole o.before.before.before.before.before);
+      } }
 
 returns-2 : tie.Need-returns
 returns-2 c =
     let p = c in
-    let o = p.before.before.before.before.before.before.before.before.before.before.before.before.before.before in
-    let f = k o in
+    let o = p in
+    let f = k o.before.before.before.before.before.before.before.before.before.before.before.before.before.before in
     let out = (start f).args.out.now in
     let is = written (files f) (code f) (l f) (t f) (d f) (b f) (s f) (marked f) in
     let there = p in
-    let fits : length (pack f) ≤ length out = omega (arith, whole o, there.if-out-needed.false) in
+    let fits : length (pack f) ≤ length out = omega (arith, whole o.before.before.before.before.before.before.before.before.before.before.before.before.before.before, there.if-out-needed.false) in
     let wrote = wrote_as is p.write_pack.ensures in
     counted-written (pack f) out fits wrote.size wrote.is
 

@@ -34,23 +34,23 @@ count-codes-requires c κs = c.requires
 
 returns : tie.Need-returns-then-out-needed
 returns c =
-    let k = c.before in
-    said-as (ap (λ (n : ℕ). Refused 0 (Room n)) (needed k)) refl
-    ∙ sym (falls-short (length (es k)) (entry_bytes (es k)) (out k) (omega (arith, needed k, c.if-out-needed.true)))
+    let k = c in
+    said-as (ap (λ (n : ℕ). Refused 0 (Room n)) (needed k.before)) refl
+    ∙ sym (falls-short (length (es k.before)) (entry_bytes (es k.before)) (out k.before) (omega (arith, needed k.before, c.if-out-needed.true)))
 
 write-codes-requires : tie.Need-write_codes-requires
 write-codes-requires c κs =
     let e = c in
-    let k = e.before.before in
-    ((s k).requires, omega (arith, needed k, e.if-out-needed.false))
+    let k = e in
+    record { accepted = (s k.before).requires; addresses_in_bounds = omega (arith, needed k.before, e.if-out-needed.false) }
 
 returns-2 : tie.Need-returns
 returns-2 c =
     let w = c in
     let e = w in
-    let k = e.before.before.before.before.before in
+    let k = e in
     said-as (ap Value k.count_codes-n.ensures.0) w.write_codes.ensures.is
-    ∙ sym (fits (length (es k)) (entry_bytes (es k)) (out k) (omega (arith, needed k, e.if-out-needed.false)))
+    ∙ sym (fits (length (es k.before.before.before.before.before)) (entry_bytes (es k.before.before.before.before.before)) (out k.before.before.before.before.before) (omega (arith, needed k.before.before.before.before.before, e.if-out-needed.false)))
 
 pub list_codes_spec : {M : Type 1} → statement M
 list_codes_spec =

@@ -4,7 +4,7 @@ use mathlib.Core.Path.{◌≡◌, sym, ap₂, ◌∙◌}
 use Prim.Native.Nat.{ℕ}
 use Rattle.refusal.specs.declared.Answer.TheVariants.{Refused}
 use Rattle.refusal.proofs.Outcomes.{afterwards-refused}
-use Rattle.csv_paf.specs.Row.{view_row}
+use Rattle.csv.specs.Row.{view_row}
 use Rattle.mainfile.specs.Set.{Set, set_of}
 use Rattle.mainfile_check.proofs.Laws.{set-accepted}
 use Rattle.mainfile_views.specs.Range.{views_in}
@@ -45,12 +45,12 @@ module _ (p : tie.After-place_among-place) where
   place_is =
       let v = (start (judged told)).args.view in
       p.place_among-place.ensures
-      ∙ ap₂ (λ (n m : ℕ). place_among n m v) p.all_in.ensures.0 p.all_in.ensures.1
+      ∙ ap₂ (λ (n m : ℕ). place_among n m v) p.all_in.ensures.first p.all_in.ensures.many
 
 place-among-requires : tie.Need-place_among-place-requires
 place-among-requires c κs =
     let t = c.before in
-    rw (c.all_in.ensures.0, c.all_in.ensures.1) (between-few (files (judged t)) _ _ (between t))
+    rw (c.all_in.ensures.first, c.all_in.ensures.many) (between-few (files (judged t)) _ _ (between t))
 
 row-at-requires : tie.Need-row_at-requires
 row-at-requires c κs =
@@ -61,19 +61,19 @@ row-at-requires c κs =
 returns : tie.Need-returns-in-Value
 returns c =
     let l = c in
-    let p = l.before.before.before.before in
-    let t = told p in
+    let p = l in
+    let t = told p.before.before.before.before in
     let k = judged t in
     let a = (start k).args in
-    rw (place_is p) at l.row_at.ensures
+    rw (place_is p.before.before.before.before) at l.row_at.ensures
     ∙ row-by-place (files k) (sym k.check_set.ensures ∙ t.in-Value.is) a.view a.out.now
 
 returns-2 : tie.Need-returns-in-Refused
 unfolding view_row
 returns-2 c =
-    let k = c.before in
+    let k = c in
     sym
-    (afterwards-refused Refused (start k).args.out.now _ (sym k.check_set.ensures ∙ c.in-Refused.is))
+    (afterwards-refused Refused (start k.before).args.out.now _ (sym k.check_set.ensures ∙ c.in-Refused.is))
 
 pub row_of_view_spec : {M : Type 1} → statement M
 row_of_view_spec =

@@ -8,7 +8,7 @@ use Rattle.run.specs.Series.{run_from}
 use Rattle.mainfile.specs.Set.{Set, set_of}
 use Rattle.mainfile_check.proofs.Laws.{set-accepted}
 use Rattle.mainfile_label.proofs.Laws.{all-between}
-use Rattle.csv_paf.specs.Row.{view_rows}
+use Rattle.csv.specs.Row.{view_rows}
 use Rattle.mainfile_csv.specs.Rows.{rows_among}
 use Rattle.mainfile_csv.proofs.Laws.{rows-by-place}
 use Rattle.mainfile_csv.proofs.rows_of_views.Statement.{statement}
@@ -30,7 +30,7 @@ walk-requires c κs =
     let all = c.before in
     let t = all.before in
     let k = t.before.before in
-    rw (all.all_in.ensures.0, all.all_in.ensures.1)
+    rw (all.all_in.ensures.first, all.all_in.ensures.many)
     (all-between (files k) (set-accepted (files k) (sym k.check_set.ensures ∙ t.in-Value.is)))
 
 returns : tie.Need-returns-in-Value
@@ -38,19 +38,19 @@ returns c =
     let w = c in
     let all = w in
     let t = all in
-    let k = t.before.before.before.before.before.before in
-    let a = (start k).args in
+    let k = t in
+    let a = (start k.before.before.before.before.before.before).args in
     w.walk.ensures
-    ∙ (ap₂ (λ (n m : ℕ). run_from (rows_among (files k) n m) a.first a.count a.out.now)
-    all.all_in.ensures.0 all.all_in.ensures.1
-    ∙ rows-by-place (files k) (sym k.check_set.ensures ∙ t.in-Value.is) a.first a.count a.out.now)
+    ∙ (ap₂ (λ (n m : ℕ). run_from (rows_among (files k.before.before.before.before.before.before) n m) a.first a.count a.out.now)
+    all.all_in.ensures.first all.all_in.ensures.many
+    ∙ rows-by-place (files k.before.before.before.before.before.before) (sym k.check_set.ensures ∙ t.in-Value.is) a.first a.count a.out.now)
 
 returns-2 : tie.Need-returns-in-Refused
 unfolding view_rows
 returns-2 c =
-    let k = c.before in
+    let k = c in
     sym
-    (afterwards-refused Unasked (start k).args.out.now _ (sym k.check_set.ensures ∙ c.in-Refused.is))
+    (afterwards-refused Unasked (start k.before).args.out.now _ (sym k.check_set.ensures ∙ c.in-Refused.is))
 
 pub rows_of_views_spec : {M : Type 1} → statement M
 rows_of_views_spec =

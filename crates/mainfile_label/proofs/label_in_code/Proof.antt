@@ -53,14 +53,14 @@ module _ (p : tie.After-place_among-place) where
   place_is =
       let v = (start (judged told)).args.k in
       p.place_among-place.ensures
-      ∙ ap₂ (λ (n m : ℕ). place_among n m v) p.stretch_in.ensures.0 p.stretch_in.ensures.1
+      ∙ ap₂ (λ (n m : ℕ). place_among n m v) p.stretch_in.ensures.first p.stretch_in.ensures.many
 
 returns : tie.Need-returns-then-outward_fault-ne0
 unfolding code_label
 returns c =
     let f = c in
-    let t = f.before.before in
-    let k = judged t in
+    let t = f in
+    let k = judged t.before.before in
     let a = (start k).args in
     sym
     (by-bad-code Refused a.code.now a.out.now _ (main_of (files k))
@@ -68,34 +68,34 @@ returns c =
 
 place-among-requires : tie.Need-place_among-place-requires
 place-among-requires c κs =
-    let t = c.before.before in
-    rw (c.stretch_in.ensures.0, c.stretch_in.ensures.1) (between-few (files (judged t)) _ _ (between t))
+    let t = c in
+    rw (c.stretch_in.ensures.first, c.stretch_in.ensures.many) (between-few (files (judged t.before.before)) _ _ (between t.before.before))
 
 label-at-requires : tie.Need-label_at-requires
 label-at-requires c κs =
-    let p = c.before in
+    let p = c in
     let k = judged (told p) in
     rw (place_is p) (among-place (files k) _ _ (between (told p)) (start k).args.k)
 
 returns-2 : tie.Need-returns-else-outward_fault-ne0
 returns-2 c =
     let l = c in
-    let p = l.before.before.before.before in
-    let f = (good p).before in
-    let t = told p in
+    let p = l in
+    let f = (good p.before.before.before.before).before in
+    let t = told p.before.before.before.before in
     let k = judged t in
     let a = (start k).args in
-    rw (place_is p) at l.label_at.ensures
+    rw (place_is p.before.before.before.before) at l.label_at.ensures
     ∙ code-by-place (files k) (sym k.check_set.ensures ∙ t.in-Value.is) a.code.now
-    (rw f.outward_fault.ensures at (good p).if-outward_fault-ne0.false) a.k a.out.now
+    (rw f.outward_fault.ensures at (good p.before.before.before.before).if-outward_fault-ne0.false) a.k a.out.now
 
 returns-3 : tie.Need-returns-in-Refused
 unfolding code_label
 returns-3 c =
-    let k = c.before in
-    let a = (start k).args in
+    let k = c in
+    let a = (start k.before).args in
     sym
-    (by-refused Refused a.code.now a.out.now _ (main_of (files k))
+    (by-refused Refused a.code.now a.out.now _ (main_of (files k.before))
     (sym k.check_set.ensures ∙ c.in-Refused.is))
 
 pub label_in_code_spec : {M : Type 1} → statement M

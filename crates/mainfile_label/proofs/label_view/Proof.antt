@@ -44,12 +44,12 @@ module _ (p : tie.After-place_among-place) where
   place_is =
       let v = (start (judged told)).args.view in
       p.place_among-place.ensures
-      ∙ ap₂ (λ (n m : ℕ). place_among n m v) p.all_in.ensures.0 p.all_in.ensures.1
+      ∙ ap₂ (λ (n m : ℕ). place_among n m v) p.all_in.ensures.first p.all_in.ensures.many
 
 place-among-requires : tie.Need-place_among-place-requires
 place-among-requires c κs =
     let t = c.before in
-    rw (c.all_in.ensures.0, c.all_in.ensures.1) (between-few (files (judged t)) _ _ (between t))
+    rw (c.all_in.ensures.first, c.all_in.ensures.many) (between-few (files (judged t)) _ _ (between t))
 
 label-at-requires : tie.Need-label_at-requires
 label-at-requires c κs =
@@ -60,19 +60,19 @@ label-at-requires c κs =
 returns : tie.Need-returns-in-Value
 returns c =
     let l = c in
-    let p = l.before.before.before.before in
-    let t = told p in
+    let p = l in
+    let t = told p.before.before.before.before in
     let k = judged t in
     let a = (start k).args in
-    rw (place_is p) at l.label_at.ensures
+    rw (place_is p.before.before.before.before) at l.label_at.ensures
     ∙ view-by-place (files k) (sym k.check_set.ensures ∙ t.in-Value.is) a.view a.out.now
 
 returns-2 : tie.Need-returns-in-Refused
 unfolding view_label
 returns-2 c =
-    let k = c.before in
+    let k = c in
     sym
-    (afterwards-refused Refused (start k).args.out.now _ (sym k.check_set.ensures ∙ c.in-Refused.is))
+    (afterwards-refused Refused (start k.before).args.out.now _ (sym k.check_set.ensures ∙ c.in-Refused.is))
 
 pub label_view_spec : {M : Type 1} → statement M
 label_view_spec =

@@ -21,7 +21,7 @@ offsets-decide c =
     (sym (simp (sym f.fields_good.ensures ∙ c.if-not-fields_good.false) (and-true (all_points pack (offsets_fine pack)))))
 
 fields-good-requires : tie.Need-fields_good-requires
-fields-good-requires c κs =
+fields-good-requires c.before.before κs =
     let s = c.before.before.before in
     (s.requires.0, (s.requires.1.0, s.requires.1.1.area.area))
 
@@ -41,7 +41,7 @@ offsets-marked-requires c κs =
     (s.requires.0, (s.requires.1.0, covered a.pack.now a.rows.now a.fine a.kept.now s.requires.1.1 (and_left _ _ i.if-fine-n.true) short))
 
 returns-2 : tie.Need-returns-then-fine-n
-returns-2 c = c.offsets_marked.ensures ∙ offsets-decide c.before.before.before
+returns-2 c = c.offsets_marked.ensures ∙ offsets-decide c.before.before
 
 keep-starts-requires : tie.Need-keep_starts-requires
 keep-starts-requires c κs =
@@ -59,7 +59,7 @@ offsets-told-requires c κs =
 
 returns-3 : tie.Need-returns
 returns-3 c =
-    c.offsets_told.ensures ∙ offsets-decide c.before.before.before.before.before.before.before
+    c.offsets_told.ensures ∙ offsets-decide c.before.before.before.before.before.before
 
 pub all_points_good_spec : {M : Type 1} → statement M
 all_points_good_spec =

@@ -64,11 +64,11 @@ module _ (c : tie.After-all_rows_good) where
       ∙ (ap (λ rows. rows_good rows at_count.trailer_number-count.result 1 0) rows_are
       ∙ ap (λ n. rows_good (row_area (Pack past)) n 1 0) at_count.trailer_number-count.ensures.0)
 
-  marked : at-fine.rows_fine-fine.result ≡ true → Fine Rows (row_count (Pack past)) at-fine.rows_fine-fine.last.1.1.0
+  marked : at-fine.rows_fine-fine.result ≡ true → Fine Rows (row_count (Pack past)) at-fine.rows_fine-fine.new.marks
   marked e = same_count at_count.trailer_number-count.ensures.0 (at-fine.rows_fine-fine.ensures e)
 
   kept : c.all_rows_good.result ≡ true
-      → Kept (Pack past) Rows at-fine.rows_fine-fine.result at-fine.rows_fine-fine.last.1.1.0
+      → Kept (Pack past) Rows at-fine.rows_fine-fine.result at-fine.rows_fine-fine.new.marks
   unfolding all_rows_good
   kept e =
       record {
@@ -77,7 +77,7 @@ module _ (c : tie.After-all_rows_good) where
           small = rw (length-take-le _ _ (within at-start)) at-start.trailer_number-start.ensures.1;
           good = ap (λ rows. rows_good rows (row_count (Pack past)) 1 0) rows_are ∙ (sym rows-said ∙ e);
         };
-        size = as_long 16_384 at-fine.rows_fine-fine.last.1.1.0 at-fine.rows_fine-fine.kept.1.1.0;
+        size = as_long 16_384 at-fine.rows_fine-fine.new.marks at-fine.rows_fine-fine.kept.marks;
         marked = marked;
       }
 
@@ -91,10 +91,10 @@ trailer-number-requires : tie.Need-trailer_number-start-requires
 trailer-number-requires c κs = (there c, lit≤ tt)
 
 slice-aggregate-rows : tie.Need-slice_bounds-rows-end
-slice-aggregate-rows c = sym (length-take-le _ _ (within c.before))
+slice-aggregate-rows c = sym (length-take-le _ _ (within c))
 
 trailer-number-requires-2 : tie.Need-trailer_number-count-requires
-trailer-number-requires-2 c κs = (there c.before.before, lit≤ tt)
+trailer-number-requires-2 c κs = (there c.before, lit≤ tt)
 
 rows-fine-requires : tie.Need-rows_fine-fine-requires
 rows-fine-requires c κs = fresh_unmarked 16_384
@@ -105,26 +105,26 @@ all-rows-good-requires c κs = λ e. (c.rows_fine-fine.ensures e).good
 returns-2 : tie.Need-returns-then-not-all_rows_good
 unfolding opened
 returns-2 c =
-    let g = c.before.before in
+    let g = c in
     rw c.bad_pack-then-not-all_rows_good.ensures
-    (simp (trailer (past g), sym (rows-said g) ∙ c.if-not-all_rows_good.true))
+    (simp (trailer (past g.before.before), sym (rows-said g.before.before) ∙ c.if-not-all_rows_good.true))
 
 all-points-good-requires : tie.Need-all_points_good-requires
 all-points-good-requires c κs =
     let e = c in
-    let g = e.before.before in
-    (sized (past g), ((past g).layout_in-layout.ensures, kept g (e.if-not-all_rows_good.false)))
+    let g = e in
+    (sized (past g.before.before), ((past g.before.before).layout_in-layout.ensures, kept g.before.before (e.if-not-all_rows_good.false)))
 
 returns-3 : tie.Need-returns-then-not-all_points_good
 unfolding opened
 returns-3 c =
     let p = c in
     let e = p in
-    let g = e.before.before.before.before.before.before in
+    let g = e in
     rw c.bad_pack-then-not-all_points_good.ensures
     (simp (
-      trailer (past g),
-      sym (rows-said g) ∙ e.if-not-all_rows_good.false,
+      trailer (past g.before.before.before.before.before.before),
+      sym (rows-said g.before.before.before.before.before.before) ∙ e.if-not-all_rows_good.false,
       sym p.all_points_good.ensures ∙ c.if-not-all_points_good.true,
     ))
 
@@ -152,29 +152,29 @@ returns-4 : tie.Need-returns-then-not-counts_good
 unfolding opened
 returns-4 c =
     let asked = c in
-    let e = asked.before.before.before in
+    let e = asked in
     rw c.bad_pack-then-not-counts_good.ensures
     (simp (
-      trailer (past (of_rows e)),
-      rows-good e,
-      points-good e,
+      trailer (past (of_rows e.before.before.before)),
+      rows-good e.before.before.before,
+      points-good e.before.before.before,
       sym asked.counts_good.ensures ∙ c.if-not-counts_good.true,
     ))
 
 trailer-number-requires-3 : tie.Need-trailer_number-requires
-trailer-number-requires-3 c κs = (there (past (of_rows c.before.before)), lit≤ tt)
+trailer-number-requires-3 c κs = (there (past (of_rows c.before.before.before)), lit≤ tt)
 
 returns-5 : tie.Need-returns
 unfolding opened
 returns-5 c =
     let last = c in
     let asked = last in
-    let e = asked.before.before.before in
+    let e = asked in
     rw c.trailer_number.ensures.0
     (simp (
-      trailer (past (of_rows e)),
-      rows-good e,
-      points-good e,
+      trailer (past (of_rows e.before.before.before)),
+      rows-good e.before.before.before,
+      points-good e.before.before.before,
       sym asked.counts_good.ensures ∙ last.if-not-counts_good.false,
     ))
 

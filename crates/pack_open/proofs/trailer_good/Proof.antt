@@ -25,10 +25,10 @@ module _ (c : tie.After-trailer_number-count) where
   pack = start.args.pack.now
 
   points : start.args.layout.point * c.trailer_number-count.result ≤ 64 * 4_294_967_296
-  points = rw start.pre.point (points-small (edition pack) c.trailer_number-count.result c.trailer_number-count.ensures.1)
+  points = rw start.requires.point (points-small (edition pack) c.trailer_number-count.result c.trailer_number-count.ensures.1)
 
   trailer : start.args.layout.trailer ≤ 64
-  trailer = rw start.pre.trailer (trailer-small (edition pack))
+  trailer = rw start.requires.trailer (trailer-small (edition pack))
 
 mul-end : tie.Need-overflow_mul-end
 mul-end c = omega (arith, points c.before)
@@ -38,17 +38,17 @@ add-end c = omega (arith, points c.before, c.trailer_number-start.ensures.1)
 
 add-end-2 : tie.Need-overflow_add-end-2
 add-end-2 c =
-    let counted = c.before.before in
-    omega (arith, points counted, trailer counted, counted.trailer_number-start.ensures.1)
+    let counted = c in
+    omega (arith, points counted.before.before, trailer counted.before.before, counted.trailer_number-start.ensures.1)
 
 returns-2 : tie.Need-returns
 returns-2 c =
-    let counted = c.before.before in
+    let counted = c in
     let started = counted in
     let coded = started in
     let said = coded in
     let tested = said in
-    trailer-tests (pack counted) (start counted).args.layout (start counted).requires tested.if-n-layout.false
+    trailer-tests (pack counted.before.before) (start counted.before.before).args.layout (start counted.before.before).requires tested.if-n-layout.false
     tested.is_Known.ensures said.trailer_number-said.ensures.0
     (coded.outward_fault-fault.ensures ∙ ap outward_fault coded.outward_of.ensures)
     started.trailer_number-start.ensures.0 counted.trailer_number-count.ensures.0

@@ -6,7 +6,7 @@ use Rattle.refusal.proofs.number_of.Statement.{statement}
 use Rattle.refusal.proofs.number_of.Tie as tie
 
 returns-17 : tie.Need-returns-in-Later
-returns-17 c = c.«later-number».ensures ∙ ap number (sym c.in-Later.is)
+returns-17 c = c.later_number.ensures ∙ ap number (sym c.in-Later.is)
 
 pub number_of_spec : {M : Type 1} → statement M
 number_of_spec =

@@ -24,7 +24,7 @@ returns : tie.Need-returns-then-not-n-width
 returns c =
     let a = c.args in
     let broken : whole_records a.width a.identifier a.file.now ≡ false = c.if-not-n-width.true in
-    (sym (count-broken a.width a.identifier a.file.now broken), sym (unspaced-broken a.width a.identifier a.file.now broken))
+    record { count = sym (count-broken a.width a.identifier a.file.now broken); content = sym (unspaced-broken a.width a.identifier a.file.now broken) }
 
 rewrite-requires : tie.Need-rewrite-head-requires
 rewrite-requires c κs =
@@ -41,11 +41,11 @@ module _ (c : tie.After-rewrite-head) where
   whole : whole_records start.args.width start.args.identifier start.args.file.now ≡ true
   whole = c.if-not-n-width.false
 
-  wide : start.args.width ≤ length c.rewrite-head.new.0
+  wide : start.args.width ≤ length c.rewrite-head.new.file
   wide =
       omega (
         arith,
-        ap length c.rewrite-head.ensures.1,
+        ap length c.rewrite-head.ensures.content,
         length-rewritten start.args.identifier 0 0 start.args.file.now,
         two-wide start.args.width start.args.identifier start.args.file.now whole,
       )
@@ -54,7 +54,7 @@ sub-rewrite : tie.Need-overflow_sub-file
 sub-rewrite c = wide c.before.before.before
 
 rewrite-requires-2 : tie.Need-rewrite-end-requires
-rewrite-requires-2 c κs = omega (arith, wide c.before.before.before, (start c.before.before.before).pre.1)
+rewrite-requires-2 c κs = omega (arith, wide c.before.before.before, (start c.before.before.before).requires.1)
 
 -- behind the last
 module _ (c : tie.After-rewrite-end) where
@@ -67,14 +67,14 @@ module _ (c : tie.After-rewrite-end) where
   counted : first.rewrite-head.result + c.rewrite-end.result
       ≡ unspaced_count entry.args.width entry.args.identifier entry.args.file.now
   counted =
-      counted-both entry.args.width entry.args.identifier entry.args.file.now entry.pre.1 (whole first)
-      first.rewrite-head.last.0 first.rewrite-head.ensures.1 first.rewrite-head.result c.rewrite-end.result
-      first.rewrite-head.ensures.0 c.rewrite-end.ensures.0
+      counted-both entry.args.width entry.args.identifier entry.args.file.now entry.requires.1 (whole first)
+      first.rewrite-head.new.file first.rewrite-head.ensures.content first.rewrite-head.result c.rewrite-end.result
+      first.rewrite-head.ensures.count c.rewrite-end.ensures.count
 
-  rewritten-all : c.rewrite-end.new.0 ≡ unspaced entry.args.width entry.args.identifier entry.args.file.now
+  rewritten-all : c.rewrite-end.new.file ≡ unspaced entry.args.width entry.args.identifier entry.args.file.now
   rewritten-all =
-      unspaced-both entry.args.width entry.args.identifier entry.args.file.now entry.pre.1 (whole first)
-      first.rewrite-head.last.0 first.rewrite-head.ensures.1 c.rewrite-end.new.0 c.rewrite-end.ensures.1
+      unspaced-both entry.args.width entry.args.identifier entry.args.file.now entry.requires.1 (whole first)
+      first.rewrite-head.new.file first.rewrite-head.ensures.content c.rewrite-end.new.file c.rewrite-end.ensures.content
 
 add-result : tie.Need-overflow_add-result
 add-result c =
@@ -82,7 +82,7 @@ add-result c =
     record { fits = omega (arith, counted c.before.before, count-few a.width a.identifier a.file.now) }
 
 returns-2 : tie.Need-returns
-returns-2 c = (counted c.before.before, rewritten-all c.before.before)
+returns-2 c = record { count = counted c.before.before; content = rewritten-all c.before.before }
 
 pub unspace_spec : {M : Type 1} → statement M
 unspace_spec =

@@ -31,26 +31,26 @@ module _ (c : tie.After-text_size-size) where
 
 returns : tie.Need-returns-then-size-gt-ROWS
 returns c =
-    let n = c.before.before in
-    counted-many (text n) (out n) (rows_are n) c.if-size-gt-ROWS.true
+    let n = c in
+    counted-many (text n.before.before) (out n.before.before) (rows_are n.before.before) c.if-size-gt-ROWS.true
 
 returns-2 : tie.Need-returns-then-out-needed
 returns-2 c =
-    let n = c.before.before.before in
-    counted-room (text n) (out n) (rows_are n) c.if-size-gt-ROWS.false (bytes-are n) c.if-out-needed.true
+    let n = c in
+    counted-room (text n.before.before.before) (out n.before.before.before) (rows_are n.before.before.before) c.if-size-gt-ROWS.false (bytes-are n.before.before.before) c.if-out-needed.true
 
-fits : (c : tie.Else-out-needed) → let n = c.before.before.before in length (ended (text_rows (text n))) ≤ length (out n)
+fits : (c : tie.Else-out-needed) → let n = c in length (ended (text_rows (text n.before.before.before))) ≤ length (out n.before.before.before)
 fits c =
-    let n = c.before.before.before in
-    omega (arith, bytes-are n, c.if-out-needed.false)
+    let n = c in
+    omega (arith, bytes-are n.before.before.before, c.if-out-needed.false)
 
 returns-3 : tie.Need-returns
 returns-3 c =
     let w = c in
-    let e = w.before.before.before.before in
-    let n = e.before.before.before in
-    counted-folded (text n) (out n) (rows_are n) e.if-size-gt-ROWS.false (fits e) w.write_text.ensures
+    let e = w in
+    let n = e in
+    counted-folded (text n.before.before.before.before.before.before.before) (out n.before.before.before.before.before.before.before) (rows_are n.before.before.before.before.before.before.before) e.if-size-gt-ROWS.false (fits e.before.before.before.before) w.write_text.ensures
 
 pub fold_spec : {M : Type 1} → statement M
 fold_spec =
-    tie.close (tie.spec (search rules) returns returns-2 (λ c κs. fits c.before) (search rules) returns-3)
+    tie.close (tie.spec (search rules) returns returns-2 (λ c κs. fits c.before.before.before.before) (search rules) returns-3)

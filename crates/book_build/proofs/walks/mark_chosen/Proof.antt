@@ -90,7 +90,7 @@ module _ (r : tie.After-rows_by-found invariant-loop decreases-loop) where
 
 mark-point-requires : tie.Need-mark_point-requires invariant-loop decreases-loop
 mark-point-requires c κs =
-    let r = c.before in
+    let r = c in
     found_below (table r) (s r).requires.0.of_table (length (l r).loop-i.marks) (asked_of (d r).delivery_of-p.result)
     (omega (arith, (s r).requires.1, (l r).loop-i.invariant.0)) (t r).table_shelf-s.ensures r.rows_by-found.ensures
 
@@ -103,30 +103,30 @@ returns : tie.Need-returns-in-Bad invariant-loop decreases-loop
 returns c =
     let w = c in
     let m = w in
-    let r = m.before.before.before.before.before.before.before in
-    let bad = sym (m.mark_point.ensures.0 ∙ refusal_is r) ∙ w.in-Bad.is in
+    let r = m in
+    let bad = sym (m.mark_point.ensures.said ∙ refusal_is r.before.before.before.before.before.before.before) ∙ w.in-Bad.is in
     record {
       said =
           rw (c.with_view.ensures, c.place_of-place.ensures)
-          (sym (marking-stop (left r) w.in-Bad.why bad));
+          (sym (marking-stop (left r.before.before.before.before.before.before.before) w.in-Bad.why bad));
       marks_all = λ e. absurd (bad-fine _ e);
     }
 
 -- there are few
 add-i : tie.Need-overflow_add-i invariant-loop decreases-loop
 add-i c =
-    let r = c.before.before.before.before.before in
-    omega (arith, high r, (s r).requires.0.of_chosen.few)
+    let r = c in
+    omega (arith, high r.before.before.before.before.before, (s r.before.before.before.before.before).requires.0.of_chosen.few)
 
 loop-again : tie.Need-loop-i-preserved invariant-loop decreases-loop
 loop-again c =
     let m = c in
-    let r = m.before.before.before.before.before in
+    let r = m in
     let told = c.in-Fine.is in (
-      m.mark_point.auto.1.1.0 ∙ (l r).loop-i.invariant.0,
-      omega (arith, high r),
-      marking-on (left r) (sym (m.mark_point.ensures.0 ∙ refusal_is r) ∙ told)
-          (m.mark_point.ensures.1 told ∙ ap (λ (rows : List ℕ). mark_rows rows (l r).loop-i.marks) (rows_are r)),
+      m.mark_point.auto.1.1.0 ∙ (l r.before.before.before.before.before).loop-i.invariant.0,
+      omega (arith, high r.before.before.before.before.before),
+      marking-on (left r.before.before.before.before.before) (sym (m.mark_point.ensures.said ∙ refusal_is r.before.before.before.before.before) ∙ told)
+          (m.mark_point.ensures.marked told ∙ ap (λ (rows : List ℕ). mark_rows rows (l r.before.before.before.before.before).loop-i.marks) (rows_are r.before.before.before.before.before)),
     )
 
 returns-2 : tie.Need-returns invariant-loop decreases-loop

@@ -63,7 +63,7 @@ module _ (d : tie.After-delivery_of-p invariant-loop decreases-loop) where
 
 organisation-at-requires : tie.Need-organisation_at-end-requires invariant-loop decreases-loop
 organisation-at-requires c κs =
-    let d = c.before in
+    let d = c in
     rw d.delivery_of-p.ensures (
       (within-at (book d) (chosen d) (s d).requires.0.inside (l d).loop-i.i (high d)).organisation,
       organisation-room (next d) (rest d) (s d).requires.1 (book d) (left d),
@@ -72,17 +72,17 @@ organisation-at-requires c κs =
 -- there are few
 add-i : tie.Need-overflow_add-i invariant-loop decreases-loop
 add-i c =
-    let d = c.before.before.before.before in
-    omega (arith, high d, (s d).requires.0.few)
+    let d = c in
+    omega (arith, high d.before.before.before.before, (s d.before.before.before.before).requires.0.few)
 
 loop-again : tie.Need-loop-i-preserved invariant-loop decreases-loop
 loop-again c =
     let w = c in
-    let d = w.before.before.before.before in (
-      w.organisation_at-end.auto.1.1.1.1.0 ∙ (l d).loop-i.invariant.0,
-      omega (arith, high d),
-      organisation-on (next d) (rest d) (s d).requires.1 (book d) (left d)
-          (put_as (ap (λ (p : DeliveryPoint). organisation_row (book d) p) d.delivery_of-p.ensures) w.organisation_at-end.ensures),
+    let d = w in (
+      w.organisation_at-end.auto.1.1.1.1.0 ∙ (l d.before.before.before.before).loop-i.invariant.0,
+      omega (arith, high d.before.before.before.before),
+      organisation-on (next d.before.before.before.before) (rest d.before.before.before.before) (s d.before.before.before.before).requires.1 (book d.before.before.before.before) (left d.before.before.before.before)
+          (put_as (ap (λ (p : DeliveryPoint). organisation_row (book d.before.before.before.before) p) d.delivery_of-p.ensures) w.organisation_at-end.ensures),
     )
 
 returns : tie.Need-returns invariant-loop decreases-loop

@@ -52,37 +52,37 @@ module _ (d : tie.After-delivery_of-p invariant-loop decreases-loop) where
 
 organisation-len-requires : tie.Need-organisation_len-bytes-requires invariant-loop decreases-loop
 organisation-len-requires c κs =
-    let d = c.before in
+    let d = c in
     rw d.delivery_of-p.ensures (within-at (book d) (chosen d) (s d).requires.inside (l d).loop-i.i (high d)).organisation
 
 -- there are few
 add-rows : tie.Need-overflow_add-rows invariant-loop decreases-loop
 add-rows c =
-    let d = c.before in
-    omega (arith, high d, (s d).requires.few, (l d).loop-i.invariant.1, c.one_if-rows.ensures.1)
+    let d = c in
+    omega (arith, high d.before, (s d.before).requires.few, (l d.before).loop-i.invariant.1, c.one_if-rows.ensures.1)
 
 add-bytes : tie.Need-overflow_add-bytes invariant-loop decreases-loop
 add-bytes c =
-    let d = c.before.before in
-    omega (arith, high d, (s d).requires.few, (l d).loop-i.invariant.2, c.organisation_len-bytes.ensures.1)
+    let d = c in
+    omega (arith, high d.before.before, (s d.before.before).requires.few, (l d.before.before).loop-i.invariant.2, c.organisation_len-bytes.ensures.1)
 
 add-i : tie.Need-overflow_add-i invariant-loop decreases-loop
 add-i c =
-    let d = c.before.before in
-    omega (arith, high d, (s d).requires.few)
+    let d = c in
+    omega (arith, high d.before.before, (s d.before.before).requires.few)
 
 loop-again : tie.Need-loop-i-preserved invariant-loop decreases-loop
 loop-again c =
     let o = c in
-    let d = o.before.before in
-    let i = (l d).loop-i.i in
+    let d = o in
+    let i = (l d.before.before).loop-i.i in
     let same = d.delivery_of-p.ensures in
-    let len = c.organisation_len-bytes.ensures.0 ∙ ap (λ (p : DeliveryPoint). length (organisation_row (book d) p)) same in
+    let len = c.organisation_len-bytes.ensures.0 ∙ ap (λ (p : DeliveryPoint). length (organisation_row (book d.before.before) p)) same in
     let one = o.one_if-rows.ensures.0 ∙ ap (λ (p : DeliveryPoint). cond p.organised 1 0) same in (
-      omega (arith, high d),
-      omega (arith, (l d).loop-i.invariant.1, o.one_if-rows.ensures.1),
-      omega (arith, (l d).loop-i.invariant.2, c.organisation_len-bytes.ensures.1),
-      summing_on (summing-as (packed_step (book d) (chosen d) i (high d)) (l d).loop-i.invariant.3) one len,
+      omega (arith, high d.before.before),
+      omega (arith, (l d.before.before).loop-i.invariant.1, o.one_if-rows.ensures.1),
+      omega (arith, (l d.before.before).loop-i.invariant.2, c.organisation_len-bytes.ensures.1),
+      summing_on (summing-as (packed_step (book d.before.before) (chosen d.before.before) i (high d.before.before)) (l d.before.before).loop-i.invariant.3) one len,
     )
 
 returns : tie.Need-returns invariant-loop decreases-loop

@@ -114,17 +114,14 @@ module _ (k : tie.After-key_offsets-offsets invariant-loop decreases-loop) where
 
 point-at-requires : tie.Need-point_at-end-requires invariant-loop decreases-loop
 point-at-requires c κs =
-    let k = c.before in
-    let here = within k in (
-      rw (d k).delivery_of-p.ensures (record { postcode = here.postcode; suffix = here.suffix; box = here.box }),
-      room_as (l k).loop-i.out (l k).loop-i.end (same k)
+    let k = c in
+    let here = within k in record { fields_within = rw (d k).delivery_of-p.ensures (record { postcode = here.postcode; suffix = here.suffix; box = here.box }); row_in_bounds = room_as (l k).loop-i.out (l k).loop-i.end (same k)
           (point-room (next k) (rest k) (s k).requires.1.1 (table_stock (table k)) (book k) (book k) (starts k) (l k).loop-i.row
-          (left k)),
-    )
+          (left k)) }
 
 organisation-len-requires : tie.Need-organisation_len-row-requires invariant-loop decreases-loop
 organisation-len-requires c κs =
-    let k = c.before.before.before.before in
+    let k = c in
     rw (d k).delivery_of-p.ensures (within k).organisation
 
 -- how long its organisation's row is
@@ -133,30 +130,30 @@ len : (c : tie.After-organisation_len-row invariant-loop decreases-loop)
     ≡ length (organisation_row (book c.before.before.before.before.before)
     (next c.before.before.before.before.before).point)
 len c =
-    let k = c.before.before.before.before.before in
+    let k = c in
     c.organisation_len-row.ensures.0
-    ∙ ap (λ (p : DeliveryPoint). length (organisation_row (book k) p)) (d k).delivery_of-p.ensures
+    ∙ ap (λ (p : DeliveryPoint). length (organisation_row (book k.before.before.before.before.before) p)) (d k.before.before.before.before.before).delivery_of-p.ensures
 
 add_row : tie.Need-overflow_add-row invariant-loop decreases-loop
 add_row c =
-    let k = c.before.before.before.before.before in
-    omega (arith, more k, len c, (l k).loop-i.invariant.2, (s k).well_formed.1.1.1.1.1.1.0)
+    let k = c in
+    omega (arith, more k.before.before.before.before.before, len c, (l k.before.before.before.before.before).loop-i.invariant.2, (s k.before.before.before.before.before).well_formed.1.1.1.1.1.1.0)
 
 -- there are few
 add-i : tie.Need-overflow_add-i invariant-loop decreases-loop
 add-i c =
-    let k = c.before.before.before.before.before in
-    omega (arith, high k, (s k).requires.0.of_chosen.few)
+    let k = c in
+    omega (arith, high k.before.before.before.before.before, (s k.before.before.before.before.before).requires.0.of_chosen.few)
 
 loop-again : tie.Need-loop-i-preserved invariant-loop decreases-loop
 loop-again c =
     let w = c in
-    let k = w.before.before.before.before.before in (
-      w.point_at-end.auto.1.1.1.1.1.0 ∙ (l k).loop-i.invariant.0,
-      omega (arith, high k),
-      omega (arith, more k, len c, (l k).loop-i.invariant.2),
-      point-on (next k) (rest k) (s k).requires.1.1 (table_stock (table k)) (book k) (book k) (starts k) (l k).loop-i.row
-          (left k) (len c) (put_as (same k) w.point_at-end.ensures),
+    let k = w in (
+      w.point_at-end.auto.1.1.1.1.1.0 ∙ (l k.before.before.before.before.before).loop-i.invariant.0,
+      omega (arith, high k.before.before.before.before.before),
+      omega (arith, more k.before.before.before.before.before, len c, (l k.before.before.before.before.before).loop-i.invariant.2),
+      point-on (next k.before.before.before.before.before) (rest k.before.before.before.before.before) (s k.before.before.before.before.before).requires.1.1 (table_stock (table k.before.before.before.before.before)) (book k.before.before.before.before.before) (book k.before.before.before.before.before) (starts k.before.before.before.before.before) (l k.before.before.before.before.before).loop-i.row
+          (left k.before.before.before.before.before) (len c) (put_as (same k.before.before.before.before.before) w.point_at-end.ensures),
     )
 
 returns : tie.Need-returns invariant-loop decreases-loop

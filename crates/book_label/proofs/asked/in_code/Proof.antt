@@ -16,16 +16,16 @@ returns : tie.Need-returns-then-outward_fault-ne0
 returns c =
     let f = c in
     let t = f in
-    let k = t.before.before.before in
-    let a = (start k).args in
+    let k = t in
+    let a = (start k.before.before.before).args in
     code_refused (book_of a.book.now a.table.now) (sym k.check_source.ensures ∙ t.in-Value.is)
     a.first a.count a.out.now a.code.now (rw f.outward_fault.ensures at c.if-outward_fault-ne0.true) a.listed
 
 walk-requires : tie.Need-walk-requires
 walk-requires c κs =
     let t = c in
-    let k = t.before.before.before.before in
-    let a = (start k).args in
+    let k = t in
+    let a = (start k.before.before.before).args in
     let taken = sym k.check_source.ensures ∙ t.in-Value.is in
     (book-good a.book.now a.table.now taken, table-accepted a.book.now a.table.now taken)
 
@@ -35,8 +35,8 @@ returns-2 c =
     let good = w in
     let f = good in
     let t = f in
-    let k = t.before.before.before.before.before.before.before in
-    let a = (start k).args in
+    let k = t in
+    let a = (start k.before.before.before.before.before.before.before).args in
     let taken = sym k.check_source.ensures ∙ t.in-Value.is in
     let clean = rw f.outward_fault.ensures at good.if-outward_fault-ne0.false in
     w.walk.ensures
@@ -45,8 +45,8 @@ returns-2 c =
 
 returns-3 : tie.Need-returns-in-Refused
 returns-3 c =
-    let k = c.before in
-    let a = (start k).args in
+    let k = c in
+    let a = (start k.before).args in
     files_refused (book_of a.book.now a.table.now) (sym k.check_source.ensures ∙ c.in-Refused.is)
     a.first a.count a.out.now a.code.now a.listed
 

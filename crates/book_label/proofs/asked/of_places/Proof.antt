@@ -24,8 +24,8 @@ returns : tie.Need-returns-in-Value
 returns c =
     let w = c in
     let t = w in
-    let k = t.before.before.before.before.before.before in
-    let a = (start k).args in
+    let k = t in
+    let a = (start k.before.before.before.before.before).args in
     let taken = sym k.check_source.ensures ∙ t.in-Value.is in
     w.walk.ensures
     ∙ views-shown (book_of a.book.now a.table.now) taken a.first a.count a.out.now _
@@ -33,8 +33,8 @@ returns c =
 
 returns-2 : tie.Need-returns-in-Refused
 returns-2 c =
-    let k = c.before in
-    let a = (start k).args in
+    let k = c in
+    let a = (start k.before).args in
     views-refused (book_of a.book.now a.table.now) (sym k.check_source.ensures ∙ c.in-Refused.is)
     a.first a.count a.out.now a.listed
 

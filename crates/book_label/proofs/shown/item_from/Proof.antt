@@ -52,7 +52,7 @@ module _ (l : tie.After-label_from-answer) where
   found = l.before.before
 
   asked : let a = (start found).args in
-      said l.label_from-answer.result l.label_from-answer.last.1.1.1.0
+      said l.label_from-answer.result l.label_from-answer.new.out
       ≡ shown_from false a.table.now a.book.now a.at
       (drop (before (line found) (length a.out.now)) a.out.now)
   asked =
@@ -62,24 +62,24 @@ module _ (l : tie.After-label_from-answer) where
 
 headed-item-requires : tie.Need-headed_item-requires
 headed-item-requires c κs =
-    let l = c.before.before.before in
+    let l = c in
     let s = start (found l) in (
       rw (written (found l)).worded_line-line.ensures.is (written (found l)).worded_line-line.ensures.short,
-      asked-small s.args.table.now s.args.book.now s.args.at s.args.out.now s.pre
+      asked-small s.args.table.now s.args.book.now s.args.at s.args.out.now s.requires
           (there (found l)).if-at-eq0.left (asked l),
     )
 
 returns-2 : tie.Need-returns
 returns-2 c =
     let whole = c in
-    let l = whole.before.before.before.before.before.before in
-    let s = start (found l) in
+    let l = whole in
+    let s = start (found l.before.before.before.before.before.before) in
     let a = s.args in
-    rw (line-is (found l)) at whole.headed_item.ensures
-    ∙ (ap (headed (line (found l)) l.label_from-answer.result)
-    (given_back a.out.now _ (found l).room_before-room.result
-    ∙ ap (λ (n : ℕ). take n a.out.now ++ l.label_from-answer.new.1.1.1.0) (room (found l)))
-    ∙ asked-item a.table.now a.book.now a.at a.out.now s.pre (there (found l)).if-at-eq0.left (asked l))
+    rw (line-is (found l.before.before.before.before.before.before)) at whole.headed_item.ensures
+    ∙ (ap (headed (line (found l.before.before.before.before.before.before)) l.label_from-answer.result)
+    (given_back a.out.now _ (found l.before.before.before.before.before.before).room_before-room.result
+    ∙ ap (λ (n : ℕ). take n a.out.now ++ l.label_from-answer.new.out) (room (found l.before.before.before.before.before.before)))
+    ∙ asked-item a.table.now a.book.now a.at a.out.now s.requires (there (found l.before.before.before.before.before.before)).if-at-eq0.left (asked l.before.before.before.before.before.before))
 
 pub item_from_spec : {M : Type 1} → statement M
 item_from_spec =

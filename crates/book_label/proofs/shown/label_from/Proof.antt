@@ -18,26 +18,26 @@ module _ (e : tie.Else-at-eq0) where
   start = e.before.before.before.before
 
   inside : Inside start.args.book.now start.args.at
-  inside = start.pre.inside e.if-at-eq0.left
+  inside = start.requires.inside e.if-at-eq0.left
 
 label-there-requires : tie.Need-label_there-requires
 label-there-requires c κs =
-    let e = c.before.before in
+    let e = c in
     ((start e).requires.of_table, record-first (start e).args.book.now (start e).args.at (inside e))
 
 returns-2 : tie.Need-returns
 returns-2 c =
     let l = c in
-    let e = l.before.before.before.before.before in
-    let a = (start e).args in
+    let e = l in
+    let a = (start e.before.before.before.before.before).args in
     l.label_there.ensures ∙ sym (shown-some false a.table.now a.book.now a.at a.out.now e.if-at-eq0.false)
 
 pub label_from_spec : {M : Type 1} → statement M
 label_from_spec =
     tie.close
     (tie.spec returns
-    (λ c. let h = inside c in let k = (start c).well_formed in search rules)
-    (λ c. let h = inside c in search rules)
-    (λ c. let h = inside c in search rules)
-    (λ c. let h = inside c in search rules)
+    (λ c. let h = inside c.before.before.before.before.before in let k = (start c.before.before.before.before.before).well_formed in search rules)
+    (λ c. let h = inside c.before.before.before.before.before in search rules)
+    (λ c. let h = inside c.before.before.before.before.before in search rules)
+    (λ c. let h = inside c.before.before.before.before.before in search rules)
     label-there-requires (search rules) returns-2)

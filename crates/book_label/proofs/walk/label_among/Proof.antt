@@ -28,19 +28,19 @@ module _ (f : tie.After-start_among) where
   standing =
       subst (Standing start.args.table.now start.args.book.now) (sym found)
       (record {
-        of_table = start.pre.1;
+        of_table = start.requires.1;
         inside =
             among-inside start.args.book.now starts
-            (starts-inside start.args.book.now (book-facts start.args.book.now start.pre.0) start.args.code.now)
+            (starts-inside start.args.book.now (book-facts start.args.book.now start.requires.0) start.args.code.now)
             start.args.k;
       })
 
 returns : tie.Need-returns
 returns c =
     let l = c in
-    let f = l.before.before.before.before in
-    let a = (start f).args in
-    l.label_from.ensures ∙ ap (λ at. shown_from false a.table.now a.book.now at a.out.now) (found f)
+    let f = l in
+    let a = (start f.before.before.before.before).args in
+    l.label_from.ensures ∙ ap (λ at. shown_from false a.table.now a.book.now at a.out.now) (found f.before.before.before.before)
 
 pub label_among_spec : {M : Type 1} → statement M
 label_among_spec =
@@ -49,5 +49,5 @@ label_among_spec =
     (λ c. let h = c.starts_in-found.ensures in omega (arith, h.few, h.long))
     (λ c. let h = c.starts_in-found.ensures in sym (length-take-le _ _ (omega (arith, h.few, h.long))))
     (λ c κs. search rules)
-    (λ c κs. standing c.before)
+    (λ c κs. standing c.before.before.before.before)
     (search rules) returns)

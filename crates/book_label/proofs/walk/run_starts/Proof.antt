@@ -37,8 +37,8 @@ module _ (s : tie.Start invariant-loop decreases-loop) where
   standing : (k : ℕ) → Standing s.args.table.now s.args.book.now (start_among s.args.starts.now k)
   standing k =
       record {
-        of_table = s.pre.1;
-        inside = among-inside s.args.book.now s.args.starts.now s.pre.0 k;
+        of_table = s.requires.1;
+        inside = among-inside s.args.book.now s.args.starts.now s.requires.0 k;
       }
 
 -- once the next is found
@@ -60,7 +60,7 @@ module _ (m : tie.After-shown_behind invariant-loop decreases-loop) where
   abbrev next : tie.After-start_among invariant-loop decreases-loop
   next = m.before.before
 
-  asked : said m.shown_behind.result m.shown_behind.last.1.1.1.1.1.0
+  asked : said m.shown_behind.result m.shown_behind.new.out
       ≡ asked_behind (turn next).loop-done.at (turn next).loop-done.out (asking (start next) (number next))
   asked =
       let a = (start next).args in
@@ -79,45 +79,45 @@ module _ (m : tie.After-shown_behind invariant-loop decreases-loop) where
 
 loop-holds : tie.Need-loop-done-init invariant-loop decreases-loop
 loop-holds c =
-    let s = c.before.before.before.before in
+    let s = c in
     let a = s.args in
-    (sym (add-zero a.first), (going_start (asking s) a.first a.count a.out.now, refl))
+    (sym (add-zero a.first), (going_start (asking s.before.before.before.before) a.first a.count a.out.now, refl))
 
 shown-behind-requires : tie.Need-shown_behind-requires invariant-loop decreases-loop
 shown-behind-requires c κs =
-    let f = c.before in
+    let f = c in
     let a = (start f).args in
     ((turn f).loop-done.invariant.1.0.within, subst (Standing a.table.now a.book.now) (sym (found f)) (standing (start f) (number f)))
 
 add_at : tie.Need-overflow_add-at invariant-loop decreases-loop
 add_at c =
-    let m = c.before.before.before in
-    let l = turn (next m) in
+    let m = c in
+    let l = turn (next m.before.before.before) in
     omega (
       arith,
-      going-fits l.loop-done.invariant.1.0 (fit (start (next m))) (omega arith) (asked m) c.in-Value.is,
+      going-fits l.loop-done.invariant.1.0 (fit (start (next m.before.before.before))) (omega arith) (asked m.before.before.before) c.in-Value.is,
       m.shown_behind.auto.1.1.1.1.1.0,
       l.loop-done.invariant.1.1,
-      (start (next m)).good.1.1.1.1.1.1.0.0,
+      (start (next m.before.before.before)).good.1.1.1.1.1.1.0.0,
     )
 
 returns : tie.Need-returns-in-Refused invariant-loop decreases-loop
 returns c =
-    let m = c.before.before.before in
-    going-stop (turn (next m)).loop-done.invariant.1.0 (fit (start (next m))) (omega arith) (asked m) c.in-Refused.is
+    let m = c in
+    going-stop (turn (next m.before.before.before)).loop-done.invariant.1.0 (fit (start (next m.before.before.before))) (omega arith) (asked m.before.before.before) c.in-Refused.is
 
 add-k : tie.Need-overflow_add-k invariant-loop decreases-loop
 add-k c =
-    let m = c.before.before.before in
-    omega (arith, there m c.in-Value.is, (turn (next m)).loop-done.invariant.0, (start (next m)).good.1.1.0.1)
+    let m = c in
+    omega (arith, there m.before.before.before c.in-Value.is, (turn (next m.before.before.before)).loop-done.invariant.0, (start (next m.before.before.before)).good.1.1.0.1)
 
 loop-again : tie.Need-loop-done-preserved invariant-loop decreases-loop
 loop-again c =
-    let m = c.before.before.before in
-    let l = turn (next m) in (
+    let m = c in
+    let l = turn (next m.before.before.before) in (
       omega (arith, l.loop-done.invariant.0),
       (
-        going_step l.loop-done.invariant.1.0 (fit (start (next m))) (omega arith) (asked m) c.in-Value.is,
+        going_step l.loop-done.invariant.1.0 (fit (start (next m.before.before.before))) (omega arith) (asked m.before.before.before) c.in-Value.is,
         m.shown_behind.auto.1.1.1.1.1.0 ∙ l.loop-done.invariant.1.1,
       ),
     )

@@ -30,8 +30,8 @@ run-starts-requires c κs =
 returns : tie.Need-returns
 returns c =
     let w = c in
-    let f = w.before.before.before.before.before.before in
-    let a = (start f).args in
+    let f = w in
+    let a = (start f.before.before.before.before.before.before).args in
     w.run_starts.ensures
     ∙ ap
     (λ (l : List ℕ). run_from (shown_among a.listed a.table.now a.book.now l) a.first a.count a.out.now)

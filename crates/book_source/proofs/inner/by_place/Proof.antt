@@ -31,7 +31,7 @@ module _ (r : tie.After-place_in-place invariant-loop decreases-loop) where
   book = loop.args.book.now
 
   facts : BookFacts book
-  facts = book-facts book loop.pre
+  facts = book-facts book loop.requires
 
   low : loop.loop-s.s - 1 < slots
   low = omega (arith, loop.loop-s.invariant.0)
@@ -51,26 +51,26 @@ place-in-requires c κs =
 
 loop-again : tie.Need-loop-s-preserved-then-place-ne0 invariant-loop decreases-loop
 loop-again c =
-    let r = c.before in
-    let starts = (loop r).loop-s.starts in
+    let r = c in
+    let starts = (loop r.before).loop-s.starts in
     let q = r.IsPlace-in.result - 1 in
-    let place : place_of (slot_at (book r) ((loop r).loop-s.s - 1)) ≡ suc q = sym r.IsPlace-in.ensures.0 ∙ omega arith in (
-      omega (arith, (loop r).loop-s.invariant.0),
+    let place : place_of (slot_at (book r.before) ((loop r.before).loop-s.s - 1)) ≡ suc q = sym r.IsPlace-in.ensures.0 ∙ omega arith in (
+      omega (arith, (loop r.before).loop-s.invariant.0),
       (
-        length-set starts q _ ∙ (loop r).loop-s.invariant.1.0,
-        take-one (slot_at (book r)) ((loop r).loop-s.s - 1) (low r) starts q (omega (arith, within r, (loop r).loop-s.invariant.1.0))
-            place (taken r),
+        length-set starts q _ ∙ (loop r.before).loop-s.invariant.1.0,
+        take-one (slot_at (book r.before)) ((loop r.before).loop-s.s - 1) (low r.before) starts q (omega (arith, within r.before, (loop r.before).loop-s.invariant.1.0))
+            place (taken r.before),
       ),
     )
 
 loop-again-2 : tie.Need-loop-s-preserved invariant-loop decreases-loop
 loop-again-2 c =
-    let r = c.before in (
-      omega (arith, (loop r).loop-s.invariant.0),
+    let r = c in (
+      omega (arith, (loop r.before).loop-s.invariant.0),
       (
-        (loop r).loop-s.invariant.1.0,
-        take_none (slot_at (book r)) ((loop r).loop-s.s - 1) (low r) (loop r).loop-s.starts
-            (λ p h e. omega (arith, r.IsPlace-in.ensures.0, e)) (taken r),
+        (loop r.before).loop-s.invariant.1.0,
+        take_none (slot_at (book r.before)) ((loop r.before).loop-s.s - 1) (low r.before) (loop r.before).loop-s.starts
+            (λ p h e. omega (arith, r.IsPlace-in.ensures.0, e)) (taken r.before),
       ),
     )
 

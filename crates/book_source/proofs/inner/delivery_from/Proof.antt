@@ -23,19 +23,19 @@ module _ (d : tie.After-delivery_at-p) where
   within : Within book (shifted start.args.at d.delivery_at-p.result)
   within =
       subst (λ (p : DeliveryPoint). Within book (shifted start.args.at p)) (sym d.delivery_at-p.ensures)
-      (within-moved book start.args.at start.pre (delivery_at (records_at book start.args.at) 0)
-      (within-at (records_at book start.args.at) 0 (two book start.args.at start.pre)))
+      (within-moved book start.args.at start.requires (delivery_at (records_at book start.args.at) 0)
+      (within-at (records_at book start.args.at) 0 (two book start.args.at start.requires)))
 
 returns : tie.Need-returns
 unfolding delivery_from
 returns c =
-    let d = c.before.before.before.before.before in
-    ap (shifted (start d).args.at) d.delivery_at-p.ensures
+    let d = c in
+    ap (shifted (start d.before.before.before.before.before).args.at) d.delivery_at-p.ensures
 
 pub delivery_from_spec : {M : Type 1} → statement M
 delivery_from_spec = tie.close (tie.spec (search rules) (search rules) (search rules) (search rules) (search rules)
-    (λ c. let h = (within c.before.before).postcode in let k = (start c.before.before).good in search rules)
-    (λ c. let h = (within c.before.before.before).suffix in let k = (start c.before.before.before).good in search rules)
-    (λ c. let h = (within c.before.before.before.before).box in let k = (start c.before.before.before.before).good in search rules)
+    (λ c. let h = (within c.before.before.before.before.before).postcode in let k = (start c.before.before.before.before.before).good in search rules)
+    (λ c. let h = (within c.before.before.before.before.before).suffix in let k = (start c.before.before.before.before.before).good in search rules)
+    (λ c. let h = (within c.before.before.before.before.before).box in let k = (start c.before.before.before.before.before).good in search rules)
     (λ c. let h = (within c.before.before.before.before.before).organisation in let k = (start c.before.before.before.before.before).good in search rules)
     returns)

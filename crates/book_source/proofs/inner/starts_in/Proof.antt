@@ -36,7 +36,7 @@ module _ (n : tie.After-number_within-count invariant-loop decreases-loop) where
   code = start.args.code.now
 
   facts : BookFacts book
-  facts = book-facts book start.pre
+  facts = book-facts book start.requires
 
   count-is : n.number_within-count.result ≡ count_of book
   count-is = n.number_within-count.ensures.0

@@ -10,7 +10,7 @@ returns c =
     let marked = c in
     let at-if = marked in
     let a = at-if.args in
-    λ n h. set-marks a.bits.now marked.mark.new.0 a.row marked.mark.ensures n h at-if.if-row-ne0.true
+    λ n h. set-marks a.bits.now marked.mark.new.bits a.row marked.mark.ensures n h at-if.if-row-ne0.true
 
 returns-2 : tie.Need-returns-else-row-ne0
 returns-2 c = λ n h. rw (eq-eqb c.args.row 0 c.if-row-ne0.false)

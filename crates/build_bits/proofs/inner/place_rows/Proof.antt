@@ -61,14 +61,11 @@ add-lesser c = omega (arith, small c)
 
 sums-in-requires : tie.Need-sums_in-sums-requires invariant-loop decreases-loop
 sums-in-requires c κs =
-    let t = c.before in
-    let last = (at-loop t).last_of-last.ensures in (
-      (
+    let t = c in
+    let last = (at-loop t).last_of-last.ensures in record { fit = (
         (start t).requires.0.0,
         (omega (arith, (so_far t).place), (omega (arith, c.lesser.ensures, last, below t), omega (arith, c.lesser.ensures, last))),
-      ),
-      (start t).requires.0.1.1,
-    )
+      ); file_bound = (start t).requires.0.1.1 }
 
 -- once the rows of the block are counted
 module _ (c : tie.After-sums_in-sums invariant-loop decreases-loop) where
@@ -122,10 +119,7 @@ returns c =
     let st = stock_of a.s a.file.now in
     let marks = shelf_marks a.s a.file.now a.bits.now in
     let f = l.loop-from.invariant.1 in
-    let end : last_of a.s a.file.now ≤ l.loop-from.from = omega (arith, c.loop-from-test.false, l.last_of-last.ensures) in (
-      filled-count st marks a.start f end,
-      (filled-size st marks a.start f end, filled-blocks st marks a.start f end),
-    )
+    let end : last_of a.s a.file.now ≤ l.loop-from.from = omega (arith, c.loop-from-test.false, l.last_of-last.ensures) in record { rows = filled-count st marks a.start f end; bytes = filled-size st marks a.start f end; placed = filled-blocks st marks a.start f end }
 
 pub place_rows_spec : {M : Type 1} → statement M
 place_rows_spec =

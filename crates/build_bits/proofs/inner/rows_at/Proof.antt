@@ -67,38 +67,38 @@ module _ (c : tie.In-loop-i invariant-loop decreases-loop) where
 
 row-at-requires : tie.Need-row_at-end-requires invariant-loop decreases-loop
 row-at-requires c κs =
-    let t = c.before in
+    let t = c in
     let i = (at-loop t).loop-i.i in
     ((start t).requires.0, going-room (row_bytes_at (st t) i) (rows_left (st t) (marks t) (i + 1)) (left t) (start t).requires.1)
 
 loop-less : tie.Need-loop-i-smaller invariant-loop decreases-loop
 loop-less c =
-    let t = c.before.before.before.before.before in
-    let last = (at-loop t).last_of-last.ensures in
-    let bits = (start t).args.bits.now in
-    let i = (at-loop t).loop-i.i in
+    let t = c in
+    let last = (at-loop t.before.before.before.before.before).last_of-last.ensures in
+    let bits = (start t.before.before.before.before.before).args.bits.now in
+    let i = (at-loop t.before.before.before.before.before).loop-i.i in
     omega (
       arith,
       t.loop-i-test.true,
       c.next_marked-i-in-loop-i.ensures ∙ ap (next_marked bits (i + 1)) last,
-      next_low (st t) bits (i + 1) (st t).last (omega (arith, below t)) (omega arith),
+      next_low (st t.before.before.before.before.before) bits (i + 1) (st t.before.before.before.before.before).last (omega (arith, below t.before.before.before.before.before)) (omega arith),
     )
 
 loop-again : tie.Need-loop-i-preserved invariant-loop decreases-loop
 loop-again c =
-    let t = c.before.before.before.before.before in
+    let t = c in
     let row = c.row_at-end in
-    let last = (at-loop t).last_of-last.ensures in
-    let bits = (start t).args.bits.now in
-    let i = (at-loop t).loop-i.i in
-    let more : i + 1 ≤ (st t).last = omega (arith, below t) in
-    let all : (st t).last ≤ (st t).last = omega arith in
-    let low = next_low (st t) bits (i + 1) (st t).last more all in
+    let last = (at-loop t.before.before.before.before.before).last_of-last.ensures in
+    let bits = (start t.before.before.before.before.before).args.bits.now in
+    let i = (at-loop t.before.before.before.before.before).loop-i.i in
+    let more : i + 1 ≤ (st t.before.before.before.before.before).last = omega (arith, below t.before.before.before.before.before) in
+    let all : (st t.before.before.before.before.before).last ≤ (st t.before.before.before.before.before).last = omega arith in
+    let low = next_low (st t.before.before.before.before.before) bits (i + 1) (st t.before.before.before.before.before).last more all in
     rw (c.next_marked-i-in-loop-i.ensures ∙ ap (next_marked bits (i + 1)) last) (
-      row.auto.1.1.1.1.0 ∙ (at-loop t).loop-i.invariant.0,
-      (λ h. (omega (arith, low), next-marked (st t) bits (i + 1) (st t).last more all (omega (arith, h, last)))),
-      going-as (next-left (st t) bits (i + 1) (st t).last more all (omega arith))
-          (going_step (rows_left (st t) (marks t) (i + 1)) (left t) row.ensures (start t).requires.1),
+      row.auto.1.1.1.1.0 ∙ (at-loop t.before.before.before.before.before).loop-i.invariant.0,
+      (λ h. (omega (arith, low), next-marked (st t.before.before.before.before.before) bits (i + 1) (st t.before.before.before.before.before).last more all (omega (arith, h, last)))),
+      going-as (next-left (st t.before.before.before.before.before) bits (i + 1) (st t.before.before.before.before.before).last more all (omega arith))
+          (going_step (rows_left (st t.before.before.before.before.before) (marks t.before.before.before.before.before) (i + 1)) (left t.before.before.before.before.before) row.ensures (start t.before.before.before.before.before).requires.1),
     )
 
 returns : tie.Need-returns invariant-loop decreases-loop

@@ -24,7 +24,7 @@ text-at-requires-2 c κs =
     let a = s.args in
     let second = text_in a.rec.now a.middle a.end in
     let room = room_after (texts_bytes (second ∷ [])) behind-text-at.text_at-i.ensures s.requires.1 in
-    (s.requires.0.1, room_as behind-text-at.text_at-i.new.1.1.1.1.0 behind-text-at.text_at-i.result (texts-last second) room)
+    (s.requires.0.1, room_as behind-text-at.text_at-i.new.out behind-text-at.text_at-i.result (texts-last second) room)
 
 returns : tie.Need-returns
 returns c =

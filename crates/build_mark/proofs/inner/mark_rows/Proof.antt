@@ -27,24 +27,24 @@ loop-holds c = (omega arith, refl, refl)
 mul-marks : tie.Need-offset_bounds-marks-row invariant-loop decreases-loop
 mul-marks c =
     let l = c in
-    let s = l.before.before.before in
-    let seven : length s.args.rows ≡ 7 = seven-rows s in
+    let s = l in
+    let seven : length s.args.rows ≡ 7 = seven-rows s.before.before.before in
     omega (arith, below_at (length s.args.marks.now) s.args.rows s.requires l.loop-i.i (omega arith))
 
 slice-write-marks : tie.Need-bounds-marks-row invariant-loop decreases-loop
 slice-write-marks c =
     let l = c in
-    let s = l.before.before.before in
-    let seven : length s.args.rows ≡ 7 = seven-rows s in
+    let s = l in
+    let seven : length s.args.rows ≡ 7 = seven-rows s.before.before.before in
     omega (arith, below_at (length s.args.marks.now) s.args.rows s.requires l.loop-i.i (omega arith))
 
 loop-again : tie.Need-loop-i-preserved invariant-loop decreases-loop
 loop-again c =
     let l = c in
-    let s = l.before.before.before in
+    let s = l in
     let i = l.loop-i.i in
     let rows = s.args.rows in
-    let seven : length rows ≡ 7 = seven-rows s in
+    let seven : length rows ≡ 7 = seven-rows s.before.before.before in
     let step = l.loop-i.invariant.2 ∙ mark-step rows l.loop-i.marks i (omega arith) in
     let next : c.if-row-ne0.marks ≡ mark_row (get_or rows i 0) l.loop-i.marks =
     ⊎_elim (λ t. t.1 ∙ sym (mark-one l.loop-i.marks (get_or rows i 0) t.0.taken))
@@ -58,9 +58,9 @@ loop-again c =
 returns : tie.Need-returns invariant-loop decreases-loop
 returns c =
     let l = c in
-    let s = l.before.before in
+    let s = l in
     let rows = s.args.rows in
-    let seven : length rows ≡ 7 = seven-rows s in
+    let seven : length rows ≡ 7 = seven-rows s.before.before in
     sym (l.loop-i.invariant.2 ∙ mark-end rows l.loop-i.marks l.loop-i.i (omega arith))
 
 pub mark_rows_spec : {M : Type 1} → statement M

@@ -27,7 +27,7 @@ module _ (counted : tie.After-count_digits-counts) where
 
   room : start.args.at + length (said (counts_bytes counted.count_digits-counts.result.of_digits))
       ≤ length start.args.out.now
-  room = room_as start.args.out.now start.args.at trailer-is start.pre.1.1
+  room = room_as start.args.out.now start.args.at trailer-is start.requires.1.1
 
 count-digits-requires : tie.Need-count_digits-counts-requires
 count-digits-requires c κs = (omega arith, omega (arith, c.requires.1))
@@ -55,11 +55,11 @@ returns c =
     let at-third-word = at-end in
     let at-second-word = at-third-word in
     let at-first-word = at-second-word in
-    let counted = at-first-word.before.before.before.before.before.before.before.before.before.before.before.before.before.before.before.before.before in
-    let fits = room counted in
+    let counted = at-first-word in
+    let fits = room counted.before.before.before.before.before.before.before.before.before.before.before.before.before.before.before.before.before in
     let two-words = put_then at-first-word.word_at-i.ensures at-second-word.word_at-j.ensures (omega (arith, fits)) in
     let three-words = put_then two-words at-third-word.word_at-k.ensures (omega (arith, fits)) in
-    put_as (trailer-is counted) (put_then three-words at-end.trailer_end_at.ensures fits)
+    put_as (trailer-is counted.before.before.before.before.before.before.before.before.before.before.before.before.before.before.before.before.before) (put_then three-words at-end.trailer_end_at.ensures fits)
 
 pub trailer_at_spec : {M : Type 1} → statement M
 trailer_at_spec =

@@ -63,9 +63,9 @@ returns c =
     let at-counts = at-edition in
     let at_length = at-counts in
     let at_code = at_length in
-    let s = at_code.before.before.before.before.before.before.before.before.before.before.before.before.before.before.before.before.before.before in
+    let s = at_code in
     going-last
-    (after-counts (code s) s.args.bytes (counts s) s.requires at_code.bytes_at-i.ensures at_length.word_at-j.ensures
+    (after-counts (code s.before.before.before.before.before.before.before.before.before.before.before.before.before.before.before.before.before.before) s.args.bytes (counts s.before.before.before.before.before.before.before.before.before.before.before.before.before.before.before.before.before.before) s.requires at_code.bytes_at-i.ensures at_length.word_at-j.ensures
     at-counts.counts_at-k.ensures)
     at-edition.byte_at.ensures s.requires
 

@@ -76,7 +76,7 @@ module _ (r : tie.After-rows_by-found invariant-loop decreases-loop) where
 
   rows_are : r.rows_by-found.result.rows ≡ rows_of (table_stock table) (delivery_at points l.loop-at.at)
   rows_are =
-      rows-found table s.pre.0.of_table (delivery_at points l.loop-at.at) t.table_shelf-s.ensures d.delivery_at-p.ensures
+      rows-found table s.requires.0.of_table (delivery_at points l.loop-at.at) t.table_shelf-s.ensures d.delivery_at-p.ensures
       r.rows_by-found.ensures
 
   refusal_is : refusal_in d.delivery_at-p.result r.rows_by-found.result.rows
@@ -91,7 +91,7 @@ rows-by-requires c κs =
 
 mark-point-requires : tie.Need-mark_point-requires invariant-loop decreases-loop
 mark-point-requires c κs =
-    let r = c.before in
+    let r = c in
     found_below (table r) (s r).requires.0.of_table (length (l r).loop-at.marks) (asked_of (d r).delivery_at-p.result)
     (omega (arith, (s r).requires.1, (l r).loop-at.invariant.0)) (t r).table_shelf-s.ensures r.rows_by-found.ensures
 
@@ -99,31 +99,31 @@ returns : tie.Need-returns-in-Bad invariant-loop decreases-loop
 returns c =
     let w = c in
     let m = w in
-    let r = m.before.before.before.before.before.before.before in
-    let bad = sym (m.mark_point.ensures.0 ∙ refusal_is r) ∙ w.in-Bad.is in
+    let r = m in
+    let bad = sym (m.mark_point.ensures.said ∙ refusal_is r.before.before.before.before.before.before.before) ∙ w.in-Bad.is in
     record {
       said =
           rw (c.with_view.ensures, c.number_at-view.ensures)
-          (sym (marking-stop (left r) w.in-Bad.why bad));
+          (sym (marking-stop (left r.before.before.before.before.before.before.before) w.in-Bad.why bad));
       marks_all = λ e. absurd (bad-fine _ e);
     }
 
 loop-less : tie.Need-loop-at-smaller invariant-loop decreases-loop
 loop-less c =
-    let r = c.before.before.before.before.before.before in
-    omega (arith, c.next_wanted-at-in-loop-at.ensures, (next-range (code r) (points r) ((l r).loop-at.at + 1)).0)
+    let r = c in
+    omega (arith, c.next_wanted-at-in-loop-at.ensures, (next-range (code r.before.before.before.before.before.before) (points r.before.before.before.before.before.before) ((l r.before.before.before.before.before.before).loop-at.at + 1)).0)
 
 loop-again : tie.Need-loop-at-preserved invariant-loop decreases-loop
 loop-again c =
     let e = c in
     let m = e in
-    let r = m.before.before.before.before.before.before in
+    let r = m in
     let told = e.in-Fine.is in
     rw c.next_wanted-at-in-loop-at.ensures (
-      m.mark_point.auto.1.1.0 ∙ (l r).loop-at.invariant.0,
-      next-next (code r) (points r) ((l r).loop-at.at + 1),
-      marking-on (left r) (sym (m.mark_point.ensures.0 ∙ refusal_is r) ∙ told)
-          (m.mark_point.ensures.1 told ∙ ap (λ (rows : List ℕ). mark_rows rows (l r).loop-at.marks) (rows_are r)),
+      m.mark_point.auto.1.1.0 ∙ (l r.before.before.before.before.before.before).loop-at.invariant.0,
+      next-next (code r.before.before.before.before.before.before) (points r.before.before.before.before.before.before) ((l r.before.before.before.before.before.before).loop-at.at + 1),
+      marking-on (left r.before.before.before.before.before.before) (sym (m.mark_point.ensures.said ∙ refusal_is r.before.before.before.before.before.before) ∙ told)
+          (m.mark_point.ensures.marked told ∙ ap (λ (rows : List ℕ). mark_rows rows (l r.before.before.before.before.before.before).loop-at.marks) (rows_are r.before.before.before.before.before.before)),
     )
 
 returns-2 : tie.Need-returns invariant-loop decreases-loop

@@ -110,18 +110,15 @@ module _ (k : tie.After-key_offsets-offsets invariant-loop decreases-loop) where
 
 point-at-requires : tie.Need-point_at-end-requires invariant-loop decreases-loop
 point-at-requires c κs =
-    let k = c.before in
+    let k = c in
     let i = (l k).loop-place.place in
-    let in-file = view-within (points k) i (high k) in (
-      rw (d k).delivery_at-p.ensures (record { postcode = in-file.postcode; suffix = in-file.suffix; box = in-file.box }),
-      room_as (l k).loop-place.out (l k).loop-place.end (same k)
+    let in-file = view-within (points k) i (high k) in record { fields_within = rw (d k).delivery_at-p.ensures (record { postcode = in-file.postcode; suffix = in-file.suffix; box = in-file.box }); row_in_bounds = room_as (l k).loop-place.out (l k).loop-place.end (same k)
           (point-room (packed_at (points k) i) (rest k) (s k).requires.1.1 (table_stock (s k).args.table.now) (points k)
-          (points k) (starts k) (l k).loop-place.row (left k)),
-    )
+          (points k) (starts k) (l k).loop-place.row (left k)) }
 
 organisation-len-requires : tie.Need-organisation_len-row-requires invariant-loop decreases-loop
 organisation-len-requires c κs =
-    let k = c.before.before.before.before in
+    let k = c in
     rw (d k).delivery_at-p.ensures (view-within (points k) (l k).loop-place.place (high k)).organisation
 
 -- how long its organisation's row is
@@ -130,32 +127,32 @@ len : (c : tie.After-organisation_len-row invariant-loop decreases-loop)
     ≡ length (organisation_row (points c.before.before.before.before.before)
     (delivery_at (points c.before.before.before.before.before) (l c.before.before.before.before.before).loop-place.place))
 len c =
-    let k = c.before.before.before.before.before in
+    let k = c in
     c.organisation_len-row.ensures.0
-    ∙ ap (λ (p : DeliveryPoint). length (organisation_row (points k) p)) (d k).delivery_at-p.ensures
+    ∙ ap (λ (p : DeliveryPoint). length (organisation_row (points k.before.before.before.before.before) p)) (d k.before.before.before.before.before).delivery_at-p.ensures
 
 add_row : tie.Need-overflow_add-row invariant-loop decreases-loop
 add_row c =
-    let k = c.before.before.before.before.before in
-    omega (arith, more k, len c, (l k).loop-place.invariant.2, (s k).well_formed.1.1.1.1.1.1.0)
+    let k = c in
+    omega (arith, more k.before.before.before.before.before, len c, (l k.before.before.before.before.before).loop-place.invariant.2, (s k.before.before.before.before.before).well_formed.1.1.1.1.1.1.0)
 
 loop-less : tie.Need-loop-place-smaller invariant-loop decreases-loop
 loop-less c =
-    let k = c.before.before.before.before.before.before in
-    omega (arith, c.next_wanted-place-in-loop-place.ensures, (next-range (code k) (points k) ((l k).loop-place.place + 1)).0)
+    let k = c in
+    omega (arith, c.next_wanted-place-in-loop-place.ensures, (next-range (code k.before.before.before.before.before.before) (points k.before.before.before.before.before.before) ((l k.before.before.before.before.before.before).loop-place.place + 1)).0)
 
 loop-again : tie.Need-loop-place-preserved invariant-loop decreases-loop
 loop-again c =
-    let o = c.before in
+    let o = c in
     let w = o in
-    let k = w.before.before.before.before.before in
-    let i = (l k).loop-place.place in
+    let k = w in
+    let i = (l k.before.before.before.before.before.before).loop-place.place in
     rw c.next_wanted-place-in-loop-place.ensures (
-      w.point_at-end.auto.1.1.1.1.1.0 ∙ (l k).loop-place.invariant.0,
-      next-next (code k) (points k) (i + 1),
-      omega (arith, more k, len o, (l k).loop-place.invariant.2),
-      point-on (packed_at (points k) i) (rest k) (s k).requires.1.1 (table_stock (s k).args.table.now) (points k) (points k)
-          (starts k) (l k).loop-place.row (left k) (len o) (put_as (same k) w.point_at-end.ensures),
+      w.point_at-end.auto.1.1.1.1.1.0 ∙ (l k.before.before.before.before.before.before).loop-place.invariant.0,
+      next-next (code k.before.before.before.before.before.before) (points k.before.before.before.before.before.before) (i + 1),
+      omega (arith, more k.before.before.before.before.before.before, len o.before, (l k.before.before.before.before.before.before).loop-place.invariant.2),
+      point-on (packed_at (points k.before.before.before.before.before.before) i) (rest k.before.before.before.before.before.before) (s k.before.before.before.before.before.before).requires.1.1 (table_stock (s k.before.before.before.before.before.before).args.table.now) (points k.before.before.before.before.before.before) (points k.before.before.before.before.before.before)
+          (starts k.before.before.before.before.before.before) (l k.before.before.before.before.before.before).loop-place.row (left k.before.before.before.before.before.before) (len o.before) (put_as (same k.before.before.before.before.before.before) w.point_at-end.ensures),
     )
 
 returns : tie.Need-returns invariant-loop decreases-loop

@@ -64,7 +64,7 @@ module _ (at_rows : tie.After-rows_at-i) where
   abbrev start-of-rows : tie.Start
   start-of-rows = at_rows.before.before.before.before.before.before.before.before.before
 
-  rows-put : Put (used_rows (st start-of-rows) (starts start-of-rows)) start-of-rows.args.out.now 0 at_rows.rows_at-i.result at_rows.rows_at-i.last.1.1.1.1.0
+  rows-put : Put (used_rows (st start-of-rows) (starts start-of-rows)) start-of-rows.args.out.now 0 at_rows.rows_at-i.result at_rows.rows_at-i.new.out
   rows-put =
       put_as (ap (λ (s : Shelf). used_rows (stock_of s start-of-rows.args.table.now) (starts start-of-rows)) at_rows.table_shelf.ensures)
       at_rows.rows_at-i.ensures
@@ -103,7 +103,7 @@ module _ (at-organisations : tie.After-organisations_at-j) where
   start-of-organisations = start-of-rows rows_before
 
   points_left : Going (pack start-of-organisations) (behind start-of-organisations rows_before.rows_at-i.result at-organisations.organisations_at-j.result) start-of-organisations.args.out.now 0
-      at-organisations.organisations_at-j.result at-organisations.organisations_at-j.last.1.1.1.0
+      at-organisations.organisations_at-j.result at-organisations.organisations_at-j.new.out
   points_left =
       after-organisations (st start-of-organisations) (points start-of-organisations) (points start-of-organisations) (starts start-of-organisations) (ds start-of-organisations) (code start-of-organisations) start-of-organisations.args.rows
       start-of-organisations.args.count start-of-organisations.requires.ready (rows-put rows_before) at-organisations.organisations_at-j.ensures
@@ -113,14 +113,8 @@ points-at-requires c κs =
     let at-organisations = c.before.before.before in
     let s = start-of-organisations at-organisations in
     let i = (rows_before at-organisations).rows_at-i.result in
-    let j = at-organisations.organisations_at-j.result in (
-      s.requires.known,
-      (
-        omega (arith, at-organisations.organisations_at-j.ensures.size),
-        going-room (points_in (st s) (points s) (points s) (starts s) i (ds s))
-            (behind-points s i j) (points_left at-organisations) (room s),
-      ),
-    )
+    let j = at-organisations.organisations_at-j.result in record { known = s.requires.known; code_bound = omega (arith, at-organisations.organisations_at-j.ensures.size); code_in_bounds = going-room (points_in (st s) (points s) (points s) (starts s) i (ds s))
+            (behind-points s i j) (points_left at-organisations) (room s) }
 
 -- and the points
 module _ (at-points : tie.After-points_at-k) where
@@ -131,7 +125,7 @@ module _ (at-points : tie.After-points_at-k) where
   start-of-points = start-of-organisations organisations-before
 
   abbrev out-with-points : List ℕ
-  out-with-points = at-points.points_at-k.last.1.1.1.1.1.1.1.0
+  out-with-points = at-points.points_at-k.new.out
 
   trailer-left : Going (pack start-of-points)
       (trailer_bytes newest start-of-points.args.rows organisations-before.organisations_at-j.result start-of-points.args.count (code start-of-points)
@@ -168,8 +162,8 @@ trailer-at-requires c κs =
 returns : tie.Need-returns
 returns c =
     let behind-trailer-at = c in
-    let at-points = behind-trailer-at.before.before.before.before.before.before in
-    wrote (going-last (trailer-left at-points) behind-trailer-at.trailer_at.ensures (room (start-of-points at-points)))
+    let at-points = behind-trailer-at in
+    wrote (going-last (trailer-left at-points.before.before.before.before.before.before) behind-trailer-at.trailer_at.ensures (room (start-of-points at-points.before.before.before.before.before.before)))
 
 pub write_pack_spec : {M : Type 1} → statement M
 write_pack_spec =

@@ -63,15 +63,15 @@ cast-entry-at-2 c = omega (arith, c.shared_slice_known-in-loop-i-2-1.given (i c.
 
 entry-at-requires : tie.Need-entry_at-at-requires invariant-loop decreases-loop
 entry-at-requires c κs =
-    let n = c.before.before.before in
-    going-room (this n) (behind n) (left n) (room n)
+    let n = c in
+    going-room (this n.before.before) (behind n.before.before) (left n.before.before) (room n.before.before)
 
 loop-again : tie.Need-loop-i-preserved invariant-loop decreases-loop
 loop-again c =
     let v = c in
-    let n = v.before.before.before.before.before.before in (
-      v.entry_at-at.auto.1.1.1.0 ∙ (l n).loop-i.invariant.0,
-      going_step (behind n) (left n) v.entry_at-at.ensures (room n),
+    let n = v in (
+      v.entry_at-at.auto.1.1.1.0 ∙ (l n.before.before.before.before.before.before).loop-i.invariant.0,
+      going_step (behind n.before.before.before.before.before.before) (left n.before.before.before.before.before.before) v.entry_at-at.ensures (room n.before.before.before.before.before.before),
     )
 
 returns : tie.Need-returns invariant-loop decreases-loop

@@ -19,28 +19,28 @@ module _ (s : tie.Start) where
   bytes = pair_bytes s.args.codes.now s.args.counts.now
 
   needed : length bytes ≡ 8 * length s.args.codes.now
-  needed = pairs-long s.args.codes.now s.args.counts.now s.pre.0
+  needed = pairs-long s.args.codes.now s.args.counts.now s.requires.0
 
 returns : tie.Need-returns-then-out-needed
 returns c =
-    let s = c.before.before.before.before in
+    let s = c in
     let out = s.args.out.now in
-    said-as (ap (λ (n : ℕ). Refused 0 (Room n)) (sym (needed s))) refl
-    ∙ sym (falls-short (length s.args.codes.now) (bytes s) out (omega (arith, needed s, c.if-out-needed.true)))
+    said-as (ap (λ (n : ℕ). Refused 0 (Room n)) (sym (needed s.before.before.before.before))) refl
+    ∙ sym (falls-short (length s.args.codes.now) (bytes s.before.before.before.before) out (omega (arith, needed s.before.before.before.before, c.if-out-needed.true)))
 
 write-entries-requires : tie.Need-write_entries-requires
 write-entries-requires c κs =
     let s = c in
-    (s.requires.0, omega (arith, needed s, c.if-out-needed.false))
+    record { counts_len = s.requires.0; counts_in_bounds = omega (arith, needed s, c.if-out-needed.false) }
 
 returns-2 : tie.Need-returns
 returns-2 c =
     let w = c in
     let e = w in
-    let s = e.before.before.before.before.before.before.before.before in
+    let s = e in
     let out = s.args.out.now in
     said-as refl w.write_entries.ensures.is
-    ∙ sym (fits (length s.args.codes.now) (bytes s) out (omega (arith, needed s, e.if-out-needed.false)))
+    ∙ sym (fits (length s.args.codes.now) (bytes s.before.before.before.before.before.before.before.before) out (omega (arith, needed s.before.before.before.before.before.before.before.before, e.if-out-needed.false)))
 
 pub write_if_room_spec : {M : Type 1} → statement M
 write_if_room_spec =

@@ -48,7 +48,7 @@ module _ (f : tie.After-is_live invariant-loop decreases-loop) where
   rec = record_at 168 points l.loop-next.next
 
   room : 0 + length (all_codes points) ≤ length s.args.codes.now
-  room = omega (arith, s.pre)
+  room = omega (arith, s.requires)
 
   inside : l.loop-next.next < last_of points
   inside = omega (arith, r.loop-next-test.taken, k.last_of-last.ensures)
@@ -80,7 +80,7 @@ loop-holds c =
 
 code-of-requires : tie.Need-code_of-requires invariant-loop decreases-loop
 code-of-requires c κs =
-    let f = c.before in
+    let f = c in
     rw (r f).point_record-rec.ensures (omega (arith, record-length 168 (points f) (l f).loop-next.next (omega (arith, inside f))))
 
 mul-codes : tie.Need-offset_bounds-codes-n invariant-loop decreases-loop
@@ -94,8 +94,8 @@ add-n c = omega (arith, free c.before.before c.if-is_live.true, (l c.before.befo
 
 loop-less : tie.Need-loop-next-smaller-then-is_live invariant-loop decreases-loop
 loop-less c =
-    let f = c.before.before in
-    omega (arith, f.next_wanted-next-in-loop-next.ensures, (next-range [] (points f) ((l f).loop-next.next + 1)).0, inside f)
+    let f = c in
+    omega (arith, f.next_wanted-next-in-loop-next.ensures, (next-range [] (points f.before.before) ((l f.before.before).loop-next.next + 1)).0, inside f.before.before)
 
 loop-again : tie.Need-loop-next-preserved-then-is_live invariant-loop decreases-loop
 loop-again c =
@@ -113,17 +113,17 @@ loop-again c =
 
 loop-less-2 : tie.Need-loop-next-smaller invariant-loop decreases-loop
 loop-less-2 c =
-    let f = c.before in
-    omega (arith, f.next_wanted-next-in-loop-next.ensures, (next-range [] (points f) ((l f).loop-next.next + 1)).0, inside f)
+    let f = c in
+    omega (arith, f.next_wanted-next-in-loop-next.ensures, (next-range [] (points f.before) ((l f.before).loop-next.next + 1)).0, inside f.before)
 
 loop-again-2 : tie.Need-loop-next-preserved invariant-loop decreases-loop
 loop-again-2 c =
-    let f = c.before in
-    let i = (l f).loop-next.next in
+    let f = c in
+    let i = (l f.before).loop-next.next in
     rw f.next_wanted-next-in-loop-next.ensures (
-      (l f).loop-next.invariant.0,
-      next-next [] (points f) (i + 1),
-      going-as (codes-other (points f) i (l f).loop-next.invariant.1 (inside f) (sym (said f) ∙ c.if-is_live.false)) (l f).loop-next.invariant.2,
+      (l f.before).loop-next.invariant.0,
+      next-next [] (points f.before) (i + 1),
+      going-as (codes-other (points f.before) i (l f.before).loop-next.invariant.1 (inside f.before) (sym (said f.before) ∙ c.if-is_live.false)) (l f.before).loop-next.invariant.2,
     )
 
 returns : tie.Need-returns invariant-loop decreases-loop

@@ -55,7 +55,7 @@ module _ (judged : tie.After-refusal_in) where
   address = address_at points 0 place
 
   high : suc place < length points / 168
-  high = omega (arith, start.pre.high there.if-place-eq0.left)
+  high = omega (arith, start.requires.high there.if-place-eq0.left)
 
   within : Within points read.delivery_at-p.result
   within =
@@ -75,7 +75,7 @@ rows-of-requires c κs = rw c.table_shelf-s.ensures table_fits
 
 spans-of-requires : tie.Need-spans_of-requires
 spans-of-requires c κs =
-    let judged = c.before.before in
+    let judged = c in
     (rw (read judged).table_shelf-s.ensures table_fits, within judged)
 
 ending-of-requires : tie.Need-ending_of-requires
@@ -87,30 +87,30 @@ returns-2 c =
     let ending = written in
     let sp = ending in
     let told = sp in
-    let judged = told.before.before.before.before.before.before.before in
-    let r = read judged in
-    let some = (there judged).if-place-eq0.false in
-    let fine = sym (verdict-is judged) ∙ told.in-Fine.is in
+    let judged = told in
+    let r = read judged.before.before.before.before.before.before.before in
+    let some = (there judged.before.before.before.before.before.before.before).if-place-eq0.false in
+    let fine = sym (verdict-is judged.before.before.before.before.before.before.before) ∙ told.in-Fine.is in
     let resolved =
-    resolved-fine (table judged) (points judged) (start judged).requires.of_table (place judged)
-    ((start judged).requires.high some) 0 fine in
+    resolved-fine (table judged.before.before.before.before.before.before.before) (points judged.before.before.before.before.before.before.before) (start judged.before.before.before.before.before.before.before).requires.of_table (place judged.before.before.before.before.before.before.before)
+    ((start judged.before.before.before.before.before.before.before).requires.high some) 0 fine in
     let spans =
     sp.spans_of.ensures
-    ∙ elements-as (table judged) (points judged) r.table_shelf-s.ensures r.delivery_at-p.ensures (rows_are judged) in
+    ∙ elements-as (table judged.before.before.before.before.before.before.before) (points judged.before.before.before.before.before.before.before) r.table_shelf-s.ensures r.delivery_at-p.ensures (rows_are judged.before.before.before.before.before.before.before) in
     rw spans at written.print_row.ensures
-    ∙ placed-written (look judged) (address judged) (place judged) (start judged).args.out.now (points judged)
-    (points judged) some (says_at (points judged) (place judged) (high judged) 0)
+    ∙ placed-written (look judged.before.before.before.before.before.before.before) (address judged.before.before.before.before.before.before.before) (place judged.before.before.before.before.before.before.before) (start judged.before.before.before.before.before.before.before).args.out.now (points judged.before.before.before.before.before.before.before)
+    (points judged.before.before.before.before.before.before.before) some (says_at (points judged.before.before.before.before.before.before.before) (place judged.before.before.before.before.before.before.before) (high judged.before.before.before.before.before.before.before) 0)
     (rw r.delivery_at-p.ensures at ending.Ending-of.ensures) resolved
 
 returns-3 : tie.Need-returns-in-Bad
 returns-3 c =
-    let judged = c.before in
-    let some = (there judged).if-place-eq0.false in
-    let bad = sym (verdict-is judged) ∙ c.in-Bad.is in
+    let judged = c in
+    let some = (there judged.before).if-place-eq0.false in
+    let bad = sym (verdict-is judged.before) ∙ c.in-Bad.is in
     let resolved =
-    resolved-bad (table judged) (points judged) (start judged).requires.of_table (place judged)
-    ((start judged).requires.high some) 0 c.in-Bad.reason bad in
-    sym (some-place (look judged) (address judged) (place judged) (start judged).args.out.now some _ resolved)
+    resolved-bad (table judged.before) (points judged.before) (start judged.before).requires.of_table (place judged.before)
+    ((start judged.before).requires.high some) 0 c.in-Bad.reason bad in
+    sym (some-place (look judged.before) (address judged.before) (place judged.before) (start judged.before).args.out.now some _ resolved)
 
 pub row_at_spec : {M : Type 1} → statement M
 row_at_spec =

@@ -45,7 +45,7 @@ module _ (l : tie.At-loop-done invariant-loop decreases-loop) where
   number = start.args.first + l.loop-done.done
 
   view-place : ViewPlace table points (wanted_at [] points number)
-  view-place = wanted-place table points [] number start.pre
+  view-place = wanted-place table points [] number start.requires
 
   fit : Fitting (rows_asked table points)
   fit k out b e =
@@ -57,7 +57,7 @@ module _ (m : tie.After-row_behind invariant-loop decreases-loop) where
   abbrev at-loop : tie.At-loop-done invariant-loop decreases-loop
   at-loop = m.before.before.before
 
-  asked : said m.row_behind.result m.row_behind.last.1.1.1.1.0
+  asked : said m.row_behind.result m.row_behind.new.out
       ≡ asked_behind at-loop.loop-done.at at-loop.loop-done.out (rows_asked (table at-loop) (points at-loop) (number at-loop))
   asked = rw at-loop.loop-done.invariant.0 at m.row_behind.ensures
 
@@ -70,16 +70,16 @@ loop-holds c =
 
 row-behind-requires : tie.Need-row_behind-requires invariant-loop decreases-loop
 row-behind-requires c κs =
-    let l = c.before.before in
+    let l = c in
     (l.loop-done.invariant.1.0.within, rw l.loop-done.invariant.0 (view-place l))
 
 add_at : tie.Need-overflow_add-at invariant-loop decreases-loop
 add_at c =
-    let m = c.before.before.before in
-    let l = at-loop m in
+    let m = c in
+    let l = at-loop m.before.before.before in
     omega (
       arith,
-      going-fits l.loop-done.invariant.1.0 (fit l) (omega arith) (asked m) c.in-Value.is,
+      going-fits l.loop-done.invariant.1.0 (fit l) (omega arith) (asked m.before.before.before) c.in-Value.is,
       m.row_behind.auto.1.1.1.1.0,
       l.loop-done.invariant.1.1,
       (start l).good.1.1.1.1.0.0,
@@ -87,29 +87,29 @@ add_at c =
 
 returns : tie.Need-returns-in-Refused invariant-loop decreases-loop
 returns c =
-    let m = c.before.before.before in
-    let l = at-loop m in
-    going-stop l.loop-done.invariant.1.0 (fit l) (omega arith) (asked m) c.in-Refused.is
+    let m = c in
+    let l = at-loop m.before.before.before in
+    going-stop l.loop-done.invariant.1.0 (fit l) (omega arith) (asked m.before.before.before) c.in-Refused.is
 
 place-behind-requires : tie.Need-place_behind-place-requires invariant-loop decreases-loop
 place-behind-requires c κs =
-    let l = at-loop c.before.before.before.before in
+    let l = at-loop c.before.before.before in
     rw l.loop-done.invariant.0 (place-bound (table l) (points l) _ (view-place l))
 
 loop-again : tie.Need-loop-done-preserved invariant-loop decreases-loop
 loop-again c =
     let n = c in
-    let m = n.before.before.before.before.before in
-    let l = at-loop m in
+    let m = n in
+    let l = at-loop m.before.before.before.before in
     let is = n.in-Value.is in
     let place = wanted_at [] (points l) (number l) in
     let some =
-    placed-there (table_lookup (table l)) (address_at (points l) 0 place) place _ _ (sym (answer-of (asked m)) ∙ is) in
+    placed-there (table_lookup (table l)) (address_at (points l) 0 place) place _ _ (sym (answer-of (asked m.before.before.before.before)) ∙ is) in
     let next : (start l).args.first + (l.loop-done.done + 1) ≡ number l + 1 = omega arith in (
       rw l.loop-done.invariant.0 at c.place_behind-place.ensures
           ∙ (sym (next_place [] (points l) (number l) some) ∙ ap (wanted_at [] (points l)) (sym next)),
       (
-        going_step l.loop-done.invariant.1.0 (fit l) (omega arith) (asked m) is,
+        going_step l.loop-done.invariant.1.0 (fit l) (omega arith) (asked m.before.before.before.before) is,
         m.row_behind.auto.1.1.1.1.0 ∙ l.loop-done.invariant.1.1,
       ),
     )

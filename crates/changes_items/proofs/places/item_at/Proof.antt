@@ -39,7 +39,7 @@ returns c =
     whole.headed_item.ensures
     ∙ (ap (headed a.heading.now label.label_at-answer.result)
     (given_back a.out.now _ room.room_before-room.result
-    ∙ ap (λ (n : ℕ). take n a.out.now ++ label.label_at-answer.new.1.1.1.0) room.room_before-room.ensures)
+    ∙ ap (λ (n : ℕ). take n a.out.now ++ label.label_at-answer.new.out) room.room_before-room.ensures)
     ∙ asked-item a.table.now a.points.now a.place a.heading.now a.out.now start.requires.0 asked)
 
 pub item_at_spec : {M : Type 1} → statement M

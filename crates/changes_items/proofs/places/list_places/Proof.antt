@@ -48,7 +48,7 @@ module _ (l : tie.At-loop-done invariant-loop decreases-loop) where
   number = start.args.first + l.loop-done.done
 
   view-place : ViewPlace table points (wanted_at code points number)
-  view-place = wanted-place table points code number start.pre
+  view-place = wanted-place table points code number start.requires
 
   fit : Fitting (places_listed table points code)
   fit k out b e = item-fits table points (wanted_at code points k) _ out b e
@@ -58,7 +58,7 @@ module _ (m : tie.After-item_behind invariant-loop decreases-loop) where
   abbrev at-loop : tie.At-loop-done invariant-loop decreases-loop
   at-loop = m.before.before.before
 
-  asked : said m.item_behind.result m.item_behind.last.1.1.1.1.1.0
+  asked : said m.item_behind.result m.item_behind.new.out
       ≡ asked_behind at-loop.loop-done.at at-loop.loop-done.out
       (places_listed (table at-loop) (points at-loop) (code at-loop) (number at-loop))
   asked =
@@ -96,16 +96,16 @@ loop-holds c =
 
 item-behind-requires : tie.Need-item_behind-requires invariant-loop decreases-loop
 item-behind-requires c κs =
-    let l = c.before.before in
+    let l = c in
     (l.loop-done.invariant.1.1.0.within, rw l.loop-done.invariant.0 (view-place l))
 
 add_at : tie.Need-overflow_add-at invariant-loop decreases-loop
 add_at c =
-    let m = c.before.before.before in
-    let l = at-loop m in
+    let m = c in
+    let l = at-loop m.before.before.before in
     omega (
       arith,
-      going-fits l.loop-done.invariant.1.1.0 (fit l) (omega arith) (asked m) c.in-Value.is,
+      going-fits l.loop-done.invariant.1.1.0 (fit l) (omega arith) (asked m.before.before.before) c.in-Value.is,
       m.item_behind.auto.1.1.1.1.1.0,
       l.loop-done.invariant.1.1.1,
       (start l).good.1.1.1.1.1.0.0,
@@ -113,9 +113,9 @@ add_at c =
 
 returns : tie.Need-returns-in-Refused invariant-loop decreases-loop
 returns c =
-    let m = c.before.before.before in
-    let l = at-loop m in
-    going-stop l.loop-done.invariant.1.1.0 (fit l) (omega arith) (asked m) c.in-Refused.is
+    let m = c in
+    let l = at-loop m.before.before.before in
+    going-stop l.loop-done.invariant.1.1.0 (fit l) (omega arith) (asked m.before.before.before) c.in-Refused.is
 
 place-behind-requires : tie.Need-place_behind-next-requires invariant-loop decreases-loop
 place-behind-requires c κs =
@@ -131,13 +131,13 @@ number-on-requires c κs =
 loop-again : tie.Need-loop-done-preserved invariant-loop decreases-loop
 loop-again c =
     let p = c in
-    let n = p.before.before in
-    let m = written n in
+    let n = p in
+    let m = written n.before.before in
     let l = at-loop m in
     let is = n.in-Value.is in
     let next : (start l).args.first + (l.loop-done.done + 1) ≡ number l + 1 = omega arith in (
       rw l.loop-done.invariant.0 at p.place_behind-next.ensures
-          ∙ (sym (next_place (code l) (points l) (number l) (there n)) ∙ ap (wanted_at (code l) (points l)) (sym next)),
+          ∙ (sym (next_place (code l) (points l) (number l) (there n.before.before)) ∙ ap (wanted_at (code l) (points l)) (sym next)),
       (
         λ some.
             c.number_on-view.ensures
@@ -145,7 +145,7 @@ loop-again c =
             (behind-place (code l) (points l) l.loop-done.place (λ z. some (p.place_behind-next.ensures ∙ z)))),
         (
           going_step l.loop-done.invariant.1.1.0 (fit l) (omega arith) (asked m) is,
-          m.item_behind.kept.1.1.1.1.1.0 ∙ l.loop-done.invariant.1.1.1,
+          m.item_behind.kept.out ∙ l.loop-done.invariant.1.1.1,
         ),
       ),
     )

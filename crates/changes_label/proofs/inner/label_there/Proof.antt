@@ -37,7 +37,7 @@ module _ (judged : tie.After-refusal_in) where
   place = start.args.place
 
   high : suc place < length points / 168
-  high = omega (arith, start.pre.1)
+  high = omega (arith, start.requires.1)
 
   rows_are : looked.rows_of-found.result.rows ≡ rows_at table points place
   rows_are =
@@ -65,10 +65,10 @@ enum_told c = search rules
 
 spans-of-requires : tie.Need-spans_of-requires
 spans-of-requires c κs =
-    let judged = c.before.before in
-    let r = read judged in (
+    let judged = c in
+    let r = read judged.before in (
       rw r.table_shelf-s.ensures table_fits,
-      rw r.delivery_at-p.ensures (within-at (points judged) (place judged) (high judged)),
+      rw r.delivery_at-p.ensures (within-at (points judged.before) (place judged.before) (high judged.before)),
     )
 
 print-label-requires : tie.Need-print_label-requires
@@ -85,28 +85,28 @@ returns c =
     let p = c in
     let sp = p in
     let told = sp in
-    let judged = told.before.before.before.before.before.before in
-    let a = (start judged).args in
-    let fine = sym (verdict-is judged) ∙ told.in-Fine.is in
+    let judged = told in
+    let a = (start judged.before.before.before.before.before.before).args in
+    let fine = sym (verdict-is judged.before.before.before.before.before.before) ∙ told.in-Fine.is in
     let resolved =
-    resolved-fine (table judged) (points judged) (start judged).requires.0 (place judged)
-    (start judged).requires.1 0 fine in
-    let r = read judged in
+    resolved-fine (table judged.before.before.before.before.before.before) (points judged.before.before.before.before.before.before) (start judged.before.before.before.before.before.before).requires.0 (place judged.before.before.before.before.before.before)
+    (start judged.before.before.before.before.before.before).requires.1 0 fine in
+    let r = read judged.before.before.before.before.before.before in
     let spans =
     sp.spans_of.ensures
-    ∙ elements-as (table judged) (points judged) r.table_shelf-s.ensures r.delivery_at-p.ensures (rows_are judged) in
+    ∙ elements-as (table judged.before.before.before.before.before.before) (points judged.before.before.before.before.before.before) r.table_shelf-s.ensures r.delivery_at-p.ensures (rows_are judged.before.before.before.before.before.before) in
     rw spans at p.print_label.ensures
     ∙ sym (ap (λ (r : Resolved). resolved_outcome r a.out.now) resolved)
 
 returns-2 : tie.Need-returns-in-Bad
 returns-2 c =
-    let judged = c.before in
-    let a = (start judged).args in
+    let judged = c in
+    let a = (start judged.before).args in
     let why = c.in-Bad.reason in
-    let bad = sym (verdict-is judged) ∙ c.in-Bad.is in
+    let bad = sym (verdict-is judged.before) ∙ c.in-Bad.is in
     let resolved =
-    resolved-bad (table judged) (points judged) (start judged).requires.0 (place judged)
-    (start judged).requires.1 0 why bad in
+    resolved-bad (table judged.before) (points judged.before) (start judged.before).requires.0 (place judged.before)
+    (start judged.before).requires.1 0 why bad in
     sym (ap (λ (r : Resolved). resolved_outcome r a.out.now) resolved)
 
 pub label_there_spec : {M : Type 1} → statement M

@@ -10,7 +10,7 @@ use Rattle.label.proofs.Puts.{lent, given_back}
 use Rattle.refusal.specs.Outcome.{said}
 use Rattle.item_write.specs.Headed.{before, headed}
 use Rattle.item_write.proofs.Headed.{cut-within}
-use Rattle.csv_paf.specs.Ask.{label_or, row_line}
+use Rattle.csv.specs.Ask.{label_or, row_line}
 use Rattle.csv_label.specs.Shown.{resolved_at}
 use Rattle.csv_label.proofs.ShownLaws.{line-worded, ap-short, asked-small, asked-item}
 use Rattle.csv_label.proofs.shown.item_at.Statement.{statement}
@@ -45,7 +45,7 @@ module _ (l : tie.After-label_at-answer) where
   found = l.before.before
 
   asked : let a = (start found).args in
-      said l.label_at-answer.result l.label_at-answer.last.1.1.0
+      said l.label_at-answer.result l.label_at-answer.new.out
       ≡ label_or (resolved_at a.csv.now a.place) (drop (before (heading found) (length a.out.now)) a.out.now)
   asked =
       let a = (start found).args in
@@ -57,23 +57,23 @@ part-label-at-start c = let h = within c in search rules
 
 headed-item-requires : tie.Need-headed_item-requires
 headed-item-requires c κs =
-    let l = c.before.before.before in
+    let l = c in
     let s = start (found l) in (
       rw (line-is (found l)) (ap-short (line-is (found l)) (line (found l)).worded_line-line.ensures),
-      asked-small s.args.csv.now s.args.place s.args.row s.args.out.now s.pre (asked l),
+      asked-small s.args.csv.now s.args.place s.args.row s.args.out.now s.requires (asked l),
     )
 
 returns : tie.Need-returns
 returns c =
     let whole = c in
-    let l = whole.before.before.before.before.before.before in
-    let s = start (found l) in
+    let l = whole in
+    let s = start (found l.before.before.before.before.before.before) in
     let a = s.args in
-    rw (line-is (found l)) at whole.headed_item.ensures
-    ∙ (ap (headed (heading (found l)) l.label_at-answer.result)
-    (given_back a.out.now _ (found l).room_before-room.result
-    ∙ ap (λ (n : ℕ). take n a.out.now ++ l.label_at-answer.new.1.1.0) (room (found l)))
-    ∙ asked-item a.csv.now a.place a.row a.out.now s.pre (asked l))
+    rw (line-is (found l.before.before.before.before.before.before)) at whole.headed_item.ensures
+    ∙ (ap (headed (heading (found l.before.before.before.before.before.before)) l.label_at-answer.result)
+    (given_back a.out.now _ (found l.before.before.before.before.before.before).room_before-room.result
+    ∙ ap (λ (n : ℕ). take n a.out.now ++ l.label_at-answer.new.out) (room (found l.before.before.before.before.before.before)))
+    ∙ asked-item a.csv.now a.place a.row a.out.now s.requires (asked l.before.before.before.before.before.before))
 
 pub item_at_spec : {M : Type 1} → statement M
 item_at_spec =

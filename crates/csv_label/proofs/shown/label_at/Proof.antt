@@ -4,8 +4,8 @@ use mathlib.Core.Path.{◌≡◌, sym, ap, ◌∙◌}
 use lib.ListN.{drop}
 use Rattle.source.specs.Address.{Elements}
 use Rattle.label.specs.Label.{label_of, room_outcome}
-use Rattle.csv_paf.specs.File.{fields_of}
-use Rattle.csv_paf.specs.Ask.{row_elements, forbidden_in}
+use Rattle.csv.specs.File.{fields_of}
+use Rattle.csv.specs.Ask.{row_elements, forbidden_in}
 use Rattle.csv_label.proofs.ShownLaws.{label-none, label-refused, label-printed}
 use Rattle.csv_label.proofs.shown.label_at.Statement.{statement}
 use Rattle.csv_label.proofs.shown.label_at.Tie as tie
@@ -31,19 +31,19 @@ module _ (f : tie.After-forbidden_in-rule) where
 
 returns-2 : tie.Need-returns-then-rule-ne0
 returns-2 c =
-    let f = c.before in
-    let a = (start f).args in
-    sym (label-refused a.csv.now a.place a.out.now (read f).if-csv-place.false (rule f) c.if-rule-ne0.true)
+    let f = c in
+    let a = (start f.before).args in
+    sym (label-refused a.csv.now a.place a.out.now (read f.before).if-csv-place.false (rule f.before) c.if-rule-ne0.true)
 
 returns-3 : tie.Need-returns
 returns-3 c =
     let p = c in
     let e = p in
-    let f = e.before.before.before.before.before in
-    let a = (start f).args in
+    let f = e in
+    let a = (start f.before.before.before.before.before).args in
     p.print_label.ensures
-    ∙ (ap (λ (x : Elements). room_outcome (label_of x) a.out.now) (read f).row_spans-spans.ensures
-    ∙ sym (label-printed a.csv.now a.place a.out.now (read f).if-csv-place.false (sym (rule f) ∙ e.if-rule-ne0.false)))
+    ∙ (ap (λ (x : Elements). room_outcome (label_of x) a.out.now) (read f.before.before.before.before.before).row_spans-spans.ensures
+    ∙ sym (label-printed a.csv.now a.place a.out.now (read f.before.before.before.before.before).if-csv-place.false (sym (rule f.before.before.before.before.before) ∙ e.if-rule-ne0.false)))
 
 pub label_at_spec : {M : Type 1} → statement M
 label_at_spec =

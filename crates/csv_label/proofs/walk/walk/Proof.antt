@@ -13,8 +13,8 @@ use Rattle.refusal.specs.Outcome.{said}
 use Rattle.refusal.proofs.Outcomes.{answer-of}
 use Rattle.run.specs.Series.{Asking, asked_behind}
 use Rattle.run.proofs.Going.{Fitting, Going, going_start, going-fits, going_step, going-stop, going_end}
-use Rattle.csv_paf.specs.File.{rows_of}
-use Rattle.csv_paf.specs.Ask.{kth_of, resolved_of}
+use Rattle.csv.specs.File.{rows_of}
+use Rattle.csv.specs.Ask.{kth_of, resolved_of}
 use Rattle.csv_label.specs.Shown.{row_from, resolved_at, shown_of, shown_row, RowPlace}
 use Rattle.csv_label.proofs.RowLaws.{kth-next, row_here, number-within}
 use Rattle.csv_label.proofs.ShownLaws.{shown-within, shown-there}
@@ -42,7 +42,7 @@ module _ (l : tie.At-loop-done invariant-loop decreases-loop) where
   asking = shown_row start.args.listed csv
 
   here : RowPlace csv l.loop-done.place
-  here = row_here csv start.pre l.loop-done.row l.loop-done.place l.loop-done.invariant.1.0.0 l.loop-done.invariant.1.0.1
+  here = row_here csv start.requires l.loop-done.row l.loop-done.place l.loop-done.invariant.1.0.0 l.loop-done.invariant.1.0.1
 
   going : Going asking start.args.first start.args.count start.args.out.now l.loop-done.done l.loop-done.at l.loop-done.out
   going = l.loop-done.invariant.1.1.0
@@ -55,12 +55,12 @@ module _ (m : tie.After-shown_behind invariant-loop decreases-loop) where
   abbrev at-loop : tie.At-loop-done invariant-loop decreases-loop
   at-loop = m.before.before.before
 
-  shown : said m.shown_behind.result m.shown_behind.last.1.1.1.1.1.0
+  shown : said m.shown_behind.result m.shown_behind.new.out
       ≡ asked_behind at-loop.loop-done.at at-loop.loop-done.out
       (shown_of (start at-loop).args.listed at-loop.loop-done.row (resolved_at (csv at-loop) at-loop.loop-done.place))
   shown = m.shown_behind.ensures
 
-  asked : said m.shown_behind.result m.shown_behind.last.1.1.1.1.1.0
+  asked : said m.shown_behind.result m.shown_behind.new.out
       ≡ asked_behind at-loop.loop-done.at at-loop.loop-done.out
       (asking at-loop ((start at-loop).args.first + at-loop.loop-done.done))
   asked =
@@ -86,16 +86,16 @@ loop-holds c =
 
 shown-behind-requires : tie.Need-shown_behind-requires invariant-loop decreases-loop
 shown-behind-requires c κs =
-    let l = c.before.before in
+    let l = c in
     ((going l).within, here l)
 
 add_at : tie.Need-overflow_add-at invariant-loop decreases-loop
 add_at c =
-    let m = c.before.before.before in
-    let l = at-loop m in
+    let m = c in
+    let l = at-loop m.before.before.before in
     omega (
       arith,
-      going-fits (going l) (fit l) (omega arith) (asked m) c.in-Value.is,
+      going-fits (going l) (fit l) (omega arith) (asked m.before.before.before) c.in-Value.is,
       m.shown_behind.auto.1.1.1.1.1.0,
       l.loop-done.invariant.1.1.1,
       (start l).good.1.1.1.1.1.0.0,
@@ -103,9 +103,9 @@ add_at c =
 
 returns : tie.Need-returns-in-Refused invariant-loop decreases-loop
 returns c =
-    let m = c.before.before.before in
-    let l = at-loop m in
-    going-stop (going l) (fit l) (omega arith) (asked m) c.in-Refused.is
+    let m = c in
+    let l = at-loop m.before.before.before in
+    going-stop (going l) (fit l) (omega arith) (asked m.before.before.before) c.in-Refused.is
 
 row-behind-requires : tie.Need-row_behind-place-requires invariant-loop decreases-loop
 row-behind-requires c κs = (at-loop c.before.before.before).loop-done.invariant.1.0.0
@@ -113,29 +113,29 @@ row-behind-requires c κs = (at-loop c.before.before.before).loop-done.invariant
 add_row : tie.Need-overflow_add-row invariant-loop decreases-loop
 add_row c =
     let n = c in
-    let m = n.before.before.before.before in
-    let l = at-loop m in
+    let m = n in
+    let l = at-loop m.before.before.before.before in
     omega (
       arith,
-      number-within (csv l) l.loop-done.row l.loop-done.place (there m n.in-Value.is) l.loop-done.invariant.1.0.1,
+      number-within (csv l) l.loop-done.row l.loop-done.place (there m.before.before.before.before n.in-Value.is) l.loop-done.invariant.1.0.1,
       (start l).good.0.1,
     )
 
 loop-again : tie.Need-loop-done-preserved invariant-loop decreases-loop
 loop-again c =
     let n = c in
-    let m = n.before.before.before.before in
-    let l = at-loop m in
+    let m = n in
+    let l = at-loop m.before.before.before.before in
     let is = n.in-Value.is in (
       omega (arith, l.loop-done.invariant.0),
       (
         (
           c.row_behind-place.ensures.0,
-          kth-next (csv l) l.loop-done.row l.loop-done.place c.row_behind-place.result (there m is) l.loop-done.invariant.1.0.1
+          kth-next (csv l) l.loop-done.row l.loop-done.place c.row_behind-place.result (there m.before.before.before.before is) l.loop-done.invariant.1.0.1
               c.row_behind-place.ensures.1.1,
         ),
         (
-          going_step (going l) (fit l) (omega arith) (asked m) is,
+          going_step (going l) (fit l) (omega arith) (asked m.before.before.before.before) is,
           m.shown_behind.auto.1.1.1.1.1.0 ∙ l.loop-done.invariant.1.1.1,
         ),
       ),

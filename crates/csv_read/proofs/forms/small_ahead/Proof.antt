@@ -7,7 +7,7 @@ use mathlib.Core.List.{List, [], ◌∷◌}
 use native.Mathlib.Omega.{arith}
 use lib.ListN.{drop, get_or}
 use Rattle.file_compare.specs.Order.{same}
-use Rattle.csv_paf.specs.File.{fields_of}
+use Rattle.csv.specs.File.{fields_of}
 use Rattle.csv_read.proofs.Cut.{comma-within, this-field, next_field, no_field}
 use Rattle.csv_read.proofs.forms.small_ahead.Statement.{statement}
 use Rattle.csv_read.proofs.forms.small_ahead.Tie as tie
@@ -28,10 +28,10 @@ module _ (e : tie.After-field_end-first) where
 
 returns : tie.Need-returns-then-byte_of-ne44
 returns c =
-    let e = c.before.before in
+    let e = c in
     sym
     (ap is-small
-    (no_field (csv e) (start e).args.start (first e) e.field_end-first.ensures 1 (λ z. c.if-byte_of-ne44.true (c.byte_of.ensures ∙ z))))
+    (no_field (csv e.before.before) (start e.before.before).args.start (first e.before.before) e.field_end-first.ensures 1 (λ z. c.if-byte_of-ne44.true (c.byte_of.ensures ∙ z))))
 
 -- behind the first comma
 module _ (c : tie.Else-byte_of-ne44) where
@@ -86,14 +86,14 @@ returns-3 : tie.Need-returns
 returns-3 c =
     let p = c in
     let third = p in
-    let behind = third.before.before.before.before in
+    let behind = third in
     c.same_bytes.ensures
     ∙ ap is-small
     (p.part_of.ensures
     ∙ sym
-    (one_on (two behind).before
-    ∙ (two-on behind
-    ∙ this-field (bytes behind) ((two behind).field_end-second.result + 1) third.field_end-third.result third.field_end-third.ensures)))
+    (one_on (two behind.before.before.before.before.before).before
+    ∙ (two-on behind.before.before.before.before.before
+    ∙ this-field (bytes behind.before.before.before.before.before) ((two behind.before.before.before.before.before).field_end-second.result + 1) third.field_end-third.result third.field_end-third.ensures)))
 
 pub small_ahead_spec : {M : Type 1} → statement M
 small_ahead_spec =

@@ -11,7 +11,7 @@ use borrow.Author.Tests.{not-true, not-false}
 use lib.Dec.{leb}
 use lib.ListN.{length, drop, get_or}
 use Rattle.field.specs.Text.{part}
-use Rattle.csv_paf.specs.File.{fields_of, forms_for, widths}
+use Rattle.csv.specs.File.{fields_of, forms_for, widths}
 use Rattle.csv_read.specs.Cut.{field_end}
 use Rattle.csv_read.specs.Judged.{no_form, Reading, faulty_row, ended_row, Judges}
 use Rattle.csv_read.proofs.Cut.{end-within, comma-within}
@@ -68,10 +68,10 @@ module _ (m : tie.After-is_formed invariant-loop decreases-loop) where
 
 returns : tie.Need-returns-then-not-is_formed invariant-loop decreases-loop
 returns c =
-    let m = c.before.before in
-    judged-faulty (csv m) (at m) (n m) (c.faulty.ensures ∙ ap faulty_row (add-one (n m)))
-    (malformed (reading m) m.loop-n-test.true (end m) (found m).field_end-end.ensures
-    (sym (c.if-not-is_formed.true) ∙ formed m))
+    let m = c in
+    judged-faulty (csv m.before.before) (at m.before.before) (n m.before.before) (c.faulty.ensures ∙ ap faulty_row (add-one (n m.before.before)))
+    (malformed (reading m.before.before) m.loop-n-test.true (end m.before.before) (found m.before.before).field_end-end.ensures
+    (sym (c.if-not-is_formed.true) ∙ formed m.before.before))
 
 -- a field that is well formed
 module _ (w : tie.After-width_of invariant-loop decreases-loop) where
@@ -96,7 +96,7 @@ width-of-requires c κs = c.loop-n-test.true
 
 ended-row-requires : tie.Need-ended_row-requires invariant-loop decreases-loop
 ended-row-requires c κs =
-    let w = c.before.before in
+    let w = c in
     let j = judged w in (
       below w,
       omega (arith, (found j).field_end-end.ensures, end-within (csv j) (at-loop j).loop-n.start (reading j).within),
@@ -105,11 +105,11 @@ ended-row-requires c κs =
 returns-2 : tie.Need-returns-then-byte_of-ne44 invariant-loop decreases-loop
 returns-2 c =
     let b = c in
-    let w = b.before.before.before in
-    let j = judged w in
+    let w = b in
+    let j = judged w.before.before.before in
     subst (Judges (csv j) (at j))
-    (sym (c.ended_row.ensures ∙ ap (λ (t : Bool). ended_row (csv j) (n j) (end j) ((at-loop j).loop-n.fit && t)) (short w)))
-    (reading-ends (reading j) (below w) (end j) (found j).field_end-end.ensures (good w)
+    (sym (c.ended_row.ensures ∙ ap (λ (t : Bool). ended_row (csv j) (n j) (end j) ((at-loop j).loop-n.fit && t)) (short w.before.before.before)))
+    (reading-ends (reading j) (below w.before.before.before) (end j) (found j).field_end-end.ensures (good w.before.before.before)
     (λ z. c.if-byte_of-ne44.true (b.byte_of.ensures ∙ z)))
 
 -- with a comma behind it

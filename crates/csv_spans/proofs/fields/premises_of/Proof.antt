@@ -8,7 +8,7 @@ use native.Mathlib.Numerals.{add-one}
 use lib.ListN.{drop, get_or}
 use Rattle.field.specs.Digits.{value}
 use Rattle.field.proofs.Fronts.{four-digits}
-use Rattle.csv_paf.specs.File.{fields_of}
+use Rattle.csv.specs.File.{fields_of}
 use Rattle.csv_read.specs.Cut.{field_start}
 use Rattle.csv_spans.proofs.Laws.{short, cut-here, end-high, said_here, field-here, next_here}
 use Rattle.csv_spans.proofs.fields.premises_of.Statement.{statement}
@@ -30,17 +30,17 @@ module _ (v : tie.After-value_of-number) where
 
   number-field : v.part_of.result.now ≡ get_or (fields_of (drop at csv)) 6 []
   number-field =
-      v.part_of.ensures ∙ field-here start.pre.0 6 (omega arith) start.pre.1 ended.field_end-end.ensures
+      v.part_of.ensures ∙ field-here start.requires.0 6 (omega arith) start.requires.1 ended.field_end-end.ensures
 
   begun : ended.field_end-end.result + 1 ≡ field_start csv at 7
   begun =
-      next_here start.pre.0 6 (omega arith) start.pre.1
+      next_here start.requires.0 6 (omega arith) start.requires.1
       (add-one ended.field_end-end.result ∙ ap suc ended.field_end-end.ensures)
 
 add-cut-field : tie.Need-overflow_add-end
 add-cut-field c =
     let s = start c in
-    omega (arith, (ended c).field_end-end.ensures, end-high s.pre.0 6 (omega arith) s.pre.1, s.good.0.1)
+    omega (arith, (ended c).field_end-end.ensures, end-high s.requires.0 6 (omega arith) s.requires.1, s.good.0.1)
 
 cut-field-requires : tie.Need-cut_field-first-requires
 cut-field-requires c κs = cut-here (start c).requires.0 7 (omega arith) (begun c)
@@ -50,67 +50,67 @@ module _ (c : tie.After-cut_field-first) where
   start1 = start c.before
 
   on1 : c.Cut-field.result.next ≡ field_start (csv c.before) (at c.before) 8
-  on1 = next_here start1.pre.0 7 (omega arith) (begun c.before) c.Cut-field.ensures.1
+  on1 = next_here start1.requires.0 7 (omega arith) (begun c.before) c.Cut-field.ensures.1
 
 cut-field-requires-2 : tie.Need-cut_field-second-requires
-cut-field-requires-2 c κs = cut-here (start1 c.before).pre.0 8 (omega arith) (on1 c.before)
+cut-field-requires-2 c κs = cut-here (start1 c).requires.0 8 (omega arith) (on1 c)
 
 module _ (c : tie.After-cut_field-second) where
   abbrev start2 : tie.Start
   start2 = start1 c.before.before
 
   on2 : c.cut_field-second.result.next ≡ field_start start2.args.csv.now start2.args.at 9
-  on2 = next_here start2.pre.0 8 (omega arith) (on1 c.before.before) c.cut_field-second.ensures.1
+  on2 = next_here start2.requires.0 8 (omega arith) (on1 c.before.before) c.cut_field-second.ensures.1
 
 cut-field-requires-3 : tie.Need-cut_field-third-requires
-cut-field-requires-3 c κs = cut-here (start2 c.before).pre.0 9 (omega arith) (on2 c.before)
+cut-field-requires-3 c κs = cut-here (start2 c).requires.0 9 (omega arith) (on2 c)
 
 module _ (c : tie.After-cut_field-third) where
   abbrev start3 : tie.Start
   start3 = start2 c.before.before
 
   on3 : c.cut_field-third.result.next ≡ field_start start3.args.csv.now start3.args.at 10
-  on3 = next_here start3.pre.0 9 (omega arith) (on2 c.before.before) c.cut_field-third.ensures.1
+  on3 = next_here start3.requires.0 9 (omega arith) (on2 c.before.before) c.cut_field-third.ensures.1
 
 cut-field-requires-4 : tie.Need-cut_field-fourth-requires
-cut-field-requires-4 c κs = cut-here (start3 c.before).pre.0 10 (omega arith) (on3 c.before)
+cut-field-requires-4 c κs = cut-here (start3 c).requires.0 10 (omega arith) (on3 c)
 
 module _ (c : tie.After-cut_field-fourth) where
   abbrev start4 : tie.Start
   start4 = start3 c.before.before
 
   on4 : c.cut_field-fourth.result.next ≡ field_start start4.args.csv.now start4.args.at 11
-  on4 = next_here start4.pre.0 10 (omega arith) (on3 c.before.before) c.cut_field-fourth.ensures.1
+  on4 = next_here start4.requires.0 10 (omega arith) (on3 c.before.before) c.cut_field-fourth.ensures.1
 
 cut-field-requires-5 : tie.Need-cut_field-fifth-requires
-cut-field-requires-5 c κs = cut-here (start4 c.before).pre.0 11 (omega arith) (on4 c.before)
+cut-field-requires-5 c κs = cut-here (start4 c).requires.0 11 (omega arith) (on4 c)
 
 cast-t18 : tie.Need-overflow_cast-result
 cast-t18 c =
-    let v = c.before.before.before.before.before.before.before.before.before.before in
+    let v = c in
     omega (
       arith,
       v.value_of-number.ensures,
-      ap value (number-field v),
-      four-digits (get_or (fields_of (drop (at v) (csv v))) 6 []) (short (start v).requires.0 6 (omega arith)),
+      ap value (number-field v.before.before.before.before.before.before.before.before.before.before),
+      four-digits (get_or (fields_of (drop (at v.before.before.before.before.before.before.before.before.before.before) (csv v.before.before.before.before.before.before.before.before.before.before))) 6 []) (short (start v.before.before.before.before.before.before.before.before.before.before).requires.0 6 (omega arith)),
     )
 
 returns : tie.Need-returns
 returns c =
     let fifth = c in
-    let fourth = fifth.before.before.before in
-    let third = fourth.before.before in
-    let second = third.before.before in
-    let first = second.before.before in
-    let v = first.before in
-    let row = (start v).requires.0 in
+    let fourth = fifth in
+    let third = fourth in
+    let second = third in
+    let first = second in
+    let v = first in
+    let row = (start v.before.before.before.before.before.before.before.before.before.before).requires.0 in
     record {
-      number = v.value_of-number.ensures ∙ ap value (number-field v);
-      building = said_here row 7 (omega arith) (begun v) first.Cut-field.ensures.0;
-      sub_building = said_here row 8 (omega arith) (on1 first) second.cut_field-second.ensures.0;
-      box = said_here row 9 (omega arith) (on2 second) third.cut_field-third.ensures.0;
-      department = said_here row 10 (omega arith) (on3 third) fourth.cut_field-fourth.ensures.0;
-      organisation = said_here row 11 (omega arith) (on4 fourth) fifth.cut_field-fifth.ensures.0;
+      number = v.value_of-number.ensures ∙ ap value (number-field v.before.before.before.before.before.before.before.before.before.before);
+      building = said_here row 7 (omega arith) (begun v.before.before.before.before.before.before.before.before.before.before) first.Cut-field.ensures.0;
+      sub_building = said_here row 8 (omega arith) (on1 first.before.before.before.before.before.before.before.before.before) second.cut_field-second.ensures.0;
+      box = said_here row 9 (omega arith) (on2 second.before.before.before.before.before.before.before) third.cut_field-third.ensures.0;
+      department = said_here row 10 (omega arith) (on3 third.before.before.before.before.before) fourth.cut_field-fourth.ensures.0;
+      organisation = said_here row 11 (omega arith) (on4 fourth.before.before.before) fifth.cut_field-fifth.ensures.0;
     }
 
 pub premises_of_spec : {M : Type 1} → statement M

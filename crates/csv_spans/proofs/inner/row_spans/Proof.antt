@@ -7,8 +7,8 @@ use native.Mathlib.Omega.{arith}
 use native.Mathlib.Numerals.{add-one}
 use lib.ListN.{drop}
 use Rattle.label.proofs.Stand.{all-stand}
-use Rattle.csv_paf.specs.File.{fields_of}
-use Rattle.csv_paf.specs.Ask.{row_elements}
+use Rattle.csv.specs.File.{fields_of}
+use Rattle.csv.specs.Ask.{row_elements}
 use Rattle.csv_read.specs.Cut.{field_start}
 use Rattle.csv_spans.proofs.Laws.{end-high, code-sized, outward-here, inward-here}
 use Rattle.csv_spans.proofs.inner.row_spans.Statement.{statement}
@@ -36,7 +36,7 @@ places-of-requires : tie.Need-places_of-places-requires
 places-of-requires c κs = ((start c).requires, begun c)
 
 premises-of-requires : tie.Need-premises_of-premises-requires
-premises-of-requires c κs = ((start c.before).pre, c.places_of-places.ensures.next)
+premises-of-requires c κs = ((start c).requires, c.places_of-places.ensures.next)
 
 -- once the texts are read
 module _ (b : tie.After-building-1) where
@@ -47,7 +47,7 @@ module _ (b : tie.After-building-1) where
   ended = premises.before.before
 
   sized : (at ended + 6 ≤ ended.field_end-end.result) × (ended.field_end-end.result ≤ at ended + 8)
-  sized = code-sized (start ended).pre ended.field_end-end.ensures
+  sized = code-sized (start ended).requires ended.field_end-end.ensures
 
 outward-span-requires : tie.Need-outward_span-requires
 outward-span-requires c κs = sized c.before.before
@@ -61,11 +61,11 @@ returns c =
     let o = c in
     let second = o in
     let first = second in
-    let b = first.before.before.before.before in
-    let q = premises b in
-    let e = ended b in
+    let b = first in
+    let q = premises b.before.before.before.before in
+    let e = ended b.before.before.before.before in
     let p = q in
-    let row = (start e).pre in
+    let row = (start e).requires in
     let bytes = csv e in
     all-stand bytes bytes _ (row_elements (fields_of (drop (at e) bytes)))
     record {

@@ -44,10 +44,10 @@ module _ (here : tie.After-whole_record) where
       rw (need.needed_next.ensures, need.whole_record-before.ensures) at (eqb-false need.needed_next.result 0 neither-was.1)
 
   was : FineRecord point_format file (i - 1)
-  was = judged-record point_format file (i - 1) (start.pre.0.last_fine (eqb-false i 1 neither-was.0))
+  was = judged-record point_format file (i - 1) (start.requires.0.last_fine (eqb-false i 1 neither-was.0))
 
   follower : follows owner (at point_format file i) ≡ true
-  follower = owner-placed file i start.pre.0.low was.in_place needing
+  follower = owner-placed file i start.requires.0.low was.in_place needing
 
 is-fine-follower-requires : tie.Need-is_fine_follower-requires
 is-fine-follower-requires here κs =
@@ -56,15 +56,15 @@ is-fine-follower-requires here κs =
 
 returns-2 : tie.Need-returns
 returns-2 c =
-    let here = c.before in
-    let rec = at point_format (file here) (i here) in
-    let high = (start here).requires.0.high in
+    let here = c in
+    let rec = at point_format (file here.before) (i here.before) in
+    let high = (start here.before).requires.0.high in
     λ e.
-    judged-fine point_format (file here) (i here) (rw here.whole_record.ensures at (c.is_fine_follower.ensures e))
-    (risen (eqb (i here) 1) _
-    (above-owner (owner here) rec (needing here) (follower here) (record-length 168 (file here) (i here - 1) (omega (arith, high)))
-    (record-length 168 (file here) (i here) (omega (arith, high)))))
-    (follower-placed (owner here) rec (at point_format (file here) (i here + 1)) (start here).requires.1 (follower here))
+    judged-fine point_format (file here.before) (i here.before) (rw here.whole_record.ensures at (c.is_fine_follower.ensures e))
+    (risen (eqb (i here.before) 1) _
+    (above-owner (owner here.before) rec (needing here.before) (follower here.before) (record-length 168 (file here.before) (i here.before - 1) (omega (arith, high)))
+    (record-length 168 (file here.before) (i here.before) (omega (arith, high)))))
+    (follower-placed (owner here.before) rec (at point_format (file here.before) (i here.before + 1)) (start here.before).requires.1 (follower here.before))
 
 pub is_standing_follower_spec : {M : Type 1} → statement M
 is_standing_follower_spec =

@@ -68,7 +68,7 @@ is-followed-requires next κs =
 
 returns-3 : tie.Need-returns
 returns-3 c =
-    let next = c.before in
+    let next = c in
     let over = next in
     let higher = over in
     let two = higher in
@@ -79,7 +79,7 @@ returns-3 c =
     let file = start.args.file.now in
     let i = start.args.i in
     λ e.
-    judged-fine point_format file i (good next)
+    judged-fine point_format file i (good next.before)
     (in_order (eqb i 1) _
     (rw (
       higher.is_above_42-above.ensures,

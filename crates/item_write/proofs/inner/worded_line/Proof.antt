@@ -39,9 +39,9 @@ returns c =
     let end = c in
     let number = end in
     let word = number in
-    let s = word.before.before.before.before.before.before.before.before.before.before in
-    line-holds _ (short s)
-    (last (step (step (begun s) word.bytes_at-i.ensures) number.spaced_at-j.ensures) end.byte_at-len.ensures)
+    let s = word in
+    line-holds _ (short s.before.before.before.before.before.before.before.before.before.before)
+    (last (step (step (begun s.before.before.before.before.before.before.before.before.before.before) word.bytes_at-i.ensures) number.spaced_at-j.ensures) end.byte_at-len.ensures)
 
 pub worded_line_spec : {M : Type 1} → statement M
 worded_line_spec =

@@ -31,7 +31,7 @@ returns c =
     let end = c in
     let number = end in
     let word = number in
-    last (step (step (at-start word.before.before.before.before.before.before.before.before.before.before.before.before.before.before) word.bytes_at-i.ensures) number.spaced_at-j.ensures)
+    last (step (step (at-start word.before.before.before.before.before.before.before.before.before.before.before.before.before.before.before) word.bytes_at-i.ensures) number.spaced_at-j.ensures)
     end.byte_at.ensures
 
 pub point_at_spec : {M : Type 1} → statement M

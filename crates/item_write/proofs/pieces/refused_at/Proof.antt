@@ -53,7 +53,7 @@ returns c =
     let detail = fault in
     let number = detail in
     let word = number in
-    let said = step (step (at-start word.before.before.before.before.before.before.before.before.before.before.before.before.before.before.before.before.before.before.before.before.before.before) word.bytes_at-i.ensures) number.spaced_at-j.ensures in
+    let said = step (step (at-start word.before.before.before.before.before.before.before.before.before.before.before.before.before.before.before.before.before.before.before.before.before.before.before) word.bytes_at-i.ensures) number.spaced_at-j.ensures in
     last (step (step said detail.spaced_at-k.ensures) fault.fault_at-l.ensures) end.byte_at.ensures
 
 pub refused_at_spec : {M : Type 1} → statement M

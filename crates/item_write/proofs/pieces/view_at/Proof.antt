@@ -32,7 +32,7 @@ returns c =
     let end = c in
     let number = end in
     let word = number in
-    last (step (step (at-start word.before.before.before.before.before.before.before.before.before.before.before.before.before.before.before) word.bytes_at-i.ensures) number.spaced_at-j.ensures)
+    last (step (step (at-start word.before.before.before.before.before.before.before.before.before.before.before.before.before.before.before.before) word.bytes_at-i.ensures) number.spaced_at-j.ensures)
     end.bytes_at.ensures
 
 pub view_at_spec : {M : Type 1} → statement M

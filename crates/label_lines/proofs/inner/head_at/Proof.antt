@@ -31,8 +31,8 @@ returns c =
     let box = c in
     let department = box in
     let organisation = department in
-    let start = organisation.before.before.before.before.before.before.before.before.before.before.before.before.before.before.before.before.before.before in
-    last (step (step (at-start start) organisation.line_at-i.ensures) department.line_at-j.ensures) box.box_at.ensures
+    let start = organisation in
+    last (step (step (at-start start.before.before.before.before.before.before.before.before.before.before.before.before.before.before.before.before.before.before) organisation.line_at-i.ensures) department.line_at-j.ensures) box.box_at.ensures
 
 pub head_at_spec : {M : Type 1} → statement M
 head_at_spec =

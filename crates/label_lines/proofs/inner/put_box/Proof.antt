@@ -24,7 +24,7 @@ at-box c =
     begun-front (box-made _ _ start.args.s (λ z. c.if-text_len-eq0.false (c.text_len.ensures.0 ∙ z))) start.requires
 
 bytes-at-requires : tie.Need-bytes_at-i-requires
-bytes-at-requires c κs = room (at-box c.before.before)
+bytes-at-requires c κs = room (at-box c)
 
 text-at-requires : tie.Need-text_at-j-requires
 text-at-requires c κs =
@@ -42,7 +42,7 @@ returns-2 c =
     let end = c in
     let text = end in
     let box = text in
-    let two = step (step (at-box box.before.before.before.before.before.before.before.before.before.before.before.before.before) box.bytes_at-i.ensures) text.text_at-j.ensures in
+    let two = step (step (at-box box.before.before.before.before.before.before.before.before.before.before.before.before.before.before) box.bytes_at-i.ensures) text.text_at-j.ensures in
     wrote (last two end.byte_at.ensures)
 
 pub put_box_spec : {M : Type 1} → statement M

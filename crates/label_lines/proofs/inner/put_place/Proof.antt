@@ -30,12 +30,12 @@ at-lead c =
     (place-made _ _ g.f g.name g.tail (λ z. c.if-text_len-eq0.false (c.text_len.ensures.0 ∙ z))) start.requires
 
 lead-at-requires : tie.Need-lead_at-i-requires
-lead-at-requires c κs = room (at-lead c.before)
+lead-at-requires c κs = room (at-lead c)
 
 text-at-requires : tie.Need-text_at-j-requires
 text-at-requires c κs =
     let lead = c in
-    room (step (at-lead lead.before.before.before.before.before) lead.lead_at-i.ensures)
+    room (step (at-lead lead) lead.lead_at-i.ensures)
 
 tail-at-requires : tie.Need-tail_at-k-requires
 tail-at-requires c κs =

@@ -21,7 +21,7 @@ at_head c =
     start.requires
 
 head-at-requires : tie.Need-head_at-i-requires
-head-at-requires c κs = room (at_head c.before.before.before)
+head-at-requires c κs = room (at_head c)
 
 premises-at-requires : tie.Need-premises_at-j-requires
 premises-at-requires c κs =

@@ -21,7 +21,7 @@ at-space c =
     begun (record { is = tail-some start.args.t.now c.if-t-eq0.false }) start.requires
 
 byte-at-requires : tie.Need-byte_at-i-requires
-byte-at-requires c κs = room (at-space c.before)
+byte-at-requires c κs = room (at-space c)
 
 bytes-at-requires : tie.Need-bytes_at-requires
 bytes-at-requires c κs =

@@ -42,11 +42,11 @@ offsets-of-requires c κs =
 
 returns : tie.Need-returns
 returns c =
-    let k = c.before.before in
-    let p = (start k).requires in
+    let k = c in
+    let p = (start k.before.before).requires in
     c.offsets_of.ensures
-    ∙ offsets-placed (files k) p.0 (start k).args.i p.1.0 p.1.1 (rows k) (rows_are k)
-    (read k).delivery_at-p.ensures
+    ∙ offsets-placed (files k.before.before) p.0 (start k.before.before).args.i p.1.0 p.1.1 (rows k.before.before) (rows_are k.before.before)
+    (read k.before.before).delivery_at-p.ensures
 
 pub offsets_at_spec : {M : Type 1} → statement M
 offsets_at_spec = tie.close (tie.spec (search rules) (search rules) offsets-of-requires returns)

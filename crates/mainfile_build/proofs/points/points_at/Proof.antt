@@ -132,20 +132,17 @@ offsets-at-requires c κs =
     let t = c in
     let l = t in
     let f = start_of l.before.before.before in
-    (f.requires.placed, (l.loop-i.invariant.1, t.loop-i-test.true))
+    record { placed = f.requires.placed; first_le_i = (l.loop-i.invariant.1, t.loop-i-test.true) }
 
 point-at-requires : tie.Need-point_at-end-requires invariant-loop decreases-loop
 point-at-requires c κs =
-    let o = c.before in (
-      rw (d o).delivery_at-p.ensures (record { postcode = (inside o).postcode; suffix = (inside o).suffix; box = (inside o).box }),
-      room_as (l o).loop-i.out (l o).loop-i.end (same o)
+    let o = c in record { fields_within = rw (d o).delivery_at-p.ensures (record { postcode = (inside o).postcode; suffix = (inside o).suffix; box = (inside o).box }); row_in_bounds = room_as (l o).loop-i.out (l o).loop-i.end (same o)
           (point-room (packed_at (own (f o)) (others (f o)) (i o)) (rest o) (f o).requires.1.1 (set_stock (files (f o)))
-          (own (f o)) (others (f o)) (starts (f o)) (l o).loop-i.row (left o)),
-    )
+          (own (f o)) (others (f o)) (starts (f o)) (l o).loop-i.row (left o)) }
 
 organisation-len-requires : tie.Need-organisation_len-row-requires invariant-loop decreases-loop
 organisation-len-requires c κs =
-    let o = c.before.before.before.before in
+    let o = c in
     rw (d o).delivery_at-p.ensures (inside o).organisation
 
 -- how long its organisation's row is
@@ -154,36 +151,36 @@ len : (c : tie.After-organisation_len-row invariant-loop decreases-loop)
     ≡ length (organisation_row (others (f c.before.before.before.before.before))
     (point_at (files (f c.before.before.before.before.before)) (i c.before.before.before.before.before)))
 len c =
-    let o = c.before.before.before.before.before in
+    let o = c in
     c.organisation_len-row.ensures.0
-    ∙ ap (λ (p : DeliveryPoint). length (organisation_row (others (f o)) p)) (d o).delivery_at-p.ensures
+    ∙ ap (λ (p : DeliveryPoint). length (organisation_row (others (f o.before.before.before.before.before)) p)) (d o.before.before.before.before.before).delivery_at-p.ensures
 
 add_row : tie.Need-overflow_add-row invariant-loop decreases-loop
 add_row c =
-    let o = c.before.before.before.before.before in
+    let o = c in
     omega (
       arith,
-      more o,
+      more o.before.before.before.before.before,
       len c,
-      (l o).loop-i.invariant.2,
-      (f o).well_formed.1.1.1.1.1.1.1.1.1.1.1.1.1.1.1.1.1.1.1.1.1.0,
+      (l o.before.before.before.before.before).loop-i.invariant.2,
+      (f o.before.before.before.before.before).well_formed.1.1.1.1.1.1.1.1.1.1.1.1.1.1.1.1.1.1.1.1.1.0,
     )
 
 add-i : tie.Need-overflow_add-i invariant-loop decreases-loop
 add-i c =
-    let o = c.before.before.before.before.before in
-    omega (arith, (t o).loop-i-test.true, stop-few (files (f o)) (f o).requires.0)
+    let o = c in
+    omega (arith, (t o.before.before.before.before.before).loop-i-test.true, stop-few (files (f o.before.before.before.before.before)) (f o.before.before.before.before.before).requires.0)
 
 loop-again : tie.Need-loop-i-preserved invariant-loop decreases-loop
 loop-again c =
     let n = c in
     let w = n in
-    let o = w.before.before.before.before.before in (
-      w.point_at-end.auto.1.1.1.1.1.0 ∙ (l o).loop-i.invariant.0,
-      omega (arith, (l o).loop-i.invariant.1),
-      omega (arith, more o, len n, (l o).loop-i.invariant.2),
-      point-on (packed_at (own (f o)) (others (f o)) (i o)) (rest o) (f o).requires.1.1 (set_stock (files (f o))) (own (f o))
-          (others (f o)) (starts (f o)) (l o).loop-i.row (left o) (len n) (put_as (same o) w.point_at-end.ensures),
+    let o = w in (
+      w.point_at-end.auto.1.1.1.1.1.0 ∙ (l o.before.before.before.before.before).loop-i.invariant.0,
+      omega (arith, (l o.before.before.before.before.before).loop-i.invariant.1),
+      omega (arith, more o.before.before.before.before.before, len n, (l o.before.before.before.before.before).loop-i.invariant.2),
+      point-on (packed_at (own (f o.before.before.before.before.before)) (others (f o.before.before.before.before.before)) (i o.before.before.before.before.before)) (rest o.before.before.before.before.before) (f o.before.before.before.before.before).requires.1.1 (set_stock (files (f o.before.before.before.before.before))) (own (f o.before.before.before.before.before))
+          (others (f o.before.before.before.before.before)) (starts (f o.before.before.before.before.before)) (l o.before.before.before.before.before).loop-i.row (left o.before.before.before.before.before) (len n) (put_as (same o.before.before.before.before.before) w.point_at-end.ensures),
     )
 
 returns : tie.Need-returns invariant-loop decreases-loop

@@ -88,16 +88,13 @@ set-rows-at-requires : tie.Need-set_rows_at-i-requires
 set-rows-at-requires c κs =
     let k = c.before in
     let i = length (used_rows (st k) (starts k)) in
-    let j = i + length (organisation_rows (others k) (ds k)) in (
-      ended-only (files k) (start k).requires.0.marks.judged.of_set.rows,
-      omega (
+    let j = i + length (organisation_rows (others k) (ds k)) in record { ended = ended-only (files k) (start k).requires.0.marks.judged.of_set.rows; of_sub_buildings_in_bounds = omega (
         arith,
         ap length (rows_are (files k) (start k).requires.0),
         going-room (used_rows (st k) (starts k)) (organisation_rows (others k) (ds k) ++ behind k i j)
             (pack-start (st k) (own k) (others k) (starts k) (ds k) (code k) (rows k) (many k) (start k).requires.1 i j refl refl)
             (room k),
-      ),
-    )
+      ) }
 
 -- the rows are written
 module _ (r : tie.After-set_rows_at-i) where
@@ -108,7 +105,7 @@ module _ (r : tie.After-set_rows_at-i) where
   rows_end = r.set_rows_at-i.result
 
   rows-put : Put (used_rows (st r-start) (starts r-start)) (start r-start).args.out.now 0 rows_end
-      r.set_rows_at-i.last.1.1.1.1.1.1.1.1.1.1.1.0
+      r.set_rows_at-i.new.out
   rows-put = put_as (rows_are (files r-start) (start r-start).requires.placed) r.set_rows_at-i.ensures
 
 organisations-at-requires : tie.Need-organisations_at-j-requires
@@ -116,17 +113,14 @@ organisations-at-requires c κs =
     let r = c.before.before.before in
     let k = r-start r in
     let organisations = organisation_rows (others k) (ds k) in
-    let j = rows_end r + length organisations in (
-      standing (files k) (start k).requires.placed,
-      omega (
+    let j = rows_end r + length organisations in record { standing = standing (files k) (start k).requires.placed; many_in_bounds = omega (
         arith,
         ap (λ (x : List Packed). length (organisation_rows (others k) x)) (same-ds k),
         going-room organisations (behind k (rows_end r) j)
             (after-rows (st k) (own k) (others k) (starts k) (ds k) (code k) (rows k) (many k) (start k).requires.ready_for (rows-put r) j
             refl)
             (room k),
-      ),
-    )
+      ) }
 
 -- so are the organisations' rows
 module _ (o : tie.After-organisations_at-j) where
@@ -140,12 +134,12 @@ module _ (o : tie.After-organisations_at-j) where
   organisations-end = o.organisations_at-j.result
 
   organisations-put : Put (organisation_rows (others o-start) (ds o-start))
-      o-rows.set_rows_at-i.last.1.1.1.1.1.1.1.1.1.1.1.0 (rows_end o-rows) organisations-end
-      o.organisations_at-j.last.1.1.1.1.1.0
+      o-rows.set_rows_at-i.new.out (rows_end o-rows) organisations-end
+      o.organisations_at-j.new.out
   organisations-put = put_as (ap (organisation_rows (others o-start)) (sym (same-ds o-start))) o.organisations_at-j.ensures
 
   points_left : Going (pack o-start) (behind o-start (rows_end o-rows) organisations-end) (start o-start).args.out.now 0
-      organisations-end o.organisations_at-j.last.1.1.1.1.1.0
+      organisations-end o.organisations_at-j.new.out
   points_left =
       after-organisations (st o-start) (own o-start) (others o-start) (starts o-start) (ds o-start) (code o-start)
       (rows o-start) (many o-start) (start o-start).requires.ready_for (rows-put o-rows) organisations-put
@@ -154,14 +148,8 @@ points-at-requires : tie.Need-points_at-k-requires
 points-at-requires c κs =
     let o = c.before.before.before in
     let k = o-start o in
-    let i = rows_end (o-rows o) in (
-      (start k).requires.placed,
-      (
-        omega (arith, (organisations-put o).size),
-        going-room (points_in (st k) (own k) (others k) (starts k) i (ds k))
-            (behind-points k i (organisations-end o)) (points_left o) (room k),
-      ),
-    )
+    let i = rows_end (o-rows o) in record { placed = (start k).requires.placed; code_bound = omega (arith, (organisations-put o).size); start_in_bounds = going-room (points_in (st k) (own k) (others k) (starts k) i (ds k))
+            (behind-points k i (organisations-end o)) (points_left o) (room k) }
 
 -- and the points
 module _ (p : tie.After-points_at-k) where
@@ -172,7 +160,7 @@ module _ (p : tie.After-points_at-k) where
   p-start = o-start p-organisations
 
   abbrev out-with-points : List ℕ
-  out-with-points = p.points_at-k.last.1.1.1.1.1.1.1.1.1.1.1.1.1.1.1.1.1.1.1.1.1.1.0
+  out-with-points = p.points_at-k.new.out
 
   trailer-left : Going (pack p-start)
       (trailer_bytes newest (rows p-start) (organisations-end p-organisations) (many p-start) (code p-start)
@@ -202,8 +190,8 @@ trailer-at-requires c κs =
 returns : tie.Need-returns
 returns c =
     let t = c in
-    let p = t.before.before.before.before.before.before in
-    wrote (going-last (trailer-left p) t.trailer_at.ensures (room (p-start p)))
+    let p = t in
+    wrote (going-last (trailer-left p.before.before.before.before.before.before) t.trailer_at.ensures (room (p-start p.before.before.before.before.before.before)))
 
 pub write_pack_spec : {M : Type 1} → statement M
 write_pack_spec =

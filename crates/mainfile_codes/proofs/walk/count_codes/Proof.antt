@@ -30,7 +30,7 @@ module _ (n : tie.In-loop-i invariant-loop decreases-loop) where
   file = s.args.addresses.now
 
   inside : l.loop-i.i < last_of file
-  inside = omega (arith, n.loop-i-test.taken, l.all_in-all.ensures.1, last-is file s.pre)
+  inside = omega (arith, n.loop-i-test.taken, l.all_in-all.ensures.many, last-is file s.requires)
 
 -- once the end of a code's addresses is known
 module _ (e : tie.After-end_from-i invariant-loop decreases-loop) where
@@ -38,7 +38,7 @@ module _ (e : tie.After-end_from-i invariant-loop decreases-loop) where
   turn = e.before
 
   on : Onward (file turn) (l turn).loop-i.i e.end_from-i.result
-  on = onward (file turn) (s turn).pre _ (l turn).loop-i.invariant.0 (inside turn) _ e.end_from-i.ensures
+  on = onward (file turn) (s turn).requires _ (l turn).loop-i.invariant.0 (inside turn) _ e.end_from-i.ensures
 
 loop-holds : tie.Need-loop-i-init invariant-loop decreases-loop
 loop-holds c =
@@ -52,7 +52,7 @@ end-from-requires c κs = omega (arith, inside c)
 add-n : tie.Need-overflow_add-n invariant-loop decreases-loop
 add-n c =
     let n = turn c in
-    omega (arith, (l n).loop-i.invariant.2, entries-few (file n) (s n).pre)
+    omega (arith, (l n).loop-i.invariant.2, entries-few (file n) (s n).requires)
 
 loop-less : tie.Need-loop-i-smaller invariant-loop decreases-loop
 loop-less c = omega (arith, (on c).further, (on c).within)
@@ -68,7 +68,7 @@ returns c =
     let s = l in
     let file = s.args.addresses.now in
     let all_seen : last_of file ≤ l.loop-i.i =
-    omega (arith, c.loop-i-test.false, l.all_in-all.ensures.1, last-is file s.requires) in
+    omega (arith, c.loop-i-test.false, l.all_in-all.ensures.many, last-is file s.requires) in
     let none = ap length (entries-end file l.loop-i.i all_seen) in
     let is : l.loop-i.n ≡ length (codes_in file) = omega (arith, none, l.loop-i.invariant.2) in
     (is, omega (arith, entries-few file s.requires))

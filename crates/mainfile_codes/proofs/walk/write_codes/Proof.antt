@@ -39,7 +39,7 @@ module _ (n : tie.In-loop-i invariant-loop decreases-loop) where
   i = l.loop-i.i
 
   inside : i < last_of file
-  inside = omega (arith, n.loop-i-test.taken, l.all_in-all.ensures.1, last-is file s.requires.accepted)
+  inside = omega (arith, n.loop-i-test.taken, l.all_in-all.ensures.many, last-is file s.requires.accepted)
 
   room : 0 + length (entry_bytes (codes_in file)) ≤ length s.args.out.now
   room = omega (arith, s.requires.addresses_in_bounds)
@@ -88,23 +88,23 @@ sub-entry-at c = omega (arith, (on c).further)
 
 entry-at-requires : tie.Need-entry_at-at-requires invariant-loop decreases-loop
 entry-at-requires c κs =
-    let e = c.before in
+    let e = c in
     going-room (this e) (behind e) (left e) (room (turn e))
 
 loop-less : tie.Need-loop-i-smaller invariant-loop decreases-loop
 loop-less c =
-    let e = c.before.before.before.before in
-    omega (arith, (on e).further, (on e).within)
+    let e = c in
+    omega (arith, (on e.before.before.before.before).further, (on e.before.before.before.before).within)
 
 loop-again : tie.Need-loop-i-preserved invariant-loop decreases-loop
 loop-again c =
     let v = c in
-    let e = v.before.before.before.before in
-    let is = ap (λ (code : ℕ). one_entry code (end e - i (turn e))) e.code_at-code.ensures in (
-      v.entry_at-at.auto.1.1.1.0 ∙ (l (turn e)).loop-i.invariant.0,
-      omega (arith, (on e).further),
-      (on e).within,
-      going_step (behind e) (left e) (put_as is v.entry_at-at.ensures) (room (turn e)),
+    let e = v in
+    let is = ap (λ (code : ℕ). one_entry code (end e.before.before.before.before - i (turn e.before.before.before.before))) e.code_at-code.ensures in (
+      v.entry_at-at.auto.1.1.1.0 ∙ (l (turn e.before.before.before.before)).loop-i.invariant.0,
+      omega (arith, (on e.before.before.before.before).further),
+      (on e.before.before.before.before).within,
+      going_step (behind e.before.before.before.before) (left e.before.before.before.before) (put_as is v.entry_at-at.ensures) (room (turn e.before.before.before.before)),
     )
 
 returns : tie.Need-returns invariant-loop decreases-loop
@@ -113,7 +113,7 @@ returns c =
     let s = l in
     let file = s.args.addresses.now in
     let all_seen : last_of file ≤ l.loop-i.i =
-    omega (arith, c.loop-i-test.false, l.all_in-all.ensures.1, last-is file s.requires.0) in
+    omega (arith, c.loop-i-test.false, l.all_in-all.ensures.many, last-is file s.requires.0) in
     wrote (going_end (going-as (ap entry_bytes (entries-end file l.loop-i.i all_seen)) l.loop-i.invariant.3))
 
 pub write_codes_spec : {M : Type 1} → statement M

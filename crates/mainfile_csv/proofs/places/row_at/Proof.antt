@@ -58,13 +58,13 @@ module _ (judged : tie.After-refusal_in) where
   address = address_at files place
 
   high : place < length start.args.addresses.now / 88
-  high = omega (arith, start.pre.high)
+  high = omega (arith, start.requires.high)
 
   inside : Inside files.addresses files.organisations read.delivery_at-p.result
   inside =
       subst (λ (p : DeliveryPoint). Inside files.addresses files.organisations p) (sym read.delivery_at-p.ensures)
       (inside-at files.addresses files.organisations place high
-      (omega (arith, two_records _ _ start.pre.accepted.organisations)))
+      (omega (arith, two_records _ _ start.requires.accepted.organisations)))
 
   rows_are : looked.kind_rows-found.result.rows ≡ rows_at files place
   rows_are =
@@ -85,29 +85,29 @@ returns-2 c =
     let written = c in
     let ending = written in
     let told = ending in
-    let judged = told.before.before.before.before.before.before in
-    let s = files judged in
-    let out = (start judged).args.out.now in
-    let fine = sym (verdict-is judged) ∙ told.in-Fine.is in
-    let resolved = resolved-fine s (start judged).requires.accepted (place judged) (high judged) 0 fine in
+    let judged = told in
+    let s = files judged.before.before.before.before.before.before in
+    let out = (start judged.before.before.before.before.before.before).args.out.now in
+    let fine = sym (verdict-is judged.before.before.before.before.before.before) ∙ told.in-Fine.is in
+    let resolved = resolved-fine s (start judged.before.before.before.before.before.before).requires.accepted (place judged.before.before.before.before.before.before) (high judged.before.before.before.before.before.before) 0 fine in
     written.write_from.ensures
     ∙ (ap (λ (e : Elements). written_by ending.Ending-of.result e out)
-    (ap₂ (elements_at s) (read judged).delivery_at-p.ensures (rows_are judged))
-    ∙ placed-written (look judged) (address judged) (place judged) out s.addresses s.organisations
-    (there judged).if-place-eq0.false
-    (says_at s.addresses s.organisations (place judged) (high judged)
-    (start judged).requires.accepted.organisations 0)
-    (rw (read judged).delivery_at-p.ensures at ending.Ending-of.ensures) resolved)
+    (ap₂ (elements_at s) (read judged.before.before.before.before.before.before).delivery_at-p.ensures (rows_are judged.before.before.before.before.before.before))
+    ∙ placed-written (look judged.before.before.before.before.before.before) (address judged.before.before.before.before.before.before) (place judged.before.before.before.before.before.before) out s.addresses s.organisations
+    (there judged.before.before.before.before.before.before).if-place-eq0.false
+    (says_at s.addresses s.organisations (place judged.before.before.before.before.before.before) (high judged.before.before.before.before.before.before)
+    (start judged.before.before.before.before.before.before).requires.accepted.organisations 0)
+    (rw (read judged.before.before.before.before.before.before).delivery_at-p.ensures at ending.Ending-of.ensures) resolved)
 
 returns-3 : tie.Need-returns-in-Bad
 returns-3 c =
-    let judged = c.before in
-    let bad = sym (verdict-is judged) ∙ c.in-Bad.is in
+    let judged = c in
+    let bad = sym (verdict-is judged.before) ∙ c.in-Bad.is in
     let resolved =
-    resolved-bad (files judged) (start judged).requires.accepted (place judged) (high judged) 0
+    resolved-bad (files judged.before) (start judged.before).requires.accepted (place judged.before) (high judged.before) 0
     c.in-Bad.reason bad in
     sym
-    (some-place (look judged) (address judged) (place judged) (start judged).args.out.now (there judged).if-place-eq0.false _
+    (some-place (look judged.before) (address judged.before) (place judged.before) (start judged.before).args.out.now (there judged.before).if-place-eq0.false _
     resolved)
 
 pub row_at_spec : {M : Type 1} → statement M

@@ -46,7 +46,7 @@ module _ (s : tie.Start invariant-loop decreases-loop) where
   asking = rows_among files first many
 
   few : first + many ≤ 1_000_000
-  few = between-few files first many s.pre
+  few = between-few files first many s.requires
 
   fit : Fitting asking
   fit k out b e =
@@ -61,14 +61,14 @@ module _ (l : tie.At-loop-done invariant-loop decreases-loop) where
   number = start.args.first + l.loop-done.done
 
   address : AddressPlace (files start) (place_among (first start) (many start) number)
-  address = among-place (files start) (first start) (many start) start.pre number
+  address = among-place (files start) (first start) (many start) start.requires number
 
 -- what was asked, by its number
 module _ (m : tie.After-row_behind invariant-loop decreases-loop) where
   abbrev at-loop : tie.At-loop-done invariant-loop decreases-loop
   at-loop = m.before.before.before
 
-  asked : said m.row_behind.result m.row_behind.last.1.1.1.1.1.1.1.1.1.0
+  asked : said m.row_behind.result m.row_behind.new.out
       ≡ asked_behind at-loop.loop-done.at at-loop.loop-done.out (asking (start at-loop) (number at-loop))
   asked = rw at-loop.loop-done.invariant.0 at m.row_behind.ensures
 
@@ -77,24 +77,24 @@ place-among-requires c κs = few c.before.before.before.before.before.before.bef
 
 loop-holds : tie.Need-loop-done-init invariant-loop decreases-loop
 loop-holds c =
-    let s = c.before.before.before.before.before.before.before.before.before in
+    let s = c in
     let a = s.args in (
-      c.place_among-place.ensures ∙ ap (place_among (first s) (many s)) (sym (add-zero a.first)),
-      (going_start (asking s) a.first a.count a.out.now, refl),
+      c.place_among-place.ensures ∙ ap (place_among (first s.before.before.before.before.before.before.before.before.before) (many s.before.before.before.before.before.before.before.before.before)) (sym (add-zero a.first)),
+      (going_start (asking s.before.before.before.before.before.before.before.before.before) a.first a.count a.out.now, refl),
     )
 
 row-behind-requires : tie.Need-row_behind-requires invariant-loop decreases-loop
 row-behind-requires c κs =
-    let l = c.before.before in
+    let l = c in
     (l.loop-done.invariant.1.0.within, rw l.loop-done.invariant.0 (address l))
 
 add_at : tie.Need-overflow_add-at invariant-loop decreases-loop
 add_at c =
-    let m = c.before.before.before in
-    let l = at-loop m in
+    let m = c in
+    let l = at-loop m.before.before.before in
     omega (
       arith,
-      going-fits l.loop-done.invariant.1.0 (fit (start l)) (omega arith) (asked m) c.in-Value.is,
+      going-fits l.loop-done.invariant.1.0 (fit (start l)) (omega arith) (asked m.before.before.before) c.in-Value.is,
       m.row_behind.auto.1.1.1.1.1.1.1.1.1.0,
       l.loop-done.invariant.1.1,
       (start l).good.1.1.1.1.1.1.1.1.1.1.0.0,
@@ -102,9 +102,9 @@ add_at c =
 
 returns : tie.Need-returns-in-Refused invariant-loop decreases-loop
 returns c =
-    let m = c.before.before.before in
-    let l = at-loop m in
-    going-stop l.loop-done.invariant.1.0 (fit (start l)) (omega arith) (asked m) c.in-Refused.is
+    let m = c in
+    let l = at-loop m.before.before.before in
+    going-stop l.loop-done.invariant.1.0 (fit (start l)) (omega arith) (asked m.before.before.before) c.in-Refused.is
 
 place-behind-requires : tie.Need-place_behind-place-requires invariant-loop decreases-loop
 place-behind-requires c κs =
@@ -115,18 +115,18 @@ place-behind-requires c κs =
 loop-again : tie.Need-loop-done-preserved invariant-loop decreases-loop
 loop-again c =
     let n = c in
-    let m = n.before.before.before.before in
-    let l = at-loop m in
+    let m = n in
+    let l = at-loop m.before.before.before.before in
     let s = start l in
     let is = n.in-Value.is in
     let here = place_among (first s) (many s) (number l) in
     let there =
-    placed-there (set_lookup (files s)) (address_at (files s) here) here _ _ (sym (answer-of (asked m)) ∙ is) in
+    placed-there (set_lookup (files s)) (address_at (files s) here) here _ _ (sym (answer-of (asked m.before.before.before.before)) ∙ is) in
     let next : s.args.first + (l.loop-done.done + 1) ≡ number l + 1 = omega arith in (
       rw l.loop-done.invariant.0 at c.place_behind-place.ensures
           ∙ (sym (next_place (first s) (many s) (number l) there) ∙ ap (place_among (first s) (many s)) (sym next)),
       (
-        going_step l.loop-done.invariant.1.0 (fit s) (omega arith) (asked m) is,
+        going_step l.loop-done.invariant.1.0 (fit s) (omega arith) (asked m.before.before.before.before) is,
         m.row_behind.auto.1.1.1.1.1.1.1.1.1.0 ∙ l.loop-done.invariant.1.1,
       ),
     )

@@ -51,7 +51,7 @@ module _ (judged : tie.After-refusal_in) where
       a.sub_buildings.now a.organisations.now a.addresses.now
 
   high : place < length start.args.addresses.now / 88
-  high = omega (arith, start.pre.high)
+  high = omega (arith, start.requires.high)
 
   rows_are : looked.kind_rows-found.result.rows ≡ rows_at files place
   rows_are =
@@ -63,33 +63,33 @@ module _ (judged : tie.After-refusal_in) where
 
 print-from-requires : tie.Need-print_from-requires
 print-from-requires c κs =
-    let judged = c.before.before.before in
+    let judged = c in
     let s = start judged in
     rw (read judged).delivery_at-p.ensures
     (inside-at s.args.addresses.now s.args.organisations.now (place judged) (high judged)
-    (omega (arith, two_records _ _ s.pre.accepted.organisations)))
+    (omega (arith, two_records _ _ s.requires.accepted.organisations)))
 
 returns-2 : tie.Need-returns-in-Fine
 returns-2 c =
     let told = c in
-    let judged = told.before.before.before.before.before in
-    let s = files judged in
-    let out = (start judged).args.out.now in
-    let fine = sym (verdict-is judged) ∙ told.in-Fine.is in
-    let resolved = resolved-fine s (start judged).requires.accepted (place judged) (high judged) 0 fine in
+    let judged = told in
+    let s = files judged.before.before.before.before.before in
+    let out = (start judged.before.before.before.before.before).args.out.now in
+    let fine = sym (verdict-is judged.before.before.before.before.before) ∙ told.in-Fine.is in
+    let resolved = resolved-fine s (start judged.before.before.before.before.before).requires.accepted (place judged.before.before.before.before.before) (high judged.before.before.before.before.before) 0 fine in
     c.print_from.ensures
     ∙ (ap (λ (e : Elements). room_outcome (label_of e) out)
-    (ap₂ (elements_at s) (read judged).delivery_at-p.ensures (rows_are judged))
-    ∙ sym (some-place s (place judged) out (there judged).if-place-eq0.false _ resolved))
+    (ap₂ (elements_at s) (read judged.before.before.before.before.before).delivery_at-p.ensures (rows_are judged.before.before.before.before.before))
+    ∙ sym (some-place s (place judged.before.before.before.before.before) out (there judged.before.before.before.before.before).if-place-eq0.false _ resolved))
 
 returns-3 : tie.Need-returns-in-Bad
 returns-3 c =
-    let judged = c.before in
-    let s = files judged in
-    let bad = sym (verdict-is judged) ∙ c.in-Bad.is in
+    let judged = c in
+    let s = files judged.before in
+    let bad = sym (verdict-is judged.before) ∙ c.in-Bad.is in
     let resolved =
-    resolved-bad s (start judged).requires.accepted (place judged) (high judged) 0 c.in-Bad.reason bad in
-    sym (some-place s (place judged) (start judged).args.out.now (there judged).if-place-eq0.false _ resolved)
+    resolved-bad s (start judged.before).requires.accepted (place judged.before) (high judged.before) 0 c.in-Bad.reason bad in
+    sym (some-place s (place judged.before) (start judged.before).args.out.now (there judged.before).if-place-eq0.false _ resolved)
 
 pub label_at_spec : {M : Type 1} → statement M
 label_at_spec =

@@ -18,8 +18,8 @@ returns c =
     let a = first.args in
     λ s there room.
     rows-marked s a.t1 there a.localities.now a.thoroughfares.now a.descriptors.now a.buildings.now
-    a.sub_buildings.now first.mark_row.new.0 second.mark_row-2.new.0 third.mark_row-3.new.0
-    fourth.mark_row-4.new.0 fifth.mark_row-5.new.0 sixth.mark_row-6.new.0 seventh.mark_row-7.new.0
+    a.sub_buildings.now first.mark_row.new.bits second.mark_row-2.new.bits third.mark_row-3.new.bits
+    fourth.mark_row-4.new.bits fifth.mark_row-5.new.bits sixth.mark_row-6.new.bits seventh.mark_row-7.new.bits
     (first.mark_row.ensures (kind_stock s 1).last room.of_localities)
     (second.mark_row-2.ensures (kind_stock s 2).last room.of_thoroughfares)
     (third.mark_row-3.ensures (kind_stock s 3).last room.of_descriptors)

@@ -48,21 +48,21 @@ module _ (looked : tie.After-kind_rows-found) where
 returns : tie.Need-returns
 returns c =
     let m = c in
-    let k = m.before.before.before.before.before.before.before.before.before.before.before.before.before.before.before.before in
-    let s = files k in
-    let a = (start k).args in
-    let ok = (start k).requires.0.accepted in
-    let refers = found_rows s ok (i k) (high k) (rows k) (rows_are k) in
+    let k = m in
+    let s = files k.before.before.before.before.before.before.before.before.before.before.before.before.before.before.before.before in
+    let a = (start k.before.before.before.before.before.before.before.before.before.before.before.before.before.before.before.before).args in
+    let ok = (start k.before.before.before.before.before.before.before.before.before.before.before.before.before.before.before.before).requires.0.accepted in
+    let refers = found_rows s ok (i k.before.before.before.before.before.before.before.before.before.before.before.before.before.before.before.before) (high k.before.before.before.before.before.before.before.before.before.before.before.before.before.before.before.before) (rows k.before.before.before.before.before.before.before.before.before.before.before.before.before.before.before.before) (rows_are k.before.before.before.before.before.before.before.before.before.before.before.before.before.before.before.before) in
     record {
       said =
-          m.mark_point.ensures.0
-          ∙ (ap (λ (p : DeliveryPoint). refusal_in p (rows k)) (read k).delivery_at-p.ensures
-          ∙ (sym (refused-alike s (point_at s (i k)) (rows k) (found-seven s ok (i k) (high k) (rows k) (rows_are k)))
-          ∙ ap (refusal_in (point_at s (i k))) refers));
+          m.mark_point.ensures.said
+          ∙ (ap (λ (p : DeliveryPoint). refusal_in p (rows k.before.before.before.before.before.before.before.before.before.before.before.before.before.before.before.before)) (read k.before.before.before.before.before.before.before.before.before.before.before.before.before.before.before.before).delivery_at-p.ensures
+          ∙ (sym (refused-alike s (point_at s (i k.before.before.before.before.before.before.before.before.before.before.before.before.before.before.before.before)) (rows k.before.before.before.before.before.before.before.before.before.before.before.before.before.before.before.before) (found-seven s ok (i k.before.before.before.before.before.before.before.before.before.before.before.before.before.before.before.before) (high k.before.before.before.before.before.before.before.before.before.before.before.before.before.before.before.before) (rows k.before.before.before.before.before.before.before.before.before.before.before.before.before.before.before.before) (rows_are k.before.before.before.before.before.before.before.before.before.before.before.before.before.before.before.before)))
+          ∙ ap (refusal_in (point_at s (i k.before.before.before.before.before.before.before.before.before.before.before.before.before.before.before.before))) refers));
       marks_rows =
           λ e.
-          m.mark_point.ensures.1 e s (found-in-files s ok (i k) (high k) (rows k) (rows_are k))
-          (start k).requires.0.bits
+          m.mark_point.ensures.marked e s (found-in-files s ok (i k.before.before.before.before.before.before.before.before.before.before.before.before.before.before.before.before) (high k.before.before.before.before.before.before.before.before.before.before.before.before.before.before.before.before) (rows k.before.before.before.before.before.before.before.before.before.before.before.before.before.before.before.before) (rows_are k.before.before.before.before.before.before.before.before.before.before.before.before.before.before.before.before))
+          (start k.before.before.before.before.before.before.before.before.before.before.before.before.before.before.before.before).requires.0.bits
           ∙ ap (λ (found : List ℕ). mark_rows found (set_marks s a.of_localities.now a.of_thoroughfares.now
           a.of_descriptors.now a.of_buildings.now a.of_sub_buildings.now)) refers;
     }

@@ -58,7 +58,7 @@ add-end c =
 
 loop-holds : tie.Need-loop-i-init invariant-loop decreases-loop
 loop-holds c =
-    let s = c.before.before.before.before.before.before.before.before.before.before.before.before in
+    let s = c in
     let a = s.args in (
       refl,
       refl,
@@ -66,7 +66,7 @@ loop-holds c =
       refl,
       refl,
       marking-as (packed_start a.addresses.now a.organisations.now a.first a.many)
-          (marking-start (set_stock (files s)) (packed_from (files s) a.first a.many) (entry s)),
+          (marking-start (set_stock (files s.before.before.before.before.before.before.before.before.before.before.before.before)) (packed_from (files s.before.before.before.before.before.before.before.before.before.before.before.before) a.first a.many) (entry s.before.before.before.before.before.before.before.before.before.before.before.before)),
     )
 
 module _ (l : tie.At-loop-i invariant-loop decreases-loop) where
@@ -81,16 +81,13 @@ module _ (l : tie.At-loop-i invariant-loop decreases-loop) where
 mark-address-requires : tie.Need-mark_address-requires invariant-loop decreases-loop
 mark-address-requires c κs =
     let t = c in
-    let l = t.before.before.before.before.before.before in
-    let s = start_of l in (
-      record {
+    let l = t in
+    let s = start_of l in record { markable = record {
         accepted = s.requires.markable.accepted;
         bits =
             bits-kept (files s) s.requires.markable.bits l.loop-i.invariant.0 l.loop-i.invariant.1 l.loop-i.invariant.2
             l.loop-i.invariant.3 l.loop-i.invariant.4;
-      },
-      omega (arith, s.requires.many_bound, t.loop-i-test.true),
-    )
+      }; i_bound = omega (arith, s.requires.many_bound, t.loop-i-test.true) }
 
 -- within the loop, the record at `i` is the next
 module _ (t : tie.In-loop-i invariant-loop decreases-loop) where
@@ -113,18 +110,18 @@ returns : tie.Need-returns-in-Bad invariant-loop decreases-loop
 returns c =
     let w = c in
     let m = w in
-    let t = m.before.before.before.before.before.before.before.before.before.before.before.before.before.before.before.before.before.before in
+    let t = m in
     let bad = sym m.mark_address.ensures.said ∙ w.in-Bad.is in
     record {
-      said = rw c.with_view.ensures (sym (marking-stop (left t) w.in-Bad.why bad));
+      said = rw c.with_view.ensures (sym (marking-stop (left t.before.before.before.before.before.before.before.before.before.before.before.before.before.before.before.before.before.before) w.in-Bad.why bad));
       marks_all = λ e. absurd (bad-fine _ e);
     }
 
 add-i : tie.Need-overflow_add-i invariant-loop decreases-loop
 add-i c =
     let m = c in
-    let t = m.before.before.before.before.before.before.before.before.before.before.before.before.before.before.before.before.before in
-    omega (arith, (s t).requires.1, t.loop-i-test.true, (s t).well_formed.1.1.1.1.1.1.0.1)
+    let t = m in
+    omega (arith, (s t.before.before.before.before.before.before.before.before.before.before.before.before.before.before.before.before.before).requires.1, t.loop-i-test.true, (s t.before.before.before.before.before.before.before.before.before.before.before.before.before.before.before.before.before).well_formed.1.1.1.1.1.1.0.1)
 
 loop-less : tie.Need-loop-i-smaller invariant-loop decreases-loop
 loop-less c =
@@ -135,8 +132,8 @@ loop-less c =
 loop-again : tie.Need-loop-i-preserved invariant-loop decreases-loop
 loop-again c =
     let m = c in
-    let t = m.before.before.before.before.before.before.before.before.before.before.before.before.before.before.before.before.before in
-    let v = (l t).loop-i.invariant in
+    let t = m in
+    let v = (l t.before.before.before.before.before.before.before.before.before.before.before.before.before.before.before.before.before).loop-i.invariant in
     let k = m.mark_address.auto.1.1.1.1.1.1.1.1 in
     let told = c.in-Fine.is in (
       k.0 ∙ v.0,
@@ -144,12 +141,12 @@ loop-again c =
       k.1.1.0 ∙ v.2,
       k.1.1.1.0 ∙ v.3,
       k.1.1.1.1.0 ∙ v.4,
-      marking-on (left t) (sym m.mark_address.ensures.said ∙ told) (m.mark_address.ensures.marks_rows told),
+      marking-on (left t.before.before.before.before.before.before.before.before.before.before.before.before.before.before.before.before.before) (sym m.mark_address.ensures.said ∙ told) (m.mark_address.ensures.marks_rows told),
     )
 
 returns-2 : tie.Need-returns invariant-loop decreases-loop
 returns-2 c =
-    let l = c.before in
+    let l = c in
     let a = (start_of l).args in
     let stop = end (start_of l) in
     let none = packed-end a.addresses.now a.organisations.now l.loop-i.i stop c.loop-i-test.false in

@@ -10,7 +10,7 @@ place-rows-requires : tie.Need-place_rows-requires
 place-rows-requires c κs =
     let s = c.before.before.before.before.before in
     let a = s.args in
-    (fits-of a.kind c.row_shelf.ensures a.file.now (64 * length a.blocks.now) s.requires.0, s.requires.1)
+    record { fit = fits-of a.kind c.row_shelf.ensures a.file.now (64 * length a.blocks.now) s.requires.0; start_bound = s.requires.1 }
 
 returns : tie.Need-returns
 returns c =
@@ -18,7 +18,7 @@ returns c =
     let s = l in
     let a = s.args in
     placed_of a.kind l.row_shelf.ensures a.file.now a.bits.now a.start
-    l.place_rows.result l.place_rows.new.1.1.1.0 l.place_rows.ensures s.requires.0.1
+    l.place_rows.result l.place_rows.new.blocks l.place_rows.ensures s.requires.0.1
 
 pub place_kind_spec : {M : Type 1} → statement M
 place_kind_spec = tie.close (tie.spec (search rules) place-rows-requires (search rules) returns)

@@ -49,7 +49,7 @@ module _ (c : tie.After-rows_at-i) where
   b₁ = c.before.before.before.before.before.before.before.before.before.before.before.before.before.before
 
   after₁ : Going (whole b₁) (u₂ b₁ ++ (u₃ b₁ ++ (u₄ b₁ ++ u₅ b₁))) b₁.args.out.now b₁.args.at c.rows_at-i.result
-      c.rows_at-i.new.1.1.1.1.0
+      c.rows_at-i.new.out
   after₁ =
       going_step (u₂ b₁ ++ (u₃ b₁ ++ (u₄ b₁ ++ u₅ b₁))) (begun b₁)
       (put_of 1 c.row_shelf.ensures b₁.args.localities.now b₁.args.of_localities.now
@@ -63,7 +63,7 @@ module _ (c : tie.After-rows_at-j) where
   b₂ = b₁ c₁
 
   after₂ : Going (whole b₂) (u₃ b₂ ++ (u₄ b₂ ++ u₅ b₂)) b₂.args.out.now b₂.args.at c.rows_at-j.result
-      c.rows_at-j.new.1.1.1.1.0
+      c.rows_at-j.new.out
   after₂ =
       going_step (u₃ b₂ ++ (u₄ b₂ ++ u₅ b₂)) (after₁ c₁)
       (put_of 2 c.row_shelf-2.ensures b₂.args.thoroughfares.now b₂.args.of_thoroughfares.now
@@ -77,7 +77,7 @@ module _ (c : tie.After-rows_at-k) where
   b₃ = b₂ c₂
 
   after₃ : Going (whole b₃) (u₄ b₃ ++ u₅ b₃) b₃.args.out.now b₃.args.at c.rows_at-k.result
-      c.rows_at-k.new.1.1.1.1.0
+      c.rows_at-k.new.out
   after₃ =
       going_step (u₄ b₃ ++ u₅ b₃) (after₂ c₂)
       (put_of 3 c.row_shelf-3.ensures b₃.args.descriptors.now b₃.args.of_descriptors.now
@@ -91,42 +91,42 @@ module _ (c : tie.After-rows_at-l) where
   b₄ = b₃ c₃
 
   after₄ : Going (whole b₄) (u₅ b₄) b₄.args.out.now b₄.args.at c.rows_at-l.result
-      c.rows_at-l.new.1.1.1.1.0
+      c.rows_at-l.new.out
   after₄ =
       going_step (u₅ b₄) (after₃ c₃)
       (put_of 4 c.row_shelf-4.ensures b₄.args.buildings.now b₄.args.of_buildings.now
       c.rows_at-l.ensures) b₄.requires.of_sub_buildings_in_bounds
 
 rows-at-requires : tie.Need-rows_at-i-requires
-rows-at-requires c κs =
-    let b = c.before.before.before.before.before.before.before.before.before.before.before.before.before in
+rows-at-requires c.before.before.before.before.before.before.before.before.before.before.before.before.before.before.before.before κs =
+    let b = c in
     room_of 1 c.row_shelf.ensures b.args.localities.now b.args.of_localities.now
-    b.args.at _ (going-room (u₁ b) (u₂ b ++ (u₃ b ++ (u₄ b ++ u₅ b))) (begun b) b.requires.1)
+    b.args.at _ (going-room (u₁ b.before.before.before.before.before.before.before.before.before.before.before.before.before.before.before.before.before.before.before.before.before.before.before.before.before.before.before.before.before) (u₂ b.before.before.before.before.before.before.before.before.before.before.before.before.before.before.before.before.before.before.before.before.before.before.before.before.before.before.before.before.before ++ (u₃ b.before.before.before.before.before.before.before.before.before.before.before.before.before.before.before.before.before.before.before.before.before.before.before.before.before.before.before.before.before ++ (u₄ b.before.before.before.before.before.before.before.before.before.before.before.before.before.before.before.before.before.before.before.before.before.before.before.before.before.before.before.before.before ++ u₅ b.before.before.before.before.before.before.before.before.before.before.before.before.before.before.before.before.before.before.before.before.before.before.before.before.before.before.before.before.before))) (begun b.before.before.before.before.before.before.before.before.before.before.before.before.before.before.before.before.before.before.before.before.before.before.before.before.before.before.before.before.before) b.requires.1)
 
 rows-at-requires-2 : tie.Need-rows_at-j-requires
-rows-at-requires-2 c κs =
-    let w = c.before.before.before.before in
-    let b = b₁ w in
+rows-at-requires-2 c.before.before.before.before.before.before.before.before.before.before.before κs =
+    let w = c in
+    let b = b₁ w.before.before.before.before.before.before.before.before.before.before.before.before.before.before.before in
     room_of 2 c.row_shelf-2.ensures b.args.thoroughfares.now b.args.of_thoroughfares.now
-    w.rows_at-i.result _ (going-room (u₂ b) (u₃ b ++ (u₄ b ++ u₅ b)) (after₁ w) b.requires.of_sub_buildings_in_bounds)
+    w.rows_at-i.result _ (going-room (u₂ b) (u₃ b ++ (u₄ b ++ u₅ b)) (after₁ w.before.before.before.before.before.before.before.before.before.before.before.before.before.before.before) b.requires.of_sub_buildings_in_bounds)
 
 rows-at-requires-3 : tie.Need-rows_at-k-requires
-rows-at-requires-3 c κs =
-    let w = c.before.before.before.before in
-    let b = b₂ w in
+rows-at-requires-3 c.before.before.before.before.before.before κs =
+    let w = c in
+    let b = b₂ w.before.before.before.before.before.before.before.before.before.before in
     room_of 3 c.row_shelf-3.ensures b.args.descriptors.now b.args.of_descriptors.now
-    w.rows_at-j.result _ (going-room (u₃ b) (u₄ b ++ u₅ b) (after₂ w) b.requires.of_sub_buildings_in_bounds)
+    w.rows_at-j.result _ (going-room (u₃ b) (u₄ b ++ u₅ b) (after₂ w.before.before.before.before.before.before.before.before.before.before) b.requires.of_sub_buildings_in_bounds)
 
 rows-at-requires-4 : tie.Need-rows_at-l-requires
-rows-at-requires-4 c κs =
-    let w = c.before.before.before.before in
-    let b = b₃ w in
+rows-at-requires-4 c.before κs =
+    let w = c in
+    let b = b₃ w.before.before.before.before.before in
     room_of 4 c.row_shelf-4.ensures b.args.buildings.now b.args.of_buildings.now
-    w.rows_at-k.result _ (going-room (u₄ b) (u₅ b) (after₃ w) b.requires.of_sub_buildings_in_bounds)
+    w.rows_at-k.result _ (going-room (u₄ b) (u₅ b) (after₃ w.before.before.before.before.before) b.requires.of_sub_buildings_in_bounds)
 
 rows-at-requires-5 : tie.Need-rows_at-requires
 rows-at-requires-5 c κs =
-    let w = c.before.before.before.before in
+    let w = c in
     let b = b₄ w in
     room_of 5 c.row_shelf-5.ensures b.args.sub_buildings.now b.args.of_sub_buildings.now
     w.rows_at-l.result _ (going-left (after₄ w) b.requires.of_sub_buildings_in_bounds)
@@ -134,21 +134,21 @@ rows-at-requires-5 c κs =
 same_length : tie.Need-shape_of-out
 same_length c =
     let fifth = c in
-    let fourth = fifth.before.before.before.before.before.before.before in
-    let third = c₃ fourth in
+    let fourth = fifth in
+    let third = c₃ fourth.before.before.before.before.before.before.before in
     let second = c₂ third in
     let first = c₁ second in
     fifth.rows_at.auto.1.1.1.1.0
     ∙ (fourth.rows_at-l.auto.1.1.1.1.0
-    ∙ (third.rows_at-k.kept.1.1.1.1.0
-    ∙ (second.rows_at-j.kept.1.1.1.1.0 ∙ first.rows_at-i.kept.1.1.1.1.0)))
+    ∙ (third.rows_at-k.kept.out
+    ∙ (second.rows_at-j.kept.out ∙ first.rows_at-i.kept.out)))
 
 returns : tie.Need-returns
 returns c =
     let l = c in
-    let w = l.before.before.before.before.before.before.before in
-    let b = b₄ w in
-    going-last (after₄ w)
+    let w = l in
+    let b = b₄ w.before.before.before.before.before.before.before in
+    going-last (after₄ w.before.before.before.before.before.before.before)
     (put_of 5 l.row_shelf-5.ensures b.args.sub_buildings.now b.args.of_sub_buildings.now
     l.rows_at.ensures) b.requires.of_sub_buildings_in_bounds
 

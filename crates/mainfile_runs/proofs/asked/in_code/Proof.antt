@@ -28,19 +28,19 @@ returns : tie.Need-returns-then-outward_fault-ne0
 returns c =
     let f = c in
     let t = f in
-    let k = t.before.before.before in
-    let a = (start k).args in
-    code_refused (main_of (files k)) (sym k.check_set.ensures ∙ t.in-Value.is) a.first a.count a.out.now
+    let k = t in
+    let a = (start k.before.before.before).args in
+    code_refused (main_of (files k.before.before.before)) (sym k.check_set.ensures ∙ t.in-Value.is) a.first a.count a.out.now
     a.code.now (rw f.outward_fault.ensures at c.if-outward_fault-ne0.true) a.listed
 
 walk-requires : tie.Need-walk-requires
 walk-requires c κs =
     let s = c.before in
     let t = s in
-    let k = t.before.before.before.before in
-    rw (s.stretch_in-s.ensures.0, s.stretch_in-s.ensures.1)
-    (code-between (files k) (set-accepted (files k) (sym k.check_set.ensures ∙ t.in-Value.is))
-    (start k).args.code.now)
+    let k = t in
+    rw (s.stretch_in-s.ensures.first, s.stretch_in-s.ensures.many)
+    (code-between (files k.before.before) (set-accepted (files k.before.before) (sym k.check_set.ensures ∙ t.in-Value.is))
+    (start k.before.before).args.code.now)
 
 returns-2 : tie.Need-returns-else-outward_fault-ne0
 returns-2 c =
@@ -49,21 +49,21 @@ returns-2 c =
     let good = s in
     let f = good in
     let t = f in
-    let k = t.before.before.before.before.before.before.before.before in
-    let a = (start k).args in
+    let k = t in
+    let a = (start k.before.before.before.before.before.before.before.before).args in
     let taken = sym k.check_set.ensures ∙ t.in-Value.is in
     let clean = rw f.outward_fault.ensures at good.if-outward_fault-ne0.false in
     w.walk.ensures
-    ∙ (ap₂ (λ (n m : ℕ). run_from (shown_among a.listed (files k) n m) a.first a.count a.out.now)
-    s.stretch_in-s.ensures.0 s.stretch_in-s.ensures.1
-    ∙ code-shown (main_of (files k)) taken a.first a.count a.out.now a.code.now clean _
-    (asks-code (files k) taken a.code.now clean) a.listed)
+    ∙ (ap₂ (λ (n m : ℕ). run_from (shown_among a.listed (files k.before.before.before.before.before.before.before.before) n m) a.first a.count a.out.now)
+    s.stretch_in-s.ensures.first s.stretch_in-s.ensures.many
+    ∙ code-shown (main_of (files k.before.before.before.before.before.before.before.before)) taken a.first a.count a.out.now a.code.now clean _
+    (asks-code (files k.before.before.before.before.before.before.before.before) taken a.code.now clean) a.listed)
 
 returns-3 : tie.Need-returns-in-Refused
 returns-3 c =
-    let k = c.before in
-    let a = (start k).args in
-    files_refused (main_of (files k)) (sym k.check_set.ensures ∙ c.in-Refused.is) a.first a.count
+    let k = c in
+    let a = (start k.before).args in
+    files_refused (main_of (files k.before)) (sym k.check_set.ensures ∙ c.in-Refused.is) a.first a.count
     a.out.now a.code.now a.listed
 
 pub in_code_spec : {M : Type 1} → statement M

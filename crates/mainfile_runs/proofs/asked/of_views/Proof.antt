@@ -29,7 +29,7 @@ walk-requires c κs =
     let all = c.before in
     let t = all.before in
     let k = t.before.before in
-    rw (all.all_in.ensures.0, all.all_in.ensures.1)
+    rw (all.all_in.ensures.first, all.all_in.ensures.many)
     (all-between (files k) (set-accepted (files k) (sym k.check_set.ensures ∙ t.in-Value.is)))
 
 returns : tie.Need-returns-in-Value
@@ -37,19 +37,19 @@ returns c =
     let w = c in
     let all = w in
     let t = all in
-    let k = t.before.before.before.before.before.before in
-    let a = (start k).args in
+    let k = t in
+    let a = (start k.before.before.before.before.before.before).args in
     let taken = sym k.check_set.ensures ∙ t.in-Value.is in
     w.walk.ensures
-    ∙ (ap₂ (λ (n m : ℕ). run_from (shown_among a.listed (files k) n m) a.first a.count a.out.now)
-    all.all_in.ensures.0 all.all_in.ensures.1
-    ∙ views-shown (main_of (files k)) taken a.first a.count a.out.now _ (asks-views (files k) taken) a.listed)
+    ∙ (ap₂ (λ (n m : ℕ). run_from (shown_among a.listed (files k.before.before.before.before.before.before) n m) a.first a.count a.out.now)
+    all.all_in.ensures.first all.all_in.ensures.many
+    ∙ views-shown (main_of (files k.before.before.before.before.before.before)) taken a.first a.count a.out.now _ (asks-views (files k.before.before.before.before.before.before) taken) a.listed)
 
 returns-2 : tie.Need-returns-in-Refused
 returns-2 c =
-    let k = c.before in
-    let a = (start k).args in
-    views-refused (main_of (files k)) (sym k.check_set.ensures ∙ c.in-Refused.is) a.first a.count
+    let k = c in
+    let a = (start k.before).args in
+    views-refused (main_of (files k.before)) (sym k.check_set.ensures ∙ c.in-Refused.is) a.first a.count
     a.out.now a.listed
 
 pub of_views_spec : {M : Type 1} → statement M

@@ -46,7 +46,7 @@ module _ (l : tie.After-label_at-answer) where
   found = l.before.before
 
   asked : let a = (start found).args in
-      said l.label_at-answer.result l.label_at-answer.last.1.1.1.1.1.1.1.1.0
+      said l.label_at-answer.result l.label_at-answer.new.out
       ≡ place_label (files found) a.place (drop (before (number_line a.place) (length a.out.now)) a.out.now)
   asked =
       let a = (start found).args in
@@ -58,24 +58,24 @@ part-label-at-start c = let h = within c in search rules
 
 headed-item-requires : tie.Need-headed_item-requires
 headed-item-requires c κs =
-    let l = c.before.before.before in
+    let l = c in
     let s = start (found l) in
     let written = (line (found l)).worded_line-line.ensures in (
       rw written.is written.short,
-      asked-small (files (found l)) s.args.place s.args.out.now s.pre (asked l),
+      asked-small (files (found l)) s.args.place s.args.out.now s.requires (asked l),
     )
 
 returns : tie.Need-returns
 returns c =
     let whole = c in
-    let l = whole.before.before.before.before.before.before in
-    let s = start (found l) in
+    let l = whole in
+    let s = start (found l.before.before.before.before.before.before) in
     let a = s.args in
-    rw (line (found l)).worded_line-line.ensures.is at whole.headed_item.ensures
+    rw (line (found l.before.before.before.before.before.before)).worded_line-line.ensures.is at whole.headed_item.ensures
     ∙ (ap (headed (number_line a.place) l.label_at-answer.result)
-    (given_back a.out.now _ (found l).room_before-room.result
-    ∙ ap (λ (n : ℕ). take n a.out.now ++ l.label_at-answer.new.1.1.1.1.1.1.1.1.0) (room (found l)))
-    ∙ asked-item (files (found l)) a.place a.out.now s.pre (asked l))
+    (given_back a.out.now _ (found l.before.before.before.before.before.before).room_before-room.result
+    ∙ ap (λ (n : ℕ). take n a.out.now ++ l.label_at-answer.new.out) (room (found l.before.before.before.before.before.before)))
+    ∙ asked-item (files (found l.before.before.before.before.before.before)) a.place a.out.now s.requires (asked l.before.before.before.before.before.before))
 
 pub item_at_spec : {M : Type 1} → statement M
 item_at_spec =

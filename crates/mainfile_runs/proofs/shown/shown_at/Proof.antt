@@ -19,18 +19,18 @@ returns : tie.Need-returns-then-listed
 returns c =
     let item = c in
     let listed = item in
-    let s = listed.before.before.before.before.before.before.before.before.before.before.before.before.before in
+    let s = listed in
     item.item_at.ensures
-    ∙ sym (ap (λ (t : Bool). shown_at t (files s) s.args.place s.args.out.now) listed.if-listed.true)
+    ∙ sym (ap (λ (t : Bool). shown_at t (files s.before.before.before.before.before.before.before.before.before.before.before.before.before) s.args.place s.args.out.now) listed.if-listed.true)
 
 returns-2 : tie.Need-returns
 returns-2 c =
     let label = c in
     let alone = label in
-    let s = alone.before.before.before.before.before.before.before.before.before.before.before.before.before in
+    let s = alone in
     label.label_at.ensures
-    ∙ (shown-label (files s) s.args.place s.args.out.now
-    ∙ sym (ap (λ (t : Bool). shown_at t (files s) s.args.place s.args.out.now) alone.if-listed.false))
+    ∙ (shown-label (files s.before.before.before.before.before.before.before.before.before.before.before.before.before) s.args.place s.args.out.now
+    ∙ sym (ap (λ (t : Bool). shown_at t (files s.before.before.before.before.before.before.before.before.before.before.before.before.before) s.args.place s.args.out.now) alone.if-listed.false))
 
 pub shown_at_spec : {M : Type 1} → statement M
 shown_at_spec =

@@ -79,7 +79,7 @@ behind-requires-6 c κs = let k = c.before.before.before.before.before in omega 
 
 returns : tie.Need-returns
 returns c =
-    let k = c.before.before.before.before.before.before in
+    let k = c in
     rw (
       c.behind-sub_building.ensures,
       c.behind-building.ensures,
@@ -92,8 +92,8 @@ returns c =
       k.rows_of.ensures,
       k.rows_of-two.ensures,
     )
-    (set-rows (files k) (start k).requires.0 (start k).args.keys (start k).well_formed.1.1.1.1.1.0.1.0.1 (start k).requires.1
-    (looked k).kind_rows-found.result.rows (looked k).kind_rows-found.ensures)
+    (set-rows (files k.before.before.before.before.before.before) (start k.before.before.before.before.before.before).requires.0 (start k.before.before.before.before.before.before).args.keys (start k.before.before.before.before.before.before).well_formed.1.1.1.1.1.0.1.0.1 (start k.before.before.before.before.before.before).requires.1
+    (looked k.before.before.before.before.before.before).kind_rows-found.result.rows (looked k.before.before.before.before.before.before).kind_rows-found.ensures)
 
 pub rows_in_spec : {M : Type 1} → statement M
 rows_in_spec = tie.close (tie.spec (λ c κs. search rules) (λ c κs. search rules) (λ c κs. search rules) (λ c. search rules) (λ c κs. search rules) (λ c. search rules) (λ c κs. search rules) add_five (λ c. search rules) behind-requires (λ c. search rules) behind-requires-2 (λ c. search rules) behind-requires-3 (λ c. search rules) behind-requires-4 (λ c. search rules) behind-requires-5 (λ c. search rules) behind-requires-6 (λ c. search rules) returns)

@@ -26,27 +26,27 @@ module _ (c : tie.After-upper_number-end) where
 returns : tie.Need-returns-then-end-le1
 unfolding organisation_found
 returns c =
-    let b = c.before in
-    sym (found_none (number_at (file b)) (r b) (last_in (file b)) (rw (upper b) at c.if-end-le1.true))
+    let b = c in
+    sym (found_none (number_at (file b.before)) (r b.before) (last_in (file b.before)) (rw (upper b.before) at c.if-end-le1.true))
 
 returns-2 : tie.Need-returns-then-number_at-r
 unfolding organisation_found
 returns-2 c =
     let k = c in
-    let b = k.before.before.before in
-    rw (upper b)
+    let b = k in
+    rw (upper b.before.before.before)
     (sym
-    (found_here (number_at (file b)) (r b) (last_in (file b)) (rw (upper b) at k.if-end-le1.false)
-    (rw (upper b) at (sym k.number_at.ensures ∙ (c.if-number_at-r.true ∙ b.number_of-r.ensures)))))
+    (found_here (number_at (file b.before.before.before)) (r b.before.before.before) (last_in (file b.before.before.before)) (rw (upper b.before.before.before) at k.if-end-le1.false)
+    (rw (upper b.before.before.before) at (sym k.number_at.ensures ∙ (c.if-number_at-r.true ∙ b.number_of-r.ensures)))))
 
 returns-3 : tie.Need-returns-else-number_at-r
 unfolding organisation_found
 returns-3 c =
     let k = c in
-    let b = k.before.before.before in
+    let b = k in
     sym
-    (found-other (number_at (file b)) (r b) (last_in (file b)) (rw (upper b) at k.if-end-le1.false)
-    (λ e. c.if-number_at-r.false (k.number_at.ensures ∙ (rw (upper b) e ∙ sym b.number_of-r.ensures))))
+    (found-other (number_at (file b.before.before.before)) (r b.before.before.before) (last_in (file b.before.before.before)) (rw (upper b.before.before.before) at k.if-end-le1.false)
+    (λ e. c.if-number_at-r.false (k.number_at.ensures ∙ (rw (upper b.before.before.before) e ∙ sym b.number_of-r.ensures))))
 
 pub organisation_row_spec : {M : Type 1} → statement M
 organisation_row_spec = tie.close (tie.spec (λ c κs. search rules) (λ c κs. search rules) returns (λ c. search rules) (λ c κs. search rules) returns-2 returns-3)

@@ -23,7 +23,7 @@ text-into-requires c κs =
     ∙ (c.field_into-department.ensures.long ∙ c.field_into-organisation.ensures.long)) in
     let three = c.part_of-three.result.now in
     let small : length three ≤ 3 = rw c.part_of-three.ensures (omega arith) in
-    let room : 130 + length three ≤ length c.field_into-outward.new.1.1.1.1.1.0 =
+    let room : 130 + length three ≤ length c.field_into-outward.new.texts =
     omega (arith, long, start.requires.1, small) in
     (omega arith, room)
 

@@ -31,13 +31,13 @@ sub-digit c = digit_low (start c).args.b (is_digit c)
 
 add-counts : tie.Need-overflow_add-counts
 add-counts c =
-    let s = start c.before in
-    omega (arith, s.pre (s.args.b - 48) (inside c.before))
+    let s = start c.before.before in
+    omega (arith, s.requires (s.args.b - 48) (inside c.before.before))
 
 returns-2 : tie.Need-returns
 returns-2 c =
-    let s = start c.before in
-    digit-counted s.args.counts.now s.args.b (is_digit c.before)
+    let s = start c.before.before in
+    digit-counted s.args.counts.now s.args.b (is_digit c.before.before)
 
 pub count_byte_spec : {M : Type 1} → statement M
 count_byte_spec =
@@ -51,5 +51,5 @@ count_byte_spec =
     inside
     add-counts
     (λ c. search rules)
-    (λ c. inside c.before)
+    (λ c. inside c.before.before)
     returns-2)

@@ -28,7 +28,7 @@ module _ (l : tie.In-loop-i invariant-loop decreases-loop) where
         arith,
         l.loop-i.invariant.place,
         one_of start.args.width l.loop-i.i start.args.n l.loop-i-test.taken,
-        start.pre.1,
+        start.requires.1,
       )
 
   -- so that there are few enough of them to count
@@ -36,10 +36,10 @@ module _ (l : tie.In-loop-i invariant-loop decreases-loop) where
   few =
       omega (
         arith,
-        start.pre.0,
-        start.pre.1,
+        start.requires.0,
+        start.requires.1,
         start.good.0,
-        mul-le-mul_right start.args.n (let z : 2 ≤ start.args.width = omega (arith, start.pre.0) in z),
+        mul-le-mul_right start.args.n (let z : 2 ≤ start.args.width = omega (arith, start.requires.0) in z),
       )
 
 loop-holds : tie.Need-loop-i-init invariant-loop decreases-loop
@@ -47,20 +47,20 @@ loop-holds c =
     let a = c.args in counted_none a.points.now a.start a.width a.n
 
 add-count-byte : tie.Need-overflow_add-at invariant-loop decreases-loop
-add-count-byte c = let l = c.before in omega (arith, inside l, (start l).requires.0, (start l).well_formed.0)
+add-count-byte c = let l = c in omega (arith, inside l, (start l).requires.0, (start l).well_formed.0)
 
 shared-slice-read-count-byte : tie.Need-bounds-points-at invariant-loop decreases-loop
 shared-slice-read-count-byte c =
-    let l = c.before.before in omega (arith, inside l, (start l).requires.0)
+    let l = c in omega (arith, inside l.before, (start l.before).requires.0)
 
 count-byte-requires : tie.Need-count_byte-requires invariant-loop decreases-loop
 count-byte-requires c κs =
-    let l = c.before.before in
-    let a = (start l).args in
-    counted-below a.points.now a.start a.width a.n _ _ _ l.loop-i.invariant (few l)
+    let l = c in
+    let a = (start l.before.before).args in
+    counted-below a.points.now a.start a.width a.n _ _ _ l.loop-i.invariant (few l.before.before)
 
 add_at : tie.Need-overflow_add-at invariant-loop decreases-loop
-add_at c = let l = c.before.before.before in omega (arith, inside l, (start l).well_formed.0)
+add_at c = let l = c in omega (arith, inside l.before.before, (start l.before.before).well_formed.0)
 
 add-i : tie.Need-overflow_add-i invariant-loop decreases-loop
 add-i c = omega arith
@@ -70,8 +70,8 @@ loop-less c = omega arith
 
 loop-again : tie.Need-loop-i-preserved invariant-loop decreases-loop
 loop-again c =
-    let l = c.before.before.before in
-    let a = (start l).args in
+    let l = c in
+    let a = (start l.before.before.before).args in
     rw c.count_byte.ensures
     (counted_next a.points.now a.start a.width a.n _ _ _ l.loop-i.invariant l.loop-i-test.true)
 

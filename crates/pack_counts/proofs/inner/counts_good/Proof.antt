@@ -25,7 +25,7 @@ module _ (c : tie.After-has_counts) where
   pack = start.args.pack.now
 
   asked : c.has_counts.result ≡ has_counts (edition pack)
-  asked = c.has_counts.ensures ∙ ap has_counts start.pre.1.edition
+  asked = c.has_counts.ensures ∙ ap has_counts start.requires.1.edition
 
 -- past the branch there are counts
 some : (c : tie.Else-not-has_counts) → has_counts (edition (pack c.before)) ≡ true
@@ -36,11 +36,11 @@ returns c = no-counts (pack c.before) (sym (asked c.before) ∙ c.if-not-has_cou
 
 count-digits-requires : tie.Need-count_digits-counts-requires
 count-digits-requires c κs =
-    let at-edition = c.before.before.before in
-    let s = start at-edition in
-    let laid = s.pre.1 in (
-      omega (arith, laid.point, point-more (edition (pack at-edition))),
-      points-inside (pack at-edition) s.pre.0 c.trailer_number-start.ensures.0 laid.point
+    let at-edition = c in
+    let s = start at-edition.before in
+    let laid = s.requires.1 in (
+      omega (arith, laid.point, point-more (edition (pack at-edition.before))),
+      points-inside (pack at-edition.before) s.requires.0 c.trailer_number-start.ensures.0 laid.point
           c.trailer_number-n.ensures.0,
     )
 
@@ -48,22 +48,22 @@ counts-said-requires : tie.Need-counts_said-requires
 counts-said-requires c κs =
     let past = c in
     let s = start past.before in
-    (trailed (pack past.before) s.pre.0 _ s.pre.1, some past)
+    (trailed (pack past.before) s.requires.0 _ s.requires.1, some past)
 
 returns-2 : tie.Need-returns
 returns-2 c =
     let counted = c in
     let counts-read = counted in
     let starts-read = counts-read in
-    let past = starts-read.before.before.before.before.before in
-    let p = pack past.before in
+    let past = starts-read in
+    let p = pack past.before.before.before.before.before.before in
     c.counts_said.ensures
     ∙ (ap (counts_said p 0)
     (counted.count_digits-counts.ensures
     ∙ ap sector_counts
-    (digits-as p (start past.before).pre.1.point counts-read.trailer_number-n.ensures.0
+    (digits-as p (start past.before.before.before.before.before.before).requires.1.point counts-read.trailer_number-n.ensures.0
     starts-read.trailer_number-start.ensures.0))
-    ∙ its_counts p (some past))
+    ∙ its_counts p (some past.before.before.before.before.before))
 
 pub counts_good_spec : {M : Type 1} → statement M
 counts_good_spec =

@@ -31,26 +31,26 @@ returns : tie.Need-returns-then-count_said-counts invariant-loop decreases-loop
 returns c =
     let asked = c in
     let l = asked in
-    let s = l.before.before.before.before.before in
+    let s = l in
     sym
     (l.loop-digit.invariant.1
-    ∙ said-stop s.args.pack.now s.args.counts l.loop-digit.digit (omega (arith, ten s))
+    ∙ said-stop s.args.pack.now s.args.counts l.loop-digit.digit (omega (arith, ten s.before.before.before.before.before))
     (λ e. c.if-count_said-counts.true (asked.count_said.ensures ∙ e)))
 
 loop-again : tie.Need-loop-digit-preserved invariant-loop decreases-loop
 loop-again c =
     let asked = c in
     let l = asked in
-    let s = l.before.before.before.before.before in (
+    let s = l in (
       omega arith,
-      l.loop-digit.invariant.1 ∙ said-step s.args.pack.now s.args.counts l.loop-digit.digit (omega (arith, ten s))
+      l.loop-digit.invariant.1 ∙ said-step s.args.pack.now s.args.counts l.loop-digit.digit (omega (arith, ten s.before.before.before.before.before))
           (sym asked.count_said.ensures ∙ c.if-count_said-counts.false),
     )
 
 returns-2 : tie.Need-returns invariant-loop decreases-loop
 returns-2 c =
-    let s = c.before.before.before in
-    sym (c.loop-digit.invariant.1 ∙ said-end s.args.pack.now s.args.counts c.loop-digit.digit (omega (arith, ten s)))
+    let s = c in
+    sym (c.loop-digit.invariant.1 ∙ said-end s.args.pack.now s.args.counts c.loop-digit.digit (omega (arith, ten s.before.before.before)))
 
 pub counts_said_spec : {M : Type 1} → statement M
 counts_said_spec =

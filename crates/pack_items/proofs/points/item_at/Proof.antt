@@ -38,37 +38,37 @@ part-label-at-start c = let h = within c in search rules
 
 label-at-requires : tie.Need-label_at-answer-requires
 label-at-requires c κs =
-    let s = start c.before in
-    (opened-sized s.args.pack.now _ s.pre, (opened-all s.args.pack.now _ s.pre).counted)
+    let s = start c in
+    (opened-sized s.args.pack.now _ s.requires, (opened-all s.args.pack.now _ s.requires).counted)
 
 headed-item-requires : tie.Need-headed_item-requires
 headed-item-requires c κs =
     let label = c in
-    let found = label.before.before.before.before.before in
+    let found = label in
     let s = start found in
     let a = s.args in
     let asked =
     rw (lent a.out.now found.room_before-room.result) at label.label_at-answer.ensures
     ∙ ap (λ (n : ℕ). point_label a.pack.now a.k (drop n a.out.now)) (room found) in (
       rw (line found).point_line-line.ensures.is (line found).point_line-line.ensures.short,
-      asked-small point_line a.pack.now a.k a.out.now s.pre asked,
+      asked-small point_line a.pack.now a.k a.out.now s.requires asked,
     )
 
 returns : tie.Need-returns
 returns c =
     let whole = c in
     let label = whole in
-    let found = label.before.before.before.before.before.before.before.before in
-    let s = start found in
+    let found = label in
+    let s = start found.before.before.before.before.before.before.before.before in
     let a = s.args in
     let asked =
     rw (lent a.out.now found.room_before-room.result) at label.label_at-answer.ensures
-    ∙ ap (λ (n : ℕ). point_label a.pack.now a.k (drop n a.out.now)) (room found) in
-    rw (line found).point_line-line.ensures.is at whole.headed_item.ensures
+    ∙ ap (λ (n : ℕ). point_label a.pack.now a.k (drop n a.out.now)) (room found.before.before.before.before.before.before.before.before) in
+    rw (line found.before.before.before.before.before.before.before.before).point_line-line.ensures.is at whole.headed_item.ensures
     ∙ (ap (headed (point_line a.k) label.label_at-answer.result)
     (given_back a.out.now _ found.room_before-room.result
-    ∙ ap (λ (n : ℕ). take n a.out.now ++ label.label_at-answer.new.1.1.1.0) (room found))
-    ∙ asked-item point_line a.pack.now a.k a.out.now s.pre asked)
+    ∙ ap (λ (n : ℕ). take n a.out.now ++ label.label_at-answer.new.out) (room found.before.before.before.before.before.before.before.before))
+    ∙ asked-item point_line a.pack.now a.k a.out.now s.requires asked)
 
 pub item_at_spec : {M : Type 1} → statement M
 item_at_spec =

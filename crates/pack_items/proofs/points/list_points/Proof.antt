@@ -39,7 +39,7 @@ module _ (m : tie.After-item_behind invariant-loop decreases-loop) where
   abbrev number : ℕ
   number = start.args.first + at-loop.loop-done.done
 
-  asked : said m.item_behind.result m.item_behind.last.1.1.1.1.0
+  asked : said m.item_behind.result m.item_behind.new.out
       ≡ asked_behind at-loop.loop-done.at at-loop.loop-done.out (point_item point_line pack number)
   asked = rw at-loop.loop-done.invariant.0 at m.item_behind.ensures
 
@@ -58,41 +58,41 @@ item-behind-requires c κs =
 
 add_at : tie.Need-overflow_add-at invariant-loop decreases-loop
 add_at c =
-    let m = c.before.before.before in
-    let l = at-loop m in
+    let m = c in
+    let l = at-loop m.before.before.before in
     omega (
       arith,
-      going-fits l.loop-done.invariant.1.0 (fit m) (omega arith) (asked m) c.in-Value.is,
+      going-fits l.loop-done.invariant.1.0 (fit m.before.before.before) (omega arith) (asked m.before.before.before) c.in-Value.is,
       m.item_behind.auto.1.1.1.1.0,
       l.loop-done.invariant.1.1,
-      (start m).well_formed.1.1.1.1.0.0,
+      (start m.before.before.before).well_formed.1.1.1.1.0.0,
     )
 
 returns : tie.Need-returns-in-Refused invariant-loop decreases-loop
 returns c =
-    let m = c.before.before.before in
-    going-stop (at-loop m).loop-done.invariant.1.0 (fit m) (omega arith) (asked m) c.in-Refused.is
+    let m = c in
+    going-stop (at-loop m.before.before.before).loop-done.invariant.1.0 (fit m.before.before.before) (omega arith) (asked m.before.before.before) c.in-Refused.is
 
 add-k : tie.Need-overflow_add-k invariant-loop decreases-loop
 add-k c =
-    let m = c.before.before.before in
-    let l = at-loop m in
-    let is = sym (answer-of (asked m)) ∙ c.in-Value.is in
+    let m = c in
+    let l = at-loop m.before.before.before in
+    let is = sym (answer-of (asked m.before.before.before)) ∙ c.in-Value.is in
     omega (
       arith,
-      item-bound point_line (pack m) (number m) (drop l.loop-done.at l.loop-done.out) _ is,
+      item-bound point_line (pack m.before.before.before) (number m.before.before.before) (drop l.loop-done.at l.loop-done.out) _ is,
       l.loop-done.invariant.0,
-      opened-sized (pack m) _ (start m).requires,
-      (start m).well_formed.0.0,
+      opened-sized (pack m.before.before.before) _ (start m.before.before.before).requires,
+      (start m.before.before.before).well_formed.0.0,
     )
 
 loop-again : tie.Need-loop-done-preserved invariant-loop decreases-loop
 loop-again c =
-    let m = c.before.before.before in
-    let l = at-loop m in (
+    let m = c in
+    let l = at-loop m.before.before.before in (
       omega (arith, l.loop-done.invariant.0),
       (
-        going_step l.loop-done.invariant.1.0 (fit m) (omega arith) (asked m) c.in-Value.is,
+        going_step l.loop-done.invariant.1.0 (fit m.before.before.before) (omega arith) (asked m.before.before.before) c.in-Value.is,
         m.item_behind.auto.1.1.1.1.0 ∙ l.loop-done.invariant.1.1,
       ),
     )

@@ -33,7 +33,7 @@ module _ (c : tie.After-trailer_number-start) where
   place = ap₂ (λ s w. s + w * (k - 1)) c.trailer_number-start.ensures.0 laid.point
 
   here : PointIn pack (point_place pack k)
-  here = point-in pack start.pre.0 (k - 1) (point_place pack k) (omega (arith, start.pre.1.0, start.pre.1.1)) refl
+  here = point-in pack start.requires.0 (k - 1) (point_place pack k) (omega (arith, start.requires.1.0, start.requires.1.1)) refl
 
   rest : c.trailer_number-start.result + c.layout_in-layout.result.point * (k - 1) + c.layout_in-layout.result.rest
       ≡ rest_of pack (point_place pack k)
@@ -43,7 +43,7 @@ module _ (c : tie.After-trailer_number-start) where
   within = omega (arith, place, here)
 
 trailer-number-requires : tie.Need-trailer_number-start-requires
-trailer-number-requires c κs =
+trailer-number-requires c.before κs =
     let start = c in
     (trailed start.args.pack.now start.requires.0 _ c.layout_in-layout.ensures, lit≤ tt)
 
@@ -54,20 +54,20 @@ add_at : tie.Need-overflow_add-at
 add_at c = omega (arith, place c.before, here c.before, (start c.before).good.0.0)
 
 slice-aggregate-rows : tie.Need-slice_bounds-rows-end
-slice-aggregate-rows c = sym (length-take-le _ _ (within c.before.before))
+slice-aggregate-rows c = sym (length-take-le _ _ (within c.before))
 
 add-spans-at : tie.Need-overflow_add-at-2
 add-spans-at c =
-    let read = c.before.before.before in
-    omega (arith, rest read, here read, (start read).well_formed.0.0)
+    let read = c in
+    omega (arith, rest read.before.before, here read.before.before, (start read.before.before).well_formed.0.0)
 
 spans-at-requires : tie.Need-spans_at-requires
 spans-at-requires c κs =
-    let read = c.before.before.before in (
-      omega (arith, place read, here read),
+    let read = c in (
+      omega (arith, place read.before.before, here read.before.before),
       (
-        omega (arith, rest read, here read),
-        ap (λ n. take n (pack read)) read.trailer_number-start.ensures.0,
+        omega (arith, rest read.before.before, here read.before.before),
+        ap (λ n. take n (pack read.before.before)) read.trailer_number-start.ensures.0,
       ),
     )
 
@@ -75,8 +75,8 @@ returns : tie.Need-returns
 returns c =
     let printed = c in
     let spanned = printed in
-    let read = spanned.before.before.before.before.before.before.before.before in
-    let meant = spanned.spans_at.ensures ∙ ap₂ (elements_from (pack read)) (place read) (rest read) in
+    let read = spanned in
+    let meant = spanned.spans_at.ensures ∙ ap₂ (elements_from (pack read.before.before.before.before.before.before.before)) (place read.before.before.before.before.before.before.before) (rest read.before.before.before.before.before.before.before) in
     rw meant at printed.print_label.ensures
 
 pub point_label_spec : {M : Type 1} → statement M

@@ -39,21 +39,21 @@ module _ (loop : tie.At-loop-i invariant-loop decreases-loop) where
 
   room : loop.loop-i.i < counted.trailer_number-count.result → PointIn pack loop.loop-i.at
   room h =
-      point-in pack start.pre.0 loop.loop-i.i loop.loop-i.at (omega (arith, counted.trailer_number-count.ensures.0))
+      point-in pack start.requires.0 loop.loop-i.i loop.loop-i.at (omega (arith, counted.trailer_number-count.ensures.0))
       loop.loop-i.invariant.1
 
 -- what was found of a point
 judged : (c : tie.After-next_marked invariant-loop decreases-loop)
     → c.next_marked.result ≡ offsets_fine (pack c.before.before.before) c.loop-i.at
-judged c = rw (start c.before.before.before).pre.1.0.rest at c.next_marked.ensures
+judged c = rw (start c.before.before.before).requires.1.0.rest at c.next_marked.ensures
 
 trailer-number-requires : tie.Need-trailer_number-count-requires invariant-loop decreases-loop
-trailer-number-requires c κs =
+trailer-number-requires c.before.before.before.before.before.before κs =
     let s = c.before.before.before.before in
     (trailed s.args.pack.now s.requires.0 s.args.layout s.requires.1.0, lit≤ tt)
 
 trailer-number-requires-2 : tie.Need-trailer_number-at-requires invariant-loop decreases-loop
-trailer-number-requires-2 c κs =
+trailer-number-requires-2 c.before.before.before.before.before κs =
     let s = c.before.before.before.before.before in
     (trailed s.args.pack.now s.requires.0 s.args.layout s.requires.1.0, lit≤ tt)
 
@@ -69,33 +69,33 @@ loop-holds c =
 
 add-next-marked : tie.Need-overflow_add-at invariant-loop decreases-loop
 add-next-marked c =
-    let l = c.before.before in
-    omega (arith, room l c.loop-i-test.true, (start l).requires.1.0.rest)
+    let l = c in
+    omega (arith, room l.before.before c.loop-i-test.true, (start l.before.before).requires.1.0.rest)
 
 next-marked-requires : tie.Need-next_marked-requires invariant-loop decreases-loop
 next-marked-requires c κs =
-    let l = c.before.before in
-    let within = room l c.loop-i-test.true in
-    ((omega (arith, within, (start l).requires.1.0.rest)), (start l).requires.1.1, refl, l.loop-i.invariant.3)
+    let l = c in
+    let within = room l.before.before c.loop-i-test.true in
+    ((omega (arith, within, (start l.before.before).requires.1.0.rest)), (start l.before.before).requires.1.1, refl, l.loop-i.invariant.3)
 
 returns : tie.Need-returns-then-not-next_marked invariant-loop decreases-loop
 returns c =
-    let g = c.before in
-    let l = g.before.before.before in
+    let g = c in
+    let l = g in
     sym
     (l.loop-i.invariant.2
-    ∙ each-stop (offsets_fine (pack l)) (point_width (edition (pack l))) (counted l).trailer_number-count.result l.loop-i.i l.loop-i.at
-    (omega arith) (sym (judged g) ∙ c.if-not-next_marked.true))
+    ∙ each-stop (offsets_fine (pack l.before.before.before.before)) (point_width (edition (pack l.before.before.before.before))) (counted l.before.before.before.before).trailer_number-count.result l.loop-i.i l.loop-i.at
+    (omega arith) (sym (judged g.before) ∙ c.if-not-next_marked.true))
 
 add_at : tie.Need-overflow_add-at invariant-loop decreases-loop
 add_at c =
     let n = c in
-    let l = n.before.before.before.before.before in
-    omega (arith, room l n.loop-i-test.true, (start l).requires.1.0.point)
+    let l = n in
+    omega (arith, room l.before.before n.loop-i-test.true, (start l.before.before).requires.1.0.point)
 
 good : (c : tie.After-struct_known-in-loop-i-1 invariant-loop decreases-loop)
-    → let l = c.before.before.before.before.before in
-    offsets_fine (pack l) l.loop-i.at ≡ true
+    → let l = c in
+    offsets_fine (pack l.before.before.before.before.before) l.loop-i.at ≡ true
 good c = sym (judged c.before.before) ∙ c.if-not-next_marked.false
 
 shared-slice-read-first : tie.Need-bounds-rows-0 invariant-loop decreases-loop
@@ -104,27 +104,27 @@ shared-slice-read-first c = c.requires.1.1.fine.some
 loop-again : tie.Need-loop-i-preserved invariant-loop decreases-loop
 loop-again c =
     let g = c in
-    let l = g.before.before.before.before.before in
-    let width = (start l).requires.1.0.point in (
+    let l = g in
+    let width = (start l.before.before.before.before.before).requires.1.0.point in (
       omega arith,
       omega (arith, l.loop-i.invariant.1, width),
       rw width
           (l.loop-i.invariant.2
-          ∙ each_step (offsets_fine (pack l)) (point_width (edition (pack l))) (counted l).trailer_number-count.result l.loop-i.i
+          ∙ each_step (offsets_fine (pack l.before.before.before.before.before)) (point_width (edition (pack l.before.before.before.before.before))) (counted l.before.before.before.before.before).trailer_number-count.result l.loop-i.i
           l.loop-i.at (omega arith) (good c)),
       λ h. (
         omega arith,
-        rw (let same : l.loop-i.at + (start l).args.layout.point + (start l).args.layout.rest - (start l).args.layout.point ≡ l.loop-i.at + (start l).args.layout.rest = omega arith in same)
+        rw (let same : l.loop-i.at + (start l.before.before.before.before.before).args.layout.point + (start l.before.before.before.before.before).args.layout.rest - (start l.before.before.before.before.before).args.layout.point ≡ l.loop-i.at + (start l.before.before.before.before.before).args.layout.rest = omega arith in same)
             (sym g.next_marked.ensures ∙ c.if-not-next_marked.false),
       ),
     )
 
 returns-2 : tie.Need-returns invariant-loop decreases-loop
 returns-2 c =
-    let l = c.before in
+    let l = c in
     sym
     (l.loop-i.invariant.2
-    ∙ each-end (offsets_fine (pack l)) (point_width (edition (pack l))) (counted l).trailer_number-count.result l.loop-i.i l.loop-i.at
+    ∙ each-end (offsets_fine (pack l.before)) (point_width (edition (pack l.before))) (counted l.before).trailer_number-count.result l.loop-i.i l.loop-i.at
     (omega arith))
 
 pub offsets_marked_spec : {M : Type 1} → statement M

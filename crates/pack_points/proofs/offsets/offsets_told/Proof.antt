@@ -36,21 +36,21 @@ module _ (loop : tie.At-loop-i invariant-loop decreases-loop) where
 
   room : loop.loop-i.i < counted.trailer_number-count.result → PointIn pack loop.loop-i.at
   room h =
-      point-in pack start.pre.0 loop.loop-i.i loop.loop-i.at (omega (arith, counted.trailer_number-count.ensures.0))
+      point-in pack start.requires.0 loop.loop-i.i loop.loop-i.at (omega (arith, counted.trailer_number-count.ensures.0))
       loop.loop-i.invariant.1
 
 -- what was found of a point
 judged : (c : tie.After-point_told invariant-loop decreases-loop)
     → c.point_told.result ≡ offsets_fine (pack c.before.before.before) c.loop-i.at
-judged c = rw (start c.before.before.before).pre.1.0.rest at c.point_told.ensures
+judged c = rw (start c.before.before.before).requires.1.0.rest at c.point_told.ensures
 
 trailer-number-requires : tie.Need-trailer_number-count-requires invariant-loop decreases-loop
-trailer-number-requires c κs =
+trailer-number-requires c.before.before.before.before.before.before κs =
     let s = c.before.before.before in
     (trailed s.args.pack.now s.requires.0 s.args.layout s.requires.1.0, lit≤ tt)
 
 trailer-number-requires-2 : tie.Need-trailer_number-at-requires invariant-loop decreases-loop
-trailer-number-requires-2 c κs =
+trailer-number-requires-2 c.before.before.before.before.before κs =
     let s = c.before.before.before.before in
     (trailed s.args.pack.now s.requires.0 s.args.layout s.requires.1.0, lit≤ tt)
 
@@ -65,48 +65,48 @@ loop-holds c =
 
 add-point-told : tie.Need-overflow_add-at invariant-loop decreases-loop
 add-point-told c =
-    let l = c.before.before in
-    omega (arith, room l c.loop-i-test.true, (start l).requires.1.0.rest)
+    let l = c in
+    omega (arith, room l.before.before c.loop-i-test.true, (start l.before.before).requires.1.0.rest)
 
 point-told-requires : tie.Need-point_told-requires invariant-loop decreases-loop
 point-told-requires c κs =
-    let l = c.before.before in
-    (omega (arith, room l c.loop-i-test.true, (start l).requires.1.0.rest), (start l).requires.1.1)
+    let l = c in
+    (omega (arith, room l.before.before c.loop-i-test.true, (start l.before.before).requires.1.0.rest), (start l.before.before).requires.1.1)
 
 returns : tie.Need-returns-then-not-point_told invariant-loop decreases-loop
 returns c =
-    let g = c.before in
-    let l = g.before.before.before in
+    let g = c in
+    let l = g in
     sym
     (l.loop-i.invariant.2
-    ∙ each-stop (offsets_fine (pack l)) (point_width (edition (pack l))) (counted l).trailer_number-count.result l.loop-i.i l.loop-i.at
-    (omega arith) (sym (judged g) ∙ c.if-not-point_told.true))
+    ∙ each-stop (offsets_fine (pack l.before.before.before.before)) (point_width (edition (pack l.before.before.before.before))) (counted l.before.before.before.before).trailer_number-count.result l.loop-i.i l.loop-i.at
+    (omega arith) (sym (judged g.before) ∙ c.if-not-point_told.true))
 
 add_at : tie.Need-overflow_add-at invariant-loop decreases-loop
 add_at c =
     let n = c in
-    let l = n.before.before.before.before.before in
-    omega (arith, room l n.loop-i-test.true, (start l).requires.1.0.point)
+    let l = n in
+    omega (arith, room l.before.before n.loop-i-test.true, (start l.before.before).requires.1.0.point)
 
 loop-again : tie.Need-loop-i-preserved invariant-loop decreases-loop
 loop-again c =
-    let g = c.before.before in
-    let l = g.before.before.before in
-    let width = (start l).requires.1.0.point in (
+    let g = c in
+    let l = g in
+    let width = (start l.before.before.before.before.before).requires.1.0.point in (
       omega arith,
       omega (arith, l.loop-i.invariant.1, width),
       rw width
           (l.loop-i.invariant.2
-          ∙ each_step (offsets_fine (pack l)) (point_width (edition (pack l))) (counted l).trailer_number-count.result l.loop-i.i
-          l.loop-i.at (omega arith) (sym (judged g) ∙ c.if-not-point_told.false)),
+          ∙ each_step (offsets_fine (pack l.before.before.before.before.before)) (point_width (edition (pack l.before.before.before.before.before))) (counted l.before.before.before.before.before).trailer_number-count.result l.loop-i.i
+          l.loop-i.at (omega arith) (sym (judged g.before.before) ∙ c.if-not-point_told.false)),
     )
 
 returns-2 : tie.Need-returns invariant-loop decreases-loop
 returns-2 c =
-    let l = c.before in
+    let l = c in
     sym
     (l.loop-i.invariant.2
-    ∙ each-end (offsets_fine (pack l)) (point_width (edition (pack l))) (counted l).trailer_number-count.result l.loop-i.i l.loop-i.at
+    ∙ each-end (offsets_fine (pack l.before)) (point_width (edition (pack l.before))) (counted l.before).trailer_number-count.result l.loop-i.i l.loop-i.at
     (omega arith))
 
 pub offsets_told_spec : {M : Type 1} → statement M

@@ -36,22 +36,22 @@ loop-holds c = (search rules, refl)
 
 returns : tie.Need-returns-then-not-offset_good invariant-loop decreases-loop
 returns c =
-    let g = c.before in
+    let g = c in
     let l = g in
     let a = l.args in
     sym
     (l.loop-n.invariant.1
-    ∙ offsets-stop a.pack.now a.rest l.loop-n.n offset_kinds (omega arith) (sym (judged g) ∙ c.if-not-offset_good.true))
+    ∙ offsets-stop a.pack.now a.rest l.loop-n.n offset_kinds (omega arith) (sym (judged g.before) ∙ c.if-not-offset_good.true))
 
 loop-again : tie.Need-loop-n-preserved invariant-loop decreases-loop
 loop-again c =
-    let g = c.before in
+    let g = c in
     let l = g in
     let a = l.args in (
       omega arith,
       l.loop-n.invariant.1
           ∙ offsets-step a.pack.now a.rest l.loop-n.n offset_kinds (omega arith)
-          (sym (judged g) ∙ c.if-not-offset_good.false),
+          (sym (judged g.before) ∙ c.if-not-offset_good.false),
     )
 
 returns-2 : tie.Need-returns invariant-loop decreases-loop

@@ -28,7 +28,7 @@ own_row j e =
 returns : tie.Need-returns
 unfolding organisation_good
 returns c =
-    let j = c.before in
+    let j = c in
     let o = j in
     let n = o in
     let g = n in
@@ -39,7 +39,7 @@ returns c =
     (organisation-test (given pack a.rest 7) (eqb (type_byte pack a.rest) 76) (eqb (organisation_key pack a.rest) 0)
     (not (is_empty (row_text (row_area pack) j.if-given.at 0)))
     (not (is_empty (row_text (row_area pack) (offset_of_point pack a.rest 7) 0)))
-    (λ e. ap (λ at. not (is_empty (row_text (row_area pack) at 0))) (own_row j e)))
+    (λ e. ap (λ at. not (is_empty (row_text (row_area pack) at 0))) (own_row j.before e)))
 
 pub organisation_good_spec : {M : Type 1} → statement M
 organisation_good_spec =

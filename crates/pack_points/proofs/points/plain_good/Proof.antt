@@ -27,24 +27,24 @@ numbers-fine e = sym e.numbers_good.ensures ∙ e.if-not-numbers_good.false
 
 returns-2 : tie.Need-returns-then-not-marks
 returns-2 c =
-    let e = c.before.before.before in
+    let e = c in
     let a = e.args in
     let kind = type_byte a.pack.now a.rest in
     let mark = get_or a.pack.now (a.rest + concatenation_at) 0 in
     let bad : elem kind (83 ∷ 76 ∷ []) && elem mark (89 ∷ 32 ∷ []) ≡ false
     = rw (← pair-test kind 83 76, ← pair-test mark 89 32) (c.if-not-marks.true) in
-    rw (plain-split a.pack.now a.rest) (sym (simp (numbers-fine e, bad)))
+    rw (plain-split a.pack.now a.rest) (sym (simp (numbers-fine e.before.before.before, bad)))
 
 returns-3 : tie.Need-returns
 returns-3 c =
     let i = c in
-    let e = i.before.before.before.before.before in
+    let e = i in
     let a = e.args in
     let kind = type_byte a.pack.now a.rest in
     let mark = get_or a.pack.now (a.rest + concatenation_at) 0 in
     let good : elem kind (83 ∷ 76 ∷ []) && elem mark (89 ∷ 32 ∷ []) ≡ true
     = rw (← pair-test kind 83 76, ← pair-test mark 89 32) (i.if-not-marks.false) in
-    rw (c.box_good.ensures, plain-split a.pack.now a.rest) (sym (simp (numbers-fine e, good)))
+    rw (c.box_good.ensures, plain-split a.pack.now a.rest) (sym (simp (numbers-fine e.before.before.before.before.before, good)))
 
 pub plain_good_spec : {M : Type 1} → statement M
 plain_good_spec =

@@ -52,7 +52,7 @@ module _ (c : tie.After-struct_known-in-loop-i-1 invariant-loop decreases-loop) 
   abbrev start : tie.Start invariant-loop decreases-loop
   start = at-loop.before.before.before
 
-  more : Going start.args.rows.now start.args.count at_mark.mark.last.0
+  more : Going start.args.rows.now start.args.count at_mark.mark.new.bits
       (row_kind start.args.rows.now at-loop.loop-i.at) (at-loop.loop-i.odds + at-step.Row-step.result.odds)
       at-step.Row-step.result.end (at-loop.loop-i.i + 1)
   more =
@@ -63,7 +63,7 @@ module _ (c : tie.After-struct_known-in-loop-i-1 invariant-loop decreases-loop) 
       going_next rows start.args.count l.marks l.kind l.odds l.at l.i l.inv.1 r _
       (omega (arith, at-step.loop-i-test.taken)) (at-step.Row-step.ensures (and_left _ _ fine))
       (leb-true l.kind (row_kind rows l.at) (and_right r.fine _ fine))
-      at_mark.mark.kept.0 at_mark.mark.ensures
+      at_mark.mark.kept.bits at_mark.mark.ensures
 
 add-odds : tie.Need-overflow_add-odds invariant-loop decreases-loop
 add-odds c =

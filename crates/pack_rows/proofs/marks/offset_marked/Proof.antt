@@ -24,11 +24,11 @@ module _ (c : tie.Joined-absent-2) where
 
 returns : tie.Need-returns-then-rows-at
 returns c =
-    let j = c.before in
+    let j = c in
     let s = j in
     let a = s.args in
     λ n fine.
-    out-of-rows a.rows.now n a.marks.now fine s.requires.1 a.kind a.o (rw (place_is j) at c.if-rows-at.true)
+    out-of-rows a.rows.now n a.marks.now fine s.requires.1 a.kind a.o (rw (place_is j.before) at c.if-rows-at.true)
 
 is-marked-requires : tie.Need-is_marked-requires
 is-marked-requires c κs =
@@ -38,12 +38,12 @@ is-marked-requires c κs =
 returns-2 : tie.Need-returns
 returns-2 c =
     let e = c in
-    let j = e.before.before.before in
+    let j = e in
     let s = j in
     let a = s.args in
     λ n fine.
-    rw (c.is_marked.ensures, place_is j, wanted-is j)
-    (in_rows a.rows.now n a.marks.now fine s.requires.1 a.kind a.o (rw (place_is j) at e.if-rows-at.false))
+    rw (c.is_marked.ensures, place_is j.before.before.before, wanted-is j.before.before.before)
+    (in_rows a.rows.now n a.marks.now fine s.requires.1 a.kind a.o (rw (place_is j.before.before.before) at e.if-rows-at.false))
 
 pub offset_marked_spec : {M : Type 1} → statement M
 offset_marked_spec =

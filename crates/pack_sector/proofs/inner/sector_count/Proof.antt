@@ -34,35 +34,35 @@ some c = sym (asked c.before) ∙ c.if-has_counts.true
 count-said-requires : tie.Need-count_said-requires
 count-said-requires c κs =
     let s = start c.before in
-    (trailed (pack c.before) s.pre.0.sized _ c.layout_in-layout.ensures, (some c, s.pre.1))
+    (trailed (pack c.before) s.requires.0.sized _ c.layout_in-layout.ensures, (some c, s.requires.1))
 
 returns : tie.Need-returns-then-has_counts
 returns c =
-    let at-edition = c.before.before in
-    let s = start at-edition in
-    c.count_said.ensures ∙ read-is-counted (pack at-edition) s.pre.0.counts (some c.before) s.args.digit s.pre.1
+    let at-edition = c in
+    let s = start at-edition.before.before in
+    c.count_said.ensures ∙ read-is-counted (pack at-edition.before.before) s.requires.0.counts (some c.before) s.args.digit s.requires.1
 
 count-digits-requires : tie.Need-count_digits-counts-requires
 count-digits-requires c κs =
-    let at-edition = c.before.before in
-    let s = start at-edition in
+    let at-edition = c in
+    let s = start at-edition.before.before in
     let laid = at-edition.layout_in-layout.ensures in (
-      omega (arith, laid.point, point-more (edition (pack at-edition))),
-      points-inside (pack at-edition) s.pre.0.sized c.trailer_number-start.ensures.0 laid.point s.pre.0.counted,
+      omega (arith, laid.point, point-more (edition (pack at-edition.before.before))),
+      points-inside (pack at-edition.before.before) s.requires.0.sized c.trailer_number-start.ensures.0 laid.point s.requires.0.counted,
     )
 
 returns-2 : tie.Need-returns
 returns-2 c =
     let counted = c in
     let read = counted in
-    let at-edition = read.before.before.before.before in
-    let s = start at-edition in
-    let p = pack at-edition in
+    let at-edition = read in
+    let s = start at-edition.before.before.before.before in
+    let p = pack at-edition.before.before.before.before in
     ap (λ l. get_or l s.args.digit 0)
     (counted.count_digits-counts.ensures
     ∙ ap sector_counts
-    (digits-as p at-edition.layout_in-layout.ensures.point s.pre.0.counted read.trailer_number-start.ensures.0))
-    ∙ counts-at (point_digits p) s.args.digit s.pre.1
+    (digits-as p at-edition.layout_in-layout.ensures.point s.requires.0.counted read.trailer_number-start.ensures.0))
+    ∙ counts-at (point_digits p) s.args.digit s.requires.1
 
 pub sector_count_spec : {M : Type 1} → statement M
 sector_count_spec =

@@ -33,41 +33,41 @@ module _ (c : tie.After-has_suffix) where
 
 returns : tie.Need-returns-then-not-there
 returns c =
-    let s = c.before.before.before in
+    let s = c in
     c.refused.ensures
-    ∙ sym (no-point s.args.pack.now s.args.k (sym (tested s) ∙ c.if-not-there.true))
+    ∙ sym (no-point s.args.pack.now s.args.k (sym (tested s.before.before.before) ∙ c.if-not-there.true))
 
 returns-2 : tie.Need-returns-then-not-has_suffix
 returns-2 c =
-    let at-edition = c.before.before in
-    let at-point = at-edition.before.before in
-    let s = start at-point in
+    let at-edition = c in
+    let at-point = at-edition in
+    let s = start at-point.before.before.before.before in
     c.refused-then-not-has_suffix.ensures
     ∙ sym
-    (no_suffix s.args.pack.now s.args.k (there at-point)
-    (sym (asked at-edition) ∙ c.if-not-has_suffix.true))
+    (no_suffix s.args.pack.now s.args.k (there at-point.before.before.before.before)
+    (sym (asked at-edition.before.before) ∙ c.if-not-has_suffix.true))
 
 suffix-number-requires : tie.Need-suffix_number-requires
 suffix-number-requires c κs =
-    let at-point = c.before.before.before in
-    let s = start at-point in
+    let at-point = c in
+    let s = start at-point.before.before.before.before in
     let k = s.args.k in (
-      s.pre.0,
+      s.requires.0,
       (
-        leb-true 1 k (and_left (leb 1 k) _ (there at-point)),
-        leb-true k (point_count s.args.pack.now) (and_right (leb 1 k) _ (there at-point)),
+        leb-true 1 k (and_left (leb 1 k) _ (there at-point.before.before.before.before)),
+        leb-true k (point_count s.args.pack.now) (and_right (leb 1 k) _ (there at-point.before.before.before.before)),
       ),
     )
 
 returns-3 : tie.Need-returns
 returns-3 c =
-    let at-edition = c.before.before in
-    let at-point = at-edition.before.before in
-    let s = start at-point in
+    let at-edition = c in
+    let at-point = at-edition in
+    let s = start at-point.before.before.before.before in
     ap Value c.suffix_number.ensures
     ∙ sym
-    (its-suffix s.args.pack.now s.args.k (there at-point)
-    (sym (asked at-edition) ∙ c.if-not-has_suffix.false))
+    (its-suffix s.args.pack.now s.args.k (there at-point.before.before.before.before)
+    (sym (asked at-edition.before.before) ∙ c.if-not-has_suffix.false))
 
 pub suffix_at_spec : {M : Type 1} → statement M
 suffix_at_spec =

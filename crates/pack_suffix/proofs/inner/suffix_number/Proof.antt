@@ -27,7 +27,7 @@ module _ (c : tie.After-trailer_number-start) where
   place = ap₂ (λ s w. s + w * (k - 1)) c.trailer_number-start.ensures.0 c.layout_in-layout.ensures.point
 
   here : PointIn pack (point_place pack k)
-  here = point-in pack start.pre.0 (k - 1) (point_place pack k) (omega (arith, start.pre.1.0, start.pre.1.1)) refl
+  here = point-in pack start.requires.0 (k - 1) (point_place pack k) (omega (arith, start.requires.1.0, start.requires.1.1)) refl
 
 mul_at : tie.Need-overflow_mul-at
 mul_at c = omega (arith, place c.before, here c.before, (start c.before).good.0)
@@ -44,8 +44,8 @@ number-within-requires c κs = (omega (arith, place c.before, here c.before), om
 returns : tie.Need-returns
 unfolding number_at
 returns c =
-    let read = c.before.before in
-    c.number_within.ensures.0 ∙ ap (λ at. number_at (pack read) (at + suffix_at) suffix_width) (place read)
+    let read = c in
+    c.number_within.ensures.0 ∙ ap (λ at. number_at (pack read.before.before) (at + suffix_at) suffix_width) (place read.before.before)
 
 pub suffix_number_spec : {M : Type 1} → statement M
 suffix_number_spec =

@@ -28,31 +28,31 @@ module _ (l : tie.After-fresh_label-fresh) where
 
   told : Told text l.fresh_label-fresh.result.answer l.fresh_label-fresh.result.bytes
   told =
-      subst (λ (o : Outcome Answer). ToldBy text o) (sym l.fresh_label-fresh.ensures.0)
-      (view-told start.args.table.now start.args.points.now start.args.place start.pre.1 (zeros 499)
+      subst (λ (o : Outcome Answer). ToldBy text o) (sym l.fresh_label-fresh.ensures.bytes_value)
+      (view-told start.args.table.now start.args.points.now start.args.place start.requires.1 (zeros 499)
       (size 499))
 
 array-share-prefix-label : tie.Need-slice_bounds-label-end
 array-share-prefix-label c =
-    let l = c.before.before in
-    (told-value (text l) _ (told l) c.in-Value.is refl).0
+    let l = c in
+    (told-value (text l.before.before) _ (told l.before.before) c.in-Value.is refl).0
 
 slice-aggregate-text-at : tie.Need-slice_bounds-text_at-end
 slice-aggregate-text-at c =
-    let l = c.before.before.before in
-    sym (length-take-le _ _ (told-value (text l) _ (told l) c.in-Value.is refl).0)
+    let l = c in
+    sym (length-take-le _ _ (told-value (text l.before.before.before) _ (told l.before.before.before) c.in-Value.is refl).0)
 
 returns : tie.Need-returns-in-Value
 returns c =
     let a = c in
-    let l = a.before.before.before.before.before.before.before in
-    fed-as (told-value (text l) _ (told l) a.in-Value.is refl).1 c.text_at.ensures
+    let l = a in
+    fed-as (told-value (text l.before.before.before.before.before.before.before) _ (told l.before.before.before.before.before.before.before) a.in-Value.is refl).1 c.text_at.ensures
 
 returns-2 : tie.Need-returns-in-Refused
 returns-2 c =
     let a = c in
-    let l = a.before.before.before.before.before.before in
-    fed-as (told-refused (text l) _ _ _ (told l) a.in-Refused.is) c.refused_at.ensures
+    let l = a in
+    fed-as (told-refused (text l.before.before.before.before.before.before) _ _ _ (told l.before.before.before.before.before.before) a.in-Refused.is) c.refused_at.ensures
 
 pub view_at_spec : {M : Type 1} → statement M
 view_at_spec =

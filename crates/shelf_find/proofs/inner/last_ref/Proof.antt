@@ -32,20 +32,20 @@ module _ (u : tie.After-upper_ref-end) where
   -- the numbers find what the records find
   same : last_found_in numbers last start.args.r ≡ last_found start.args.s file start.args.r
   unfolding last_found
-  same = found_as numbers (ref_at start.args.s file) last start.args.r start.pre.1.each
+  same = found_as numbers (ref_at start.args.s file) last start.args.r start.requires.1.each
 
   inside : 1 < u.upper_ref-end.result → u.upper_ref-end.result - 1 < length start.args.refs.now
   inside h =
       let e = end_is in
-      omega (arith, upper-to numbers start.args.r last (omega arith), start.pre.1.long)
+      omega (arith, upper-to numbers start.args.r last (omega arith), start.requires.1.long)
 
 upper-ref-requires : tie.Need-upper_ref-end-requires
 upper-ref-requires c κs = omega (arith, c.last_of.ensures, c.requires.1.long)
 
 returns : tie.Need-returns-then-end-le1
 returns c =
-    let u = c.before in
-    sym (found_none (numbers u) (start u).args.r (last u) (rw (end_is u) at c.if-end-le1.true)) ∙ same u
+    let u = c in
+    sym (found_none (numbers u.before) (start u.before).args.r (last u.before) (rw (end_is u.before) at c.if-end-le1.true)) ∙ same u.before
 
 mul-if2 : tie.Need-offset_bounds-refs-row
 mul-if2 c = omega (arith, inside c.before c.if-end-le1.false)
@@ -58,20 +58,20 @@ cast-if2 c = omega (arith, c.shared_slice_known-3-1.given (c.upper_ref-end.resul
 
 returns-2 : tie.Need-returns-then-refs-row
 returns-2 c =
-    let u = c.before.before.before in
-    rw (end_is u)
+    let u = c in
+    rw (end_is u.before.before.before)
     (sym
-    (found_here (numbers u) (start u).args.r (last u) (rw (end_is u) at c.if-end-le1.false)
-    (rw (end_is u) at c.if-refs-row.true))
-    ∙ same u)
+    (found_here (numbers u.before.before.before) (start u.before.before.before).args.r (last u.before.before.before) (rw (end_is u.before.before.before) at c.if-end-le1.false)
+    (rw (end_is u.before.before.before) at c.if-refs-row.true))
+    ∙ same u.before.before.before)
 
 returns-3 : tie.Need-returns-else-refs-row
 returns-3 c =
-    let u = c.before.before.before in
+    let u = c in
     sym
-    (found-other (numbers u) (start u).args.r (last u) (rw (end_is u) at c.if-end-le1.false)
-    (λ e. c.if-refs-row.false (rw (end_is u) e)))
-    ∙ same u
+    (found-other (numbers u.before.before.before) (start u.before.before.before).args.r (last u.before.before.before) (rw (end_is u.before.before.before) at c.if-end-le1.false)
+    (λ e. c.if-refs-row.false (rw (end_is u.before.before.before) e)))
+    ∙ same u.before.before.before
 
 pub last_ref_spec : {M : Type 1} → statement M
 last_ref_spec =

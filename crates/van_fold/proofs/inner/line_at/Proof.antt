@@ -89,8 +89,8 @@ module _ (c : tie.After-printed_at invariant-loop decreases-loop) where
 
 row-at-requires : tie.Need-row_at-i-requires invariant-loop decreases-loop
 row-at-requires c κs =
-    let p = c.before.before in
-    going-room (first p) (others p (done_at (k p.before))) (row p refl) (start p.before).pre
+    let p = c in
+    going-room (first p) (others p (done_at (k p.before))) (row p refl) (start p.before).requires
 
 done-at-requires : tie.Need-done_at-at-requires invariant-loop decreases-loop
 done-at-requires c κs =
@@ -99,19 +99,19 @@ done-at-requires c κs =
 
 -- what is done of the line then
 behind : (c : tie.After-done_at-at invariant-loop decreases-loop)
-    → let s = c.before.before.before.before.before.before.before in
-    (1 ≤ c.done_at-at.result) × (at s + c.done_at-at.result ≤ length (line s))
+    → let s = c in
+    (1 ≤ c.done_at-at.result) × (at s.before.before.before.before.before.before.before + c.done_at-at.result ≤ length (line s.before.before.before.before.before.before.before))
 behind c =
-    let s = c.before.before.before.before.before.before.before in
-    let b = broken s in (
+    let s = c in
+    let b = broken s.before.before.before.before.before.before.before in (
       omega (arith, c.done_at-at.ensures, b.some, b.low),
-      omega (arith, c.done_at-at.ensures, b.few, b.high, long s),
+      omega (arith, c.done_at-at.ensures, b.few, b.high, long s.before.before.before.before.before.before.before),
     )
 
 add_at : tie.Need-overflow_add-at invariant-loop decreases-loop
 add_at c =
-    let s = c.before.before.before.before.before.before.before in
-    omega (arith, (behind c).1, (start s).well_formed.0.1)
+    let s = c in
+    omega (arith, (behind c).1, (start s.before.before.before.before.before.before.before).well_formed.0.1)
 
 loop-less : tie.Need-loop-at-smaller invariant-loop decreases-loop
 loop-less c = omega (arith, (behind c).0, (behind c).1)
@@ -119,10 +119,10 @@ loop-less c = omega (arith, (behind c).0, (behind c).1)
 loop-again : tie.Need-loop-at-preserved invariant-loop decreases-loop
 loop-again c =
     let r = c in
-    let p = r.before.before.before.before.before.before in (
+    let p = r in (
       (behind c).1,
       search rules,
-      going_step (others p c.done_at-at.result) (row p c.done_at-at.ensures) r.row_at-i.ensures (start p.before).pre,
+      going_step (others p.before.before.before.before.before.before c.done_at-at.result) (row p.before.before.before.before.before.before c.done_at-at.ensures) r.row_at-i.ensures (start p.before.before.before.before.before.before.before).requires,
     )
 
 -- the last row
@@ -138,13 +138,13 @@ last c =
 
 row-at-requires-2 : tie.Need-row_at-requires invariant-loop decreases-loop
 row-at-requires-2 c κs =
-    let end = c.before.before in
+    let end = c in
     going-left (last end) end.requires
 
 returns : tie.Need-returns invariant-loop decreases-loop
 returns c =
     let r = c in
-    let end = r.before.before.before.before.before in
+    let end = r in
     going-last (last end) r.row_at.ensures end.requires
 
 pub line_at_spec : {M : Type 1} → statement M

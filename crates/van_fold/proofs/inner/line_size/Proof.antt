@@ -72,13 +72,13 @@ done-at-requires c κs = omega (arith, is c.before, space-low columns (drop (at-
 
 -- what is done of the line then
 behind : (c : tie.After-done_at-at invariant-loop decreases-loop)
-    → let space = c.before.before in
-    (1 ≤ c.done_at-at.result) × ((at-loop space).loop-at.at + c.done_at-at.result ≤ length (line space))
+    → let space = c in
+    (1 ≤ c.done_at-at.result) × ((at-loop space.before.before).loop-at.at + c.done_at-at.result ≤ length (line space.before.before))
 behind c =
-    let space = c.before.before in
-    let b = broken space in (
+    let space = c in
+    let b = broken space.before.before in (
       omega (arith, c.done_at-at.ensures, b.some, b.low),
-      omega (arith, c.done_at-at.ensures, b.few, b.high, long space),
+      omega (arith, c.done_at-at.ensures, b.few, b.high, long space.before.before),
     )
 
 add_at : tie.Need-overflow_add-at invariant-loop decreases-loop

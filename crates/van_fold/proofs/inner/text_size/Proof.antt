@@ -33,35 +33,35 @@ module _ (c : tie.After-line_end-end invariant-loop decreases-loop) where
 
 -- its rows, counted
 next : (c : tie.After-line_size-size invariant-loop decreases-loop)
-    → let end = c.before.before in
-    let l = (at-loop end).loop-at in
-    Counted (text_rows (text end)) (text_rows (drop (end.line_end-end.result + 1) (text end)))
+    → let end = c in
+    let l = (at-loop end.before.before).loop-at in
+    Counted (text_rows (text end.before.before)) (text_rows (drop (end.line_end-end.result + 1) (text end.before.before)))
     (l.rows + c.line_size-size.result.rows) (l.bytes + c.line_size-size.result.bytes)
 next c =
-    let end = c.before.before in
-    let l = (at-loop end).loop-at in
-    text-next (text end) l.at l.inv end.loop-at-test.true end.line_end-end.ensures c.line_size-size.ensures
+    let end = c in
+    let l = (at-loop end.before.before).loop-at in
+    text-next (text end.before.before) l.at l.inv end.loop-at-test.true end.line_end-end.ensures c.line_size-size.ensures
 
 add-rows : tie.Need-overflow_add-rows invariant-loop decreases-loop
 add-rows c =
-    let end = c.before.before.before in
-    omega (arith, (text-low (text end) (next c.before)).0, (at-loop end).well_formed.0.1)
+    let end = c in
+    omega (arith, (text-low (text end.before.before.before) (next c.before)).0, (at-loop end.before.before.before).well_formed.0.1)
 
 add-bytes : tie.Need-overflow_add-bytes invariant-loop decreases-loop
 add-bytes c =
-    let size = c.before.before in
-    let end = size.before.before in
-    omega (arith, (text-low (text end) (next size)).1, (at-loop end).well_formed.0.1)
+    let size = c in
+    let end = size in
+    omega (arith, (text-low (text end.before.before.before.before) (next size.before.before)).1, (at-loop end.before.before.before.before).well_formed.0.1)
 
 add_at : tie.Need-overflow_add-at invariant-loop decreases-loop
 add_at c =
-    let end = c.before.before.before.before in
-    omega (arith, high end, (at-loop end).well_formed.0.1)
+    let end = c in
+    omega (arith, high end.before.before.before.before, (at-loop end.before.before.before.before).well_formed.0.1)
 
 loop-less : tie.Need-loop-at-smaller invariant-loop decreases-loop
 loop-less c =
-    let end = c.before.before.before.before in
-    omega (arith, low end, end.loop-at-test.true)
+    let end = c in
+    omega (arith, low end.before.before.before.before, end.loop-at-test.true)
 
 returns : tie.Need-returns invariant-loop decreases-loop
 returns c =

@@ -47,7 +47,7 @@ module _ (c : tie.After-line_end-end invariant-loop decreases-loop) where
   high = line-within text at-loop.loop-at.at (omega (arith, c.loop-at-test.true)) c.line_end-end.ensures
 
   room : 0 + length (ended (text_rows text)) ≤ length start.args.out.now
-  room = omega (arith, start.pre)
+  room = omega (arith, start.requires)
 
   abbrev first : List ℕ
   first = ended (line_rows (take (end - at-loop.loop-at.at) (drop at-loop.loop-at.at text)))
@@ -60,24 +60,24 @@ module _ (c : tie.After-line_end-end invariant-loop decreases-loop) where
 
 line-at-requires : tie.Need-line_at-i-requires invariant-loop decreases-loop
 line-at-requires c κs =
-    let e = c.before.before in
+    let e = c in
     going-room (first e) (others e) (line e) (room e)
 
 add_at : tie.Need-overflow_add-at invariant-loop decreases-loop
 add_at c =
-    let e = c.before.before.before.before.before in
-    omega (arith, high e, (start e).well_formed.0.1)
+    let e = c in
+    omega (arith, high e.before.before.before.before.before, (start e.before.before.before.before.before).well_formed.0.1)
 
 loop-less : tie.Need-loop-at-smaller invariant-loop decreases-loop
 loop-less c =
-    let e = c.before.before.before.before.before in
-    omega (arith, low e, e.loop-at-test.true)
+    let e = c in
+    omega (arith, low e.before.before.before.before.before, e.loop-at-test.true)
 
 loop-again : tie.Need-loop-at-preserved invariant-loop decreases-loop
 loop-again c =
     let w = c in
-    let e = w.before.before.before.before.before in
-    (search rules, going_step (others e) (line e) w.line_at-i.ensures (room e))
+    let e = w in
+    (search rules, going_step (others e.before.before.before.before.before) (line e.before.before.before.before.before) w.line_at-i.ensures (room e.before.before.before.before.before))
 
 returns : tie.Need-returns invariant-loop decreases-loop
 returns c =
