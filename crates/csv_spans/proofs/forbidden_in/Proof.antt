@@ -20,16 +20,16 @@ module _ (c : tie.After-struct_known-1) where
   dependent-read = c.before
 
   abbrev street-read : tie.After-text_len-street
-  street-read = dependent-read.before
+  street-read = dependent-read.before.before
 
   abbrev name-read : tie.After-text_len-name
-  name-read = street-read.before
+  name-read = street-read.before.before
 
   abbrev sub_read : tie.After-text_len-sub
-  sub_read = name-read.before
+  sub_read = name-read.before.before
 
   abbrev start : tie.Start
-  start = sub_read.before.before
+  start = sub_read.before.before.before
 
   abbrev text : Span → List ℕ
   text s = text_in2 start.args.csv.now start.args.csv.now s

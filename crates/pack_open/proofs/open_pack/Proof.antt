@@ -45,7 +45,7 @@ module _ (c : tie.After-all_rows_good) where
   at_count = at-fine.before.before
 
   abbrev at-start : tie.After-trailer_number-start
-  at-start = at_count.before.before
+  at-start = at_count.before
 
   abbrev past : tie.Else-not-trailer_good
   past = at-start.before

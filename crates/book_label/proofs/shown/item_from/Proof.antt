@@ -29,7 +29,7 @@ module _ (c : tie.After-room_before-room) where
   written = c.before.before.before
 
   abbrev there : tie.Else-at-eq0
-  there = written.before.before.before
+  there = written.before.before.before.before
 
   abbrev start : tie.Start
   start = there.before.before.before.before

@@ -16,7 +16,7 @@ use Rattle.build_trailer.proofs.inner.trailer_at.Tie as tie
 -- the points are counted
 module _ (counted : tie.After-count_digits-counts) where
   abbrev start : tie.Start
-  start = counted
+  start = counted.before.before.before
 
   abbrev said : List ℕ → List ℕ
   said counts = let a = start.args in trailer_bytes newest a.rows a.start a.count a.code.now counts

@@ -30,13 +30,13 @@ decreases-loop points codes₀ last n₀ next₀ codes n next = last - next
 -- once it is known whether the view is live
 module _ (f : tie.After-is_live invariant-loop decreases-loop) where
   abbrev r : tie.After-point_record-rec invariant-loop decreases-loop
-  r = f.before.before.before
+  r = f.before.before
 
   abbrev l : tie.At-loop-next invariant-loop decreases-loop
   l = r.before.before
 
   abbrev k : tie.After-last_of-last invariant-loop decreases-loop
-  k = l.before.before.before
+  k = l.before.before
 
   abbrev s : tie.Start invariant-loop decreases-loop
   s = k.before.before.before

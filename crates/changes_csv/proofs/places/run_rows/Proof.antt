@@ -33,7 +33,7 @@ decreases-loop table points first count out₀ place₀ at₀ done₀ out place 
 -- a turn of the loop
 module _ (l : tie.At-loop-done invariant-loop decreases-loop) where
   abbrev start : tie.Start invariant-loop decreases-loop
-  start = l
+  start = l.before.before.before.before.before
 
   abbrev table : List ℕ
   table = start.args.table.now

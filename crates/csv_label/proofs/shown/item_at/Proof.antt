@@ -25,7 +25,7 @@ module _ (c : tie.After-room_before-room) where
   line = c.before.before.before
 
   abbrev start : tie.Start
-  start = line.before.before.before.before
+  start = line.before.before.before.before.before
 
   abbrev heading : List ℕ
   heading = row_line start.args.row

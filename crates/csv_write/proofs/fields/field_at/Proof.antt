@@ -16,7 +16,7 @@ text-at-requires c κs = room (at-text c)
 byte-at-requires : tie.Need-byte_at-requires
 byte-at-requires c κs =
     let text = c in
-    room (step (at-text text.before.before.before.before.before) text.text_at-i.ensures)
+    room (step (at-text text) text.text_at-i.ensures)
 
 returns : tie.Need-returns
 returns c =

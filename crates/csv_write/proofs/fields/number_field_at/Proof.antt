@@ -15,7 +15,7 @@ number-at-requires c κs = room (at-number c)
 byte-at-requires : tie.Need-byte_at-requires
 byte-at-requires c κs =
     let number = c in
-    room (step (at-number number.before.before.before) number.number_at-i.ensures)
+    room (step (at-number number) number.number_at-i.ensures)
 
 returns : tie.Need-returns
 returns c =

@@ -17,7 +17,7 @@ text-at-requires c κs = room (at-outward c)
 byte-at-requires : tie.Need-byte_at-j-requires
 byte-at-requires c κs =
     let outward = c in
-    room (step (at-outward outward.before.before.before.before.before) outward.text_at-i.ensures)
+    room (step (at-outward outward) outward.text_at-i.ensures)
 
 field-at-requires : tie.Need-field_at-requires
 field-at-requires c κs =

@@ -16,7 +16,7 @@ text-at-requires c κs = room (at_name c)
 tail-at-requires : tie.Need-tail_at-j-requires
 tail-at-requires c κs =
     let name = c in
-    room (step (at_name name.before.before.before.before.before) name.text_at-i.ensures)
+    room (step (at_name name) name.text_at-i.ensures)
 
 byte-at-requires : tie.Need-byte_at-requires
 byte-at-requires c κs =

@@ -17,7 +17,7 @@ places-at-requires c κs = room (at_places c)
 premises-at-requires : tie.Need-premises_at-j-requires
 premises-at-requires c κs =
     let places = c in
-    room (step (at_places places.before.before.before.before.before) places.places_at-i.ensures)
+    room (step (at_places places) places.places_at-i.ensures)
 
 ending-at-requires : tie.Need-ending_at-requires
 ending-at-requires c κs =

@@ -24,7 +24,7 @@ returns c = λ e. absurd (false≢true e)
 -- the record before needs one behind it, stands as it must, and so this is the one
 module _ (here : tie.After-whole_record) where
   abbrev start : tie.Start
-  start = here.before.before.before.before.before
+  start = here.before.before
 
   abbrev file : List ℕ
   file = start.args.file.now
@@ -57,14 +57,14 @@ is-fine-follower-requires here κs =
 returns-2 : tie.Need-returns
 returns-2 c =
     let here = c in
-    let rec = at point_format (file here.before) (i here.before) in
-    let high = (start here.before).requires.0.high in
+    let rec = at point_format (file here.before.before.before.before) (i here.before.before.before.before) in
+    let high = (start here.before.before.before.before).requires.0.high in
     λ e.
-    judged-fine point_format (file here.before) (i here.before) (rw here.whole_record.ensures at (c.is_fine_follower.ensures e))
-    (risen (eqb (i here.before) 1) _
-    (above-owner (owner here.before) rec (needing here.before) (follower here.before) (record-length 168 (file here.before) (i here.before - 1) (omega (arith, high)))
-    (record-length 168 (file here.before) (i here.before) (omega (arith, high)))))
-    (follower-placed (owner here.before) rec (at point_format (file here.before) (i here.before + 1)) (start here.before).requires.1 (follower here.before))
+    judged-fine point_format (file here.before.before.before.before) (i here.before.before.before.before) (rw here.whole_record.ensures at (c.is_fine_follower.ensures e))
+    (risen (eqb (i here.before.before.before.before) 1) _
+    (above-owner (owner here.before.before.before.before) rec (needing here.before.before.before.before) (follower here.before.before.before.before) (record-length 168 (file here.before.before.before.before) (i here.before.before.before.before - 1) (omega (arith, high)))
+    (record-length 168 (file here.before.before.before.before) (i here.before.before.before.before) (omega (arith, high)))))
+    (follower-placed (owner here.before.before.before.before) rec (at point_format (file here.before.before.before.before) (i here.before.before.before.before + 1)) (start here.before.before.before.before).requires.1 (follower here.before.before.before.before))
 
 pub is_standing_follower_spec : {M : Type 1} → statement M
 is_standing_follower_spec =

@@ -26,7 +26,7 @@ bytes-at-requires c κs = room (begun c)
 spaced-at-requires : tie.Need-spaced_at-j-requires
 spaced-at-requires c κs =
     let word = c in
-    room (step (begun word.before.before.before) word.bytes_at-i.ensures)
+    room (step (begun word) word.bytes_at-i.ensures)
 
 byte-at-requires : tie.Need-byte_at-len-requires
 byte-at-requires c κs =

@@ -18,7 +18,7 @@ bytes-at-requires c κs = room (at-start c)
 spaced-at-requires : tie.Need-spaced_at-j-requires
 spaced-at-requires c κs =
     let word = c in
-    room (step (at-start word.before.before.before.before) word.bytes_at-i.ensures)
+    room (step (at-start word) word.bytes_at-i.ensures)
 
 byte-at-requires : tie.Need-byte_at-requires
 byte-at-requires c κs =

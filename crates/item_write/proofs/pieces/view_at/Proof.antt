@@ -19,7 +19,7 @@ bytes-at-requires c κs = room (at-start c)
 spaced-at-requires : tie.Need-spaced_at-j-requires
 spaced-at-requires c κs =
     let word = c in
-    room (step (at-start word.before.before.before.before) word.bytes_at-i.ensures)
+    room (step (at-start word) word.bytes_at-i.ensures)
 
 bytes-at-requires-2 : tie.Need-bytes_at-requires
 bytes-at-requires-2 c κs =

@@ -17,7 +17,7 @@ line-at-requires c κs = room (at-start c)
 line-at-requires-2 : tie.Need-line_at-j-requires
 line-at-requires-2 c κs =
     let organisation = c in
-    room (step (at-start organisation.before.before.before.before.before.before.before.before) organisation.line_at-i.ensures)
+    room (step (at-start organisation) organisation.line_at-i.ensures)
 
 box-at-requires : tie.Need-box_at-requires
 box-at-requires c κs =

@@ -35,7 +35,7 @@ byte-at-requires : tie.Need-byte_at-requires
 byte-at-requires c κs =
     let text = c in
     let box = text in
-    room (step (step (at-box box.before.before.before) box.bytes_at-i.ensures) text.text_at-j.ensures)
+    room (step (step (at-box box) box.bytes_at-i.ensures) text.text_at-j.ensures)
 
 returns-2 : tie.Need-returns
 returns-2 c =

@@ -18,7 +18,7 @@ text-at-requires c κs = room (at-start c)
 byte-at-requires : tie.Need-byte_at-j-requires
 byte-at-requires c κs =
     let text = c in
-    room (step (at-start text.before.before.before.before.before) text.text_at-i.ensures)
+    room (step (at-start text) text.text_at-i.ensures)
 
 text-at-requires-2 : tie.Need-text_at-k-requires
 text-at-requires-2 c κs =

@@ -41,7 +41,7 @@ tail-at-requires : tie.Need-tail_at-k-requires
 tail-at-requires c κs =
     let name = c in
     let lead = name in
-    room (step (step (at-lead lead.before.before) lead.lead_at-i.ensures) name.text_at-j.ensures)
+    room (step (step (at-lead lead) lead.lead_at-i.ensures) name.text_at-j.ensures)
 
 byte-at-requires : tie.Need-byte_at-requires
 byte-at-requires c κs =

@@ -32,7 +32,7 @@ places-at-requires : tie.Need-places_at-k-requires
 places-at-requires c κs =
     let premises = c in
     let head = premises in
-    let one = step (at_head head.before.before.before.before) head.head_at-i.ensures in
+    let one = step (at_head head) head.head_at-i.ensures in
     room (step one premises.premises_at-j.ensures)
 
 pair-at-requires : tie.Need-pair_at-requires

@@ -26,7 +26,7 @@ tail-at-requires : tie.Need-tail_at-requires
 tail-at-requires c κs =
     let text = c in
     let number = text in
-    room (step (step (at-number number.before.before) number.number_at-i.ensures) text.text_at-j.ensures)
+    room (step (step (at-number number) number.number_at-i.ensures) text.text_at-j.ensures)
 
 returns : tie.Need-returns
 returns c =

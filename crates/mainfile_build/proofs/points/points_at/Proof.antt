@@ -131,7 +131,7 @@ offsets-at-requires : tie.Need-offsets_at-offsets-requires invariant-loop decrea
 offsets-at-requires c κs =
     let t = c in
     let l = t in
-    let f = start_of l.before.before.before in
+    let f = start_of l.before.before in
     record { placed = f.requires.placed; first_le_i = (l.loop-i.invariant.1, t.loop-i-test.true) }
 
 point-at-requires : tie.Need-point_at-end-requires invariant-loop decreases-loop

@@ -147,8 +147,8 @@ loop-again c =
 returns-2 : tie.Need-returns invariant-loop decreases-loop
 returns-2 c =
     let l = c in
-    let a = (start_of l).args in
-    let stop = end (start_of l) in
+    let a = (start_of l.before).args in
+    let stop = end (start_of l.before) in
     let none = packed-end a.addresses.now a.organisations.now l.loop-i.i stop c.loop-i-test.false in
     let done = marking-end (marking-as none l.loop-i.invariant.5) in
     record { said = done.0; marks_all = λ e. done.1 }

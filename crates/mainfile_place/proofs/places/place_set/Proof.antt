@@ -85,13 +85,13 @@ place-kind-requires-3 c.before.before.before.before.before.before.before.before.
 place-kind-requires-4 : tie.Need-place_kind-fourth-requires
 place-kind-requires-4 c.before.before.before.before.before.before κs =
     let w = c.before.before.before.before in
-    let s = from₃ w in record { file_bound = (s.requires.blocks_for.of_buildings, (kind-few (files s.before.before.before.before.before.before.before.before.before.before.before.before.before.before.before.before.before.before.before.before.before.before.before.before.before.before) s.requires.accepted_rows 4).1); start_bound = omega (arith, (few₁ (first (second w))).1, (few₂ (second w)).1, (few₃ w.before.before.before.before.before.before).1) }
+    let s = from₃ w in record { file_bound = (s.requires.blocks_for.of_buildings, (kind-few (files s.before.before.before.before.before.before.before.before.before.before.before.before.before.before.before.before.before.before.before.before.before) s.requires.accepted_rows 4).1); start_bound = omega (arith, (few₁ (first (second w))).1, (few₂ (second w)).1, (few₃ w.before.before.before.before.before.before).1) }
 
 place-kind-requires-5 : tie.Need-place_kind-fifth-requires
 place-kind-requires-5 c.before κs =
     let w = c.before.before.before.before in
     let v = third w in
-    let s = from₄ w in record { file_bound = (s.requires.blocks_for.of_sub_buildings, (kind-few (files s.before.before.before.before.before.before.before.before.before.before.before.before.before.before.before.before.before.before.before.before.before.before.before.before.before.before.before.before.before.before.before) s.requires.accepted_rows 5).1); start_bound = omega (arith, (few₁ (first (second v))).1, (few₂ (second v)).1, (few₃ v.before.before.before.before.before).1, (few₄ w.before).1) }
+    let s = from₄ w in record { file_bound = (s.requires.blocks_for.of_sub_buildings, (kind-few (files s.before.before.before.before.before.before.before.before.before.before.before.before.before.before.before.before.before.before.before.before.before.before.before.before.before.before) s.requires.accepted_rows 5).1); start_bound = omega (arith, (few₁ (first (second v))).1, (few₂ (second v)).1, (few₃ v.before.before.before.before.before).1, (few₄ w.before).1) }
 
 add-two : tie.Need-overflow_add-two
 add-two c = let w = c.before.before.before in omega (arith, (few₁ (first w)).1, (few₂ w.before.before.before.before.before.before.before.before.before.before.before).1)

@@ -26,7 +26,7 @@ module _ (c : tie.After-room_before-room) where
   line = c.before.before.before
 
   abbrev start : tie.Start
-  start = line.before.before.before.before.before.before.before.before.before.before
+  start = line.before.before.before.before.before.before.before.before.before.before.before
 
   abbrev files : Set
   files =

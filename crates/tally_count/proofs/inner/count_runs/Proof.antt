@@ -17,7 +17,7 @@ decreases-loop codes₀ counts₀ entries₀ i₀ codes counts entries i = lengt
 -- once the run's end is known
 module _ (r : tie.After-run_end-end invariant-loop decreases-loop) where
   abbrev l : tie.At-loop-i invariant-loop decreases-loop
-  l = r.before.before.before.before
+  l = r.before.before.before
 
   abbrev s : tie.Start invariant-loop decreases-loop
   s = l.before.before.before

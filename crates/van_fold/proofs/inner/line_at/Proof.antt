@@ -145,7 +145,7 @@ returns : tie.Need-returns invariant-loop decreases-loop
 returns c =
     let r = c in
     let end = r in
-    going-last (last end) r.row_at.ensures end.requires
+    going-last (last end.before.before.before.before.before) r.row_at.ensures end.requires
 
 pub line_at_spec : {M : Type 1} → statement M
 line_at_spec =

@@ -16,7 +16,7 @@ bytes-at-requires c κs = room (at_row c)
 byte-at-requires : tie.Need-byte_at-requires
 byte-at-requires c κs =
     let row = c in
-    room (step (at_row row.before.before.before.before) row.bytes_at-i.ensures)
+    room (step (at_row row) row.bytes_at-i.ensures)
 
 returns : tie.Need-returns
 returns c =
