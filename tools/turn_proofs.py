@@ -64,7 +64,7 @@ def follow(t,pl2,segs,log):
         k,cur=newchain(t,actual,P,log)
         return ['before']*k,(P,cur)
     s=segs[i];rest=segs[i+1:]
-    if s=='pre' and t.pre is None: return ['requires']+rest,None
+    if s=='pre': return ['requires']+rest,None
     if s=='pre' and t.pre is not None:
         f=t.pre['fields'];out=['requires']
         if len(f)>1 or (len(f)==1 and f[0] and f[0]!=''):
@@ -108,15 +108,17 @@ def tupix(rest,count):
     return None
 def named(t,v,rest):
     "fields of a call by name"
+    if rest and v.get('step') and (v['step'].startswith('if') or v['step'].endswith('test')):
+        return [{'taken':'true','left':'false'}.get(rest[0],rest[0])]+rest[1:]
     if not rest: return rest
-    if rest[0] in('last','new','kept') and v.get('callee') in t.params:
+    if rest[0] in('last','new','kept','auto') and v.get('callee') in t.params:
         k=0;j=1
         while j<len(rest) and rest[j]=='1': j+=1;k+=1
         if j<len(rest) and rest[j]=='0' and k<len(t.params[v['callee']]):
             w=rest[0]
             if w=='last': w='new'
             return [w,t.params[v['callee']][k]]+rest[j+1:]
-    if rest[0]=='ensures' and v.get('clauses'):
+    if False and v.get('clauses'):
         f=v['clauses'].get('fields') or []
         if len(f)>1:
             x=tupix(rest[1:],len(f))
@@ -145,7 +147,7 @@ def flat(t,segs,force=False):
         for p,v in t.pl.items():
             if v['step']==n: rest=named(t,v,rest);break
         return [t.steps[n]]+rest
-    if s=='pre' and t.pre is None: return ['requires']+rest
+    if s=='pre': return ['requires']+rest
     if s=='pre' and t.pre is not None:
         f=t.pre['fields'];out=['requires']
         if len(f)>1:
@@ -397,8 +399,10 @@ def convert(text,T,fn,log):
     text='\n'.join(out)
     text=re.sub(rf"not-(?:false|true) _ ([A-Za-z0-9_'-]+(?:\.before)*\.if-not-[A-Za-z0-9_'-]+\.(?:true|false))",r'\1',text)
     text=respec(t,T,text,log)
-    text=records(t,T,text,log)
     for o,n in t.args:
+        if o.startswith('.args '):
+            ov,nv=o.split('.')[-1],n.split('.')[-1]
+            for h in argheads: text=re.sub("(?<![A-Za-z0-9_'.-])"+re.escape(h)+r"\."+ov+"(?![A-Za-z0-9_'-])",h+'.'+nv,text)
         po=o.replace(' ','').replace('.',r'\.')
         for v in (po,po.replace('_','-')):
             text=re.sub(v+r"(?![A-Za-z0-9_'-])",n.replace(' ',''),text)

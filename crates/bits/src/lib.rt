@@ -1,4 +1,6 @@
 // Marks for places, a bit for each and 32 in a number: set, asked for, and looked for one after the other.
+#![tactic(auto)]
+
 pub mod inner;
 
 ghost use Rattle.std.specs.Prelude.{◌≡◌, ◌≤◌};

@@ -1,6 +1,8 @@
 // Building the pack of an outward code from a book and a table file. The book is judged first, then the table file, then the code,
 // then the delivery points of the code in order of place; the pack's length is known before its first byte is written, and a
 // refused call writes nothing.
+#![tactic(auto)]
+
 mod walks;
 mod whole;
 

@@ -1,4 +1,6 @@
 // What an event and tidying write into a book.
+#![tactic(auto)]
+
 mod all;
 pub mod inner;
 mod slot;

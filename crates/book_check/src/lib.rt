@@ -1,4 +1,6 @@
 // Whether bytes are a book, and how many delivery points it has.
+#![tactic(auto)]
+
 mod fine;
 pub mod inner;
 mod placed;

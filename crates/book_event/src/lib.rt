@@ -1,5 +1,7 @@
 // A book asked, changed by an event of a point file, and tidied. Any bytes may be asked; a refused call leaves the book
 // as it was.
+#![tactic(auto)]
+
 mod named;
 
 ghost use Rattle.std.specs.Prelude.{◌≡◌, [], length};

@@ -1,5 +1,7 @@
 // Labels asked of a book and a table file, by place and by code, one, in runs and listed: the book is judged first, then the
 // table file, then the code.
+#![tactic(auto)]
+
 mod asked;
 mod shown;
 mod walk;

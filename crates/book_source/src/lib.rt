@@ -1,4 +1,6 @@
 // Where the delivery points of a book stand, in order of place, and what is known of each.
+#![tactic(auto)]
+
 pub mod inner;
 
 ghost use Rattle.std.specs.Prelude.{◌≡◌};

@@ -1,4 +1,6 @@
 // The rows of a pack, written into a lent buffer that is known to be long enough.
+#![tactic(auto)]
+
 pub mod inner;
 mod organisations;
 mod used;

@@ -1,2 +1,4 @@
 // The trailer of a pack, written into a lent buffer that is known to be long enough.
+#![tactic(auto)]
+
 pub mod inner;

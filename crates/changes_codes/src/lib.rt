@@ -1,6 +1,8 @@
 // The outward codes of a point file's live views, rising, each with how many live views it has. The file is judged first;
 // then its records are gone through once, the codes of the live views are put in order and counted, and how many bytes are
 // needed is known before the first is written.
+#![tactic(auto)]
+
 mod entries;
 mod gather;
 

@@ -1,4 +1,6 @@
 // Rows of CSV PAF of a pair of files, by view.
+#![tactic(auto)]
+
 mod places;
 
 ghost use Rattle.std.specs.Prelude.{◌≡◌};

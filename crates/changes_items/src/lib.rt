@@ -1,4 +1,6 @@
 // Listings of a pair of files, by view and by code: each view's line, then its label or the line of its refusal.
+#![tactic(auto)]
+
 mod places;
 
 ghost use Rattle.std.specs.Prelude.{◌≡◌};

@@ -1,4 +1,6 @@
 // Labels asked of a pair of files, by view and by code: both files are judged first, then the code, then the view.
+#![tactic(auto)]
+
 pub mod inner;
 
 ghost use Rattle.std.specs.Prelude.{◌≡◌};

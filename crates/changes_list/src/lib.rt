@@ -1,4 +1,6 @@
 // What a point file lists: its views, a view's letter, the live views of a code.
+#![tactic(auto)]
+
 ghost use Rattle.std.specs.Prelude.{◌≡◌};
 ghost use Rattle.changes_list.specs.Listing.{views_answer, letter_at, letter_answer, live_at, live_answer};
 

@@ -1,4 +1,6 @@
 // The records of a point file between header and trailer.
+#![tactic(auto)]
+
 mod fine;
 mod follower;
 pub mod inner;

@@ -1,4 +1,6 @@
 // Runs of labels of a pair of files, by view and by code.
+#![tactic(auto)]
+
 pub mod inner;
 mod places;
 

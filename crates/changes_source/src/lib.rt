@@ -1,4 +1,6 @@
 // What a pair of files says: the table file as a shelf, and a view of the point file as a delivery point.
+#![tactic(auto)]
+
 ghost use Rattle.std.specs.Prelude.{◌≡◌};
 ghost use Rattle.changes_source.specs.Rows.{table_shelf};
 ghost use Rattle.changes_source.specs.Delivery.{key_places, keys_at, start_at, delivery_at};

@@ -1,4 +1,6 @@
 // The records of a table file between header and trailer.
+#![tactic(auto)]
+
 mod fine;
 pub mod inner;
 

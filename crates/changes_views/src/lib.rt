@@ -1,5 +1,7 @@
 // Views and live views of a point file: the step to the next one, how many there are, the k-th, and the number of one. Any
 // bytes may be asked; only of an accepted file is the answer what document 01 calls a view.
+#![tactic(auto)]
+
 ghost use Rattle.std.specs.Prelude.{◌≡◌};
 ghost use Rattle.changes_views.specs.Views.{wanted, last_of, next_wanted, wanted_count, wanted_at, view_number};
 

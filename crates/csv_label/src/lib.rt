@@ -1,4 +1,6 @@
 // Labels asked of a file of CSV PAF, one, in turn or listed: all rows are judged first, and once.
+#![tactic(auto)]
+
 mod places;
 mod shown;
 mod walk;

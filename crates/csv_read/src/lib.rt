@@ -1,4 +1,6 @@
 // Reading a file of CSV PAF: whether it is accepted, and where the fields of a row stand.
+#![tactic(auto)]
+
 mod fields;
 mod forms;
 pub mod inner;

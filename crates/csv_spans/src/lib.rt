@@ -1,4 +1,6 @@
 // Where the elements of a row stand in a file of CSV PAF, and which combination of them is forbidden.
+#![tactic(auto)]
+
 mod fields;
 pub mod inner;
 

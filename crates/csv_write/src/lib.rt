@@ -1,4 +1,6 @@
 // A row of CSV PAF, written into a lent buffer.
+#![tactic(auto)]
+
 mod carried;
 mod fields;
 pub mod inner;

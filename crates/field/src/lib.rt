@@ -1,4 +1,6 @@
 // Bytes and numbers compared; the definitions of digits, text fields and numeric-like texts, and their laws.
+#![tactic(auto)]
+
 ghost use Rattle.std.specs.Prelude.{◌≡◌, min};
 ghost use Rattle.field.specs.Digits.{digit};
 ghost use Rattle.field.specs.Text.{letter};

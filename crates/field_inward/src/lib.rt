@@ -1,5 +1,7 @@
 // Inward codes and delivery point suffixes, of any bytes and any length.
 // Each test answers the byte at which its first fault stands, counted from 1, and 0 where there is none.
+#![tactic(auto)]
+
 ghost use Rattle.std.specs.Prelude.{◌≡◌, eqb};
 ghost use Rattle.field_outward.specs.Inward.{inward_letter, inward_fault, suffix_fault};
 

@@ -1,5 +1,7 @@
 // Outward codes, of any bytes and any length; the definitions of inward codes and delivery point suffixes too.
 // Each test answers the byte at which its first fault stands, counted from 1, and 0 where there is none.
+#![tactic(auto)]
+
 pub mod inner;
 
 ghost use Rattle.std.specs.Prelude.{◌≡◌, [], ◌∷◌, length};

@@ -1,4 +1,6 @@
 // What a field says: the value of a numeric one; of another its text without padding, and whether that is numeric-like.
+#![tactic(auto)]
+
 ghost use Rattle.std.specs.Prelude.{◌≡◌, false, cond, ◌-◌, ◌≤◌, eqb, length};
 ghost use Rattle.field.specs.Test.{every};
 ghost use Rattle.field.specs.Digits.{digit_value, zero_digit, value_from, value};

@@ -1,5 +1,7 @@
 // Whether a field is well formed: what is tested alike in every record.
 // Each test of a field answers the byte at which its first fault stands, counted from 1, and 0 where there is none.
+#![tactic(auto)]
+
 ghost use Rattle.std.specs.Prelude.{◌≡◌, not};
 ghost use Rattle.field.specs.Test.{member, every, only, first_fault};
 ghost use Rattle.field.specs.Digits.{digit, digits_fault};

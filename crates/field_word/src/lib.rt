@@ -1,2 +1,4 @@
 // Four or eight bytes at once, read as one number.
+#![tactic(auto)]
+
 pub mod inner;

@@ -1,4 +1,6 @@
 // The files of fixed records: the kinds there are, when one is accepted, and how owners and followers stand in a point file.
+#![tactic(auto)]
+
 mod follow;
 pub mod inner;
 mod sequence;

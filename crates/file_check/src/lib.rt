@@ -12,6 +12,8 @@
 //   5 NotAbove   not above the record before it
 //   6 Follower   a record that may not stand between its neighbours
 // A refusal counts records and bytes from 1; the code counts records from 0. `file_formats` has what differs by kind.
+#![tactic(auto)]
+
 ghost use Rattle.std.specs.Prelude.{◌≡◌, ◌+◌, ◌-◌, ◌≤◌, ◌<◌};
 ghost use Rattle.file.specs.Check.{records, judged, scan, verdict, answered, checked};
 ghost use Rattle.file_check.specs.Scanning.{Scanning, Onward};

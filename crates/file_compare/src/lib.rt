@@ -1,4 +1,6 @@
 // Bytes compared, many at a time.
+#![tactic(auto)]
+
 mod above;
 pub mod inner;
 

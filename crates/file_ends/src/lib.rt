@@ -1,4 +1,6 @@
 // Header and trailer.
+#![tactic(auto)]
+
 ghost use Rattle.std.specs.Prelude.{◌≡◌};
 ghost use Rattle.file_ends.specs.Ends.{identifier, retired, header_ok, trailer_ok};
 

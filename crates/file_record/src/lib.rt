@@ -1,4 +1,6 @@
 // The records of a table file and of a point file: where each field stands, and how a record is read as a part of its file.
+#![tactic(auto)]
+
 pub mod inner;
 mod layout;
 mod parts;

@@ -1,4 +1,6 @@
 // The lines that stand between the labels of a listing, each in a buffer of its own, and an item put together.
+#![tactic(auto)]
+
 pub mod inner;
 mod pieces;
 

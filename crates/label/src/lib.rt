@@ -1,4 +1,6 @@
 // The label of elements whose texts stand in two lent slices: its definition and laws, and where the texts stand.
+#![tactic(auto)]
+
 mod shape;
 
 ghost use Rattle.std.specs.Prelude.{◌≡◌, ◌+◌};

@@ -1,4 +1,6 @@
 // How many bytes a label has.
+#![tactic(auto)]
+
 pub mod inner;
 
 ghost use Rattle.std.specs.Prelude.{◌≡◌, length};

@@ -1,2 +1,4 @@
 // How the premises of a label are written, by the rows of a table.
+#![tactic(auto)]
+
 pub mod inner;

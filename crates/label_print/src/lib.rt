@@ -1,4 +1,6 @@
 // The printing of a label into a lent buffer.
+#![tactic(auto)]
+
 ghost use Rattle.std.specs.Prelude.{◌≡◌, ◌≤◌, ◌<◌, length};
 ghost use Rattle.refusal.specs.Outcome.{said};
 ghost use Rattle.label.specs.Label.{label_of, room_outcome};

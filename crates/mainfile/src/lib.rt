@@ -1,1 +1,3 @@
+#![tactic(auto)]
+
 // A Mainfile set as a source: its definitions.

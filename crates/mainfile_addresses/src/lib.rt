@@ -1,4 +1,6 @@
 // The records of a Mainfile set's address file between header and trailer.
+#![tactic(auto)]
+
 mod fine;
 pub mod inner;
 

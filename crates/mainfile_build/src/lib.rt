@@ -1,5 +1,7 @@
 // Building the pack of an outward code from a set. The files are judged first, then the code, then the addresses of the code;
 // the pack's length is known before its first byte is written, and a refused call writes nothing.
+#![tactic(auto)]
+
 mod points;
 mod whole;
 

@@ -1,4 +1,6 @@
 // The check of a Mainfile set: its seven files in their order, and the first refusal.
+#![tactic(auto)]
+
 ghost use Rattle.std.specs.Prelude.{◌≡◌};
 ghost use Rattle.refusal.specs.Outcome.{after};
 ghost use Rattle.file.specs.Check.{checked};

@@ -1,6 +1,8 @@
 // The outward codes of an address file, rising, each with how many addresses it has. The file is judged first. It rises
 // by postcode, so that the addresses of a code stand together and the next code is found by halves: once to know how
 // many bytes are needed, and once to write them.
+#![tactic(auto)]
+
 mod walk;
 
 ghost use Rattle.std.specs.Prelude.{◌≡◌};

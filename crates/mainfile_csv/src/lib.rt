@@ -1,4 +1,6 @@
 // Rows of CSV PAF of a Mainfile set, by view.
+#![tactic(auto)]
+
 mod places;
 mod walk;
 

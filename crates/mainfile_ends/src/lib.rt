@@ -1,4 +1,6 @@
 // Header and trailer of the Mainfile's files.
+#![tactic(auto)]
+
 ghost use Rattle.std.specs.Prelude.{◌≡◌};
 ghost use Rattle.mainfile_ends.specs.Ends.{named_at, counted_at, zeros_named, nines_counted};
 ghost use Rattle.mainfile_ends.specs.Ends.{address_header_ok, address_trailer_ok};

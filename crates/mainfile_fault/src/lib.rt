@@ -1,1 +1,3 @@
+#![tactic(auto)]
+
 // Where the first fault of a Mainfile record stands: its fields and their tests.

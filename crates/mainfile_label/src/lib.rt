@@ -1,4 +1,6 @@
 // Labels asked of a Mainfile set, by view and by code: the seven files are judged first, then the code, then the view.
+#![tactic(auto)]
+
 pub mod inner;
 
 ghost use Rattle.std.specs.Prelude.{◌≡◌};

@@ -1,4 +1,6 @@
 // What a set lists: its views.
+#![tactic(auto)]
+
 ghost use Rattle.std.specs.Prelude.{◌≡◌};
 ghost use Rattle.mainfile.specs.Set.{set_of};
 ghost use Rattle.mainfile_list.specs.Listing.{views_answer};

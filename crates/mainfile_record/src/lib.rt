@@ -1,4 +1,5 @@
 // Where the fields of the Mainfile's records stand: the first byte of each, counted from 0. A field ends where the next begins.
+#![tactic(auto)]
 
 // A record of the localities file.
 #[derive(Clone, Copy)]

@@ -1,4 +1,6 @@
 // The records of a Mainfile set's files 1 to 6 between header and trailer.
+#![tactic(auto)]
+
 mod fine;
 pub mod inner;
 

@@ -1,4 +1,6 @@
 // Runs of labels and listings of a Mainfile set, by view and by code. Both are one walk; a listing has lines between.
+#![tactic(auto)]
+
 mod asked;
 pub mod inner;
 mod shown;

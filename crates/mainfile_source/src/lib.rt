@@ -1,5 +1,7 @@
 // What a Mainfile set says: each file of rows as a shelf, the organisation that an address record is joined to, and the
 // record as a delivery point.
+#![tactic(auto)]
+
 mod delivery;
 pub mod inner;
 mod organisations;

@@ -1,4 +1,6 @@
 // The texts of a delivery point of a set, gathered in one buffer, and where a label finds them there.
+#![tactic(auto)]
+
 pub mod inner;
 mod places;
 

@@ -1,4 +1,6 @@
 // The addresses of an outward code: they stand together, since the file rises by postcode, and are found by halves.
+#![tactic(auto)]
+
 pub mod inner;
 
 ghost use Rattle.std.specs.Prelude.{◌≡◌, ◌-◌};

@@ -1,4 +1,6 @@
 // Listings of a pack: each point's line, then its label.
+#![tactic(auto)]
+
 mod points;
 
 ghost use Rattle.std.specs.Prelude.{◌≡◌};

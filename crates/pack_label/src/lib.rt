@@ -1,4 +1,6 @@
 // Labels asked of a pack.
+#![tactic(auto)]
+
 pub mod inner;
 mod spans;
 

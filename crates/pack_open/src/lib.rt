@@ -1,4 +1,6 @@
 // Opening any bytes as a pack.
+#![tactic(auto)]
+
 ghost use Rattle.std.specs.Prelude.{◌≡◌, true};
 ghost use Rattle.refusal.specs.declared.Reason.TheVariants.{BadPack};
 ghost use Rattle.refusal.specs.declared.Answer.TheVariants.{Refused};

@@ -1,4 +1,6 @@
 // Where the parts of a pack stand, and numbers and texts at places of a pack.
+#![tactic(auto)]
+
 pub mod inner;
 mod kinds;
 mod layout;

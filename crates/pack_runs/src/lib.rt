@@ -1,4 +1,6 @@
 // Runs of labels of a pack.
+#![tactic(auto)]
+
 mod points;
 
 ghost use Rattle.std.specs.Prelude.{◌≡◌};

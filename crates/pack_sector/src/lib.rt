@@ -1,4 +1,6 @@
 // How many points a sector of a pack has.
+#![tactic(auto)]
+
 pub mod inner;
 
 ghost use Rattle.std.specs.Prelude.{◌≡◌};

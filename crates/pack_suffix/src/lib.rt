@@ -1,4 +1,6 @@
 // Delivery point suffixes asked of a pack.
+#![tactic(auto)]
+
 pub mod inner;
 
 ghost use Rattle.std.specs.Prelude.{◌≡◌};

@@ -1,5 +1,7 @@
 // Document 01's numbered refusals: their numbers and details, how one is made, and the one number in which an answer
 // reaches a C program.
+#![tactic(auto)]
+
 ghost use Rattle.std.specs.Prelude.{◌≡◌};
 ghost use Rattle.refusal.specs.Refusal.{later_number, number, detail, second, malformed_at, with_view};
 ghost use Rattle.refusal.specs.Packed.{word, packed};

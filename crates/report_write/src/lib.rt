@@ -1,4 +1,6 @@
 // What is printed of a pair of files, of at most 300 records each: document 01's "One run".
+#![tactic(auto)]
+
 mod blocks;
 
 ghost use Rattle.std.specs.Prelude.{◌≡◌, [], ◌∷◌, ◌++◌};

@@ -1,4 +1,6 @@
 // Labels asked in turn and written one behind the other: what is answered of such a run.
+#![tactic(auto)]
+
 ghost use Rattle.std.specs.Prelude.{◌≡◌};
 ghost use Rattle.run.specs.Packed.{packed_series, series_bytes};
 

@@ -1,5 +1,6 @@
 // The rows of a source. A shelf is a lent slice of records of one width, header first and trailer last, and a struct by value
 // that says how to read them; a record between the two is a row, and its number tells its kind and its key.
+#![tactic(auto)]
 
 // How the records of a shelf are read. Places count from a record's start.
 #[derive(Clone, Copy)]

@@ -1,2 +1,4 @@
 // Records of a shelf, and their numbers.
+#![tactic(auto)]
+
 pub mod inner;

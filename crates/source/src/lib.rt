@@ -1,5 +1,6 @@
 // What a delivery point says and what is printed of it, wherever it was read. The definitions know addresses; code knows a
 // delivery point as a struct by value, read once from its record by one reader for each source.
+#![tactic(auto)]
 
 // What code knows of a delivery point. Places are those of the slices that hold its texts: postcode, suffix and PO box in
 // one, the organisation in the same or another.

@@ -1,4 +1,6 @@
 // Refusals 8 and 9 of a delivery point, by its keys and the rows that these find.
+#![tactic(auto)]
+
 ghost use Rattle.std.specs.Prelude.{◌≡◌, cond};
 ghost use Rattle.source.specs.Delivery.{forbidden_in, lacking_from, missing_in, refusal_in};
 

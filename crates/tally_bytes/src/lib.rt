@@ -1,4 +1,6 @@
 // Entries as bytes: a code in four and its count in four.
+#![tactic(auto)]
+
 pub mod inner;
 
 // An entry as it is written.

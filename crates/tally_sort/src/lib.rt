@@ -1,2 +1,4 @@
 // Numbers put in rising order.
+#![tactic(auto)]
+
 pub mod inner;

@@ -1,4 +1,6 @@
 // The leaves as C functions, for the host tests alone: no part of the shipped library.
+#![tactic(auto)]
+
 ghost use Rattle.std.specs.Prelude.{◌≡◌, length};
 ghost use Rattle.field.specs.Digits.{digits_fault, value};
 ghost use Rattle.field.specs.Text.{text_fault, filled_fault, text_in, numeric_like};

@@ -1,5 +1,7 @@
 // The calls that a C program makes. Each answers one number, which packs the answer of the crate below; see the header,
 // include/ttwibonal.h.
+#![tactic(auto)]
+
 mod books;
 mod rows;
 mod sets;

@@ -1,5 +1,7 @@
 // The calls that a C program makes for the van printer. Each answers one number, which packs the answer of the crate
 // below; see the header, include/ttwvan.h.
+#![tactic(auto)]
+
 mod sets;
 
 ghost use Rattle.std.specs.Prelude.{◌≡◌};

@@ -1,6 +1,8 @@
 // Archived table and point files rewritten in place, so that no identifier is spaces: zero bytes in the header, 255 in the
 // trailer, and no other byte. A file that is not two or more whole records is left as it came. The answer is how many
 // identifiers were rewritten.
+#![tactic(auto)]
+
 pub mod inner;
 
 ghost use Rattle.std.specs.Prelude.{◌≡◌, ◌≤◌};

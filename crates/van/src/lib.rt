@@ -1,4 +1,6 @@
 // Labels for the van printer: what folding is, with its laws, and what the van library answers.
+#![tactic(auto)]
+
 ghost use Rattle.std.specs.Prelude.{◌≡◌};
 ghost use Rattle.van.specs.Said.{packed};
 

@@ -1,4 +1,6 @@
 // Bytes folded for the van printer into a lent buffer. All rows are counted first, so that a refused call writes nothing.
+#![tactic(auto)]
+
 pub mod inner;
 
 ghost use Rattle.std.specs.Prelude.{◌≡◌};

@@ -1,5 +1,7 @@
 // Labels asked of files or a pack and folded for the van printer: each is printed into a buffer of its own first, so that
 // the lower library's refusals come first.
+#![tactic(auto)]
+
 mod sets;
 
 ghost use Rattle.std.specs.Prelude.{◌≡◌};

@@ -39,14 +39,14 @@ fill-refs-requires c κs =
 mark-chosen-requires : tie.Need-mark_chosen-requires
 mark-chosen-requires c κs =
     let f = c.before.before.before in
-    record { known = known f; table_in_bounds = fresh-long (s f).args.table.now (s f).requires.packable.of_table 20000 (omega arith) }
+    (known f, fresh-long (s f).args.table.now (s f).requires.packable.of_table 20000 (omega arith))
 
 write-if-room-requires : tie.Need-write_if_room-requires
 write-if-room-requires c κs =
     let m = c.before.before.before.before.before.before in
     let f = m.before.before.before.before in
     let told = c.in-Fine.is in
-    record { known = known f; may_pack = (s f).requires; marked = fresh-marked 20000 refl m.mark_chosen.ensures told }
+    (known f, ((s f).requires, fresh-marked 20000 refl m.mark_chosen.ensures told))
 
 returns : tie.Need-returns-in-Fine
 returns c =

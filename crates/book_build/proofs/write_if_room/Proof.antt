@@ -53,23 +53,23 @@ module _ (o : tie.After-organisations_in-of_book) where
   pack = chosen_pack table s.args.book.now s.args.chosen.now s.args.code.now
 
   may : MayPack table s.args.book.now s.args.chosen.now s.args.code.now
-  may = s.requires.may_pack
+  may = s.requires.1.0
 
   placed : Placed (table_stock table) marks starts
-  placed = subst (λ (z : Shelf). Placed (stock_of z table) marks starts) t.table_shelf.ensures r.place_rows-of_table.ensures.placed
+  placed = subst (λ (z : Shelf). Placed (stock_of z table) marks starts) t.table_shelf.ensures r.place_rows-of_table.ensures.1.1
 
   rows_of : r.place_rows-of_table.result.rows ≡ all_count (table_stock table) marks
-  rows_of = r.place_rows-of_table.ensures.rows ∙ ap (λ (z : Shelf). all_count (stock_of z table) marks) t.table_shelf.ensures
+  rows_of = r.place_rows-of_table.ensures.0 ∙ ap (λ (z : Shelf). all_count (stock_of z table) marks) t.table_shelf.ensures
 
   bytes_of : r.place_rows-of_table.result.bytes ≡ all_bytes (table_stock table) marks
-  bytes_of = r.place_rows-of_table.ensures.bytes ∙ ap (λ (z : Shelf). all_bytes (stock_of z table) marks) t.table_shelf.ensures
+  bytes_of = r.place_rows-of_table.ensures.1.0 ∙ ap (λ (z : Shelf). all_bytes (stock_of z table) marks) t.table_shelf.ensures
 
   points : count ≡ length ds
   points = sym (packed-length s.args.book.now s.args.chosen.now)
 
   whole : length pack
       ≡ r.place_rows-of_table.result.bytes + o.organisations_in-of_book.result.bytes + point_width newest * count + trailer_width newest
-  whole = omega (arith, counted may.packable s.requires.marked placed, points, bytes_of, o.organisations_in-of_book.ensures.bytes)
+  whole = omega (arith, counted may.packable s.requires.1.1 placed, points, bytes_of, o.organisations_in-of_book.ensures.1)
 
   few : length pack < 4_294_967_295
   few = may.packable.small
@@ -110,23 +110,26 @@ add-rows c =
       arith,
       rows-small (may o.before.before.before.before.before).packable (s o.before.before.before.before.before).requires.1.1 (placed o.before.before.before.before.before),
       rows_of o.before.before.before.before.before,
-      o.organisations_in-of_book.ensures.rows,
+      o.organisations_in-of_book.ensures.0,
     )
 
 write-pack-requires : tie.Need-write_pack-requires
 write-pack-requires c κs =
     let o = c in
-    let is = written (may o.before.before.before.before.before).packable (s o.before.before.before.before.before).requires.1.1 (placed o.before.before.before.before.before) in record { known = (s o.before.before.before.before.before).requires.0; ready = record {
+    let is = written (may o.before.before.before.before.before).packable (s o.before.before.before.before.before).requires.1.1 (placed o.before.before.before.before.before) in (
+      (s o.before.before.before.before.before).requires.0,
+      record {
         of_rows =
             omega (
               arith,
               rows-counted (may o.before.before.before.before.before).packable (s o.before.before.before.before.before).requires.1.1 (placed o.before.before.before.before.before),
               rows_of o.before.before.before.before.before,
-              o.organisations_in-of_book.ensures.rows,
+              o.organisations_in-of_book.ensures.0,
             );
         of_points = points o.before.before.before.before.before;
         of_room = omega (arith, ap length is, whole o.before.before.before.before.before);
-      } }
+      },
+    )
 
 returns-2 : tie.Need-returns
 returns-2 c =

@@ -57,16 +57,16 @@ module _ (w : tie.After-count_wanted-count) where
   pack = live_pack table points code
 
   ready : Packable table points (packed_in points code) (live_in points code) code
-  ready = packable table points code s.requires.judged
+  ready = packable table points code s.requires.1.0
 
   placed : Placed (table_stock table) marks starts
-  placed = subst (λ (z : Shelf). Placed (stock_of z table) marks starts) t.table_shelf.ensures r.place_rows-of_table.ensures.placed
+  placed = subst (λ (z : Shelf). Placed (stock_of z table) marks starts) t.table_shelf.ensures r.place_rows-of_table.ensures.1.1
 
   rows_of : r.place_rows-of_table.result.rows ≡ all_count (table_stock table) marks
-  rows_of = r.place_rows-of_table.ensures.rows ∙ ap (λ (z : Shelf). all_count (stock_of z table) marks) t.table_shelf.ensures
+  rows_of = r.place_rows-of_table.ensures.0 ∙ ap (λ (z : Shelf). all_count (stock_of z table) marks) t.table_shelf.ensures
 
   bytes_of : r.place_rows-of_table.result.bytes ≡ all_bytes (table_stock table) marks
-  bytes_of = r.place_rows-of_table.ensures.bytes ∙ ap (λ (z : Shelf). all_bytes (stock_of z table) marks) t.table_shelf.ensures
+  bytes_of = r.place_rows-of_table.ensures.1.0 ∙ ap (λ (z : Shelf). all_bytes (stock_of z table) marks) t.table_shelf.ensures
 
   views : w.count_wanted-count.result ≡ length (packed_in points code)
   views = w.count_wanted-count.ensures ∙ count-of code points
@@ -74,7 +74,7 @@ module _ (w : tie.After-count_wanted-count) where
   whole : length pack
       ≡ r.place_rows-of_table.result.bytes + o.organisations_in-of_points.result.bytes + point_width newest * w.count_wanted-count.result
       + trailer_width newest
-  whole = omega (arith, counted ready s.requires.marked placed, views, bytes_of, o.organisations_in-of_points.ensures.bytes)
+  whole = omega (arith, counted ready s.requires.1.1 placed, views, bytes_of, o.organisations_in-of_points.ensures.1)
 
   few : length pack < 4_294_967_295
   few = ready.small
@@ -111,23 +111,26 @@ add-rows c =
       arith,
       rows-small (ready w.before.before.before.before.before) (s w.before.before.before.before.before).requires.1.1 (placed w.before.before.before.before.before),
       rows_of w.before.before.before.before.before,
-      (o w.before.before.before.before.before).organisations_in-of_points.ensures.rows,
+      (o w.before.before.before.before.before).organisations_in-of_points.ensures.0,
     )
 
 write-pack-requires : tie.Need-write_pack-requires
 write-pack-requires c κs =
     let w = c in
-    let is = written (ready w.before.before.before.before.before) (s w.before.before.before.before.before).requires.1.1 (placed w.before.before.before.before.before) in record { known = (s w.before.before.before.before.before).requires.0; ready = record {
+    let is = written (ready w.before.before.before.before.before) (s w.before.before.before.before.before).requires.1.1 (placed w.before.before.before.before.before) in (
+      (s w.before.before.before.before.before).requires.0,
+      record {
         of_rows =
             omega (
               arith,
               rows-counted (ready w.before.before.before.before.before) (s w.before.before.before.before.before).requires.1.1 (placed w.before.before.before.before.before),
               rows_of w.before.before.before.before.before,
-              (o w.before.before.before.before.before).organisations_in-of_points.ensures.rows,
+              (o w.before.before.before.before.before).organisations_in-of_points.ensures.0,
             );
         of_points = views w.before.before.before.before.before;
         of_room = omega (arith, ap length is, whole w.before.before.before.before.before);
-      } }
+      },
+    )
 
 returns-2 : tie.Need-returns
 returns-2 c =

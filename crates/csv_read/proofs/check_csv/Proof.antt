@@ -50,7 +50,7 @@ loop-less c = omega (arith, (ends c).on, (ends c).high)
 loop-again : tie.Need-loop-at-preserved invariant-loop decreases-loop
 loop-again c =
     let j = judged c in
-    checking-step (at-loop c).loop-at.invariant j.loop-at-test.taken
+    checking-step (at-loop c).loop-at.invariant j.loop-at-test.true
     (sym j.judge_row-row.ensures.fault ∙ c.if-row-ne0.false) (ends c)
 
 returns-2 : tie.Need-returns-then-fit-has_none invariant-loop decreases-loop

@@ -27,7 +27,7 @@ module _ (kept : tie.Then-is_carried) where
   said_of = elements_in start.args.a.now start.args.b.now start.args.e
 
   is_carried : carried said_of ≡ true
-  is_carried = sym kept.is_carried.ensures ∙ kept.if-is_carried.taken
+  is_carried = sym kept.is_carried.ensures ∙ kept.if-is_carried.true
 
 returns : tie.Need-returns-then-out-needed
 returns c =

@@ -26,7 +26,7 @@ module _ (room : tie.Else-out-needed) where
   text = label_of (elements_in start.args.a.now start.args.b.now start.args.e)
 
   fits : length text ≤ length start.args.out.now
-  fits = room.needed_of-needed.ensures.0 (omega (arith, room.if-out-needed.left))
+  fits = room.needed_of-needed.ensures.0 (omega (arith, room.if-out-needed.false))
 
 returns-2 : tie.Need-returns
 returns-2 c =

@@ -31,7 +31,7 @@ module _ (f : tie.After-stretch_in-found) where
   code = start.args.code.now
 
   stretched : Stretched files code f.stretch_in-found.result.first f.stretch_in-found.result.many
-  stretched = record { first_is = f.stretch_in-found.ensures.first; many_is = f.stretch_in-found.ensures.many }
+  stretched = record { first_is = f.stretch_in-found.ensures.0; many_is = f.stretch_in-found.ensures.1 }
 
   packed-is : packed_in files code ≡ packed_from files f.stretch_in-found.result.first f.stretch_in-found.result.many
   packed-is = stretch-packed files start.requires.of_set stretched
@@ -39,7 +39,10 @@ module _ (f : tie.After-stretch_in-found) where
 mark-addresses-requires : tie.Need-mark_addresses-requires
 mark-addresses-requires c κs =
     let f = c.before.before.before.before.before in
-    let ok = (start f).requires.of_set in record { markable = record { accepted = ok; bits = fresh-bits (files f) ok.rows 31_250 _ refl refl }; many_bound = stretch-high (files f) ok (stretched f) }
+    let ok = (start f).requires.of_set in (
+      record { accepted = ok; bits = fresh-bits (files f) ok.rows 31_250 _ refl refl },
+      stretch-high (files f) ok (stretched f),
+    )
 
 -- and their rows are marked
 module _ (m : tie.After-mark_addresses) where
@@ -58,9 +61,12 @@ write-if-room-requires c κs =
     let f = found m in
     let told = t.in-Fine.is in
     let zeros : List ℕ = replicate 31_250 0 in
-    let none = set_marks (files f) zeros zeros zeros zeros zeros in record { marked = fresh-marked (files f) (code f) zeros _ _ _ _ _ (start f).requires (fresh_unmarked 31_250) (sym (verdict-is m) ∙ told)
+    let none = set_marks (files f) zeros zeros zeros zeros zeros in (
+      fresh-marked (files f) (code f) zeros _ _ _ _ _ (start f).requires (fresh_unmarked 31_250) (sym (verdict-is m) ∙ told)
           (m.mark_addresses.ensures.marks_all told
-          ∙ sym (ap (λ (ds : List Packed). mark_all (set_stock (files f)) ds none) (packed-is f))); stretched = stretched f }
+          ∙ sym (ap (λ (ds : List Packed). mark_all (set_stock (files f)) ds none) (packed-is f))),
+      stretched f,
+    )
 
 returns : tie.Need-returns-in-Fine
 returns c =

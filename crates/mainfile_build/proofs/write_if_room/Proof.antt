@@ -57,16 +57,16 @@ module _ (k : tie.After-slice_known-1) where
   pack = set_pack files code
 
   marked : Marked files code l t d b s
-  marked = start.requires.marked
+  marked = start.requires.0
 
   stretched : Stretched files code start.args.first start.args.many
-  stretched = start.requires.stretched
+  stretched = start.requires.1
 
 place-set-requires : tie.Need-place_set-of_rows-requires
 place-set-requires c κs =
     let k = c.before.before.before.before.before in
     let ok = (marked k).judged.of_set.rows in
-    record { accepted_rows = rows-only (files k) ok; blocks_for = fresh-blocks (files k) ok 15_625 _ refl refl }
+    (rows-only (files k) ok, fresh-blocks (files k) ok 15_625 _ refl refl)
 
 -- once the blocks have their starts
 module _ (r : tie.After-place_set-of_rows) where
@@ -75,12 +75,12 @@ module _ (r : tie.After-place_set-of_rows) where
 
   rows_of : r.place_set-of_rows.result.rows ≡ all_count (set_stock (files r-start)) (marks r-start)
   rows_of =
-      r.place_set-of_rows.ensures.rows
+      r.place_set-of_rows.ensures.0
       ∙ sym (ap₂ all_count (same_rows (files r-start)) (marks-only (files r-start) (l r-start) (t r-start) (d r-start) (b r-start) (s r-start)))
 
   bytes_of : r.place_set-of_rows.result.bytes ≡ all_bytes (set_stock (files r-start)) (marks r-start)
   bytes_of =
-      r.place_set-of_rows.ensures.bytes
+      r.place_set-of_rows.ensures.1.0
       ∙ sym (ap₂ all_bytes (same_rows (files r-start)) (marks-only (files r-start) (l r-start) (t r-start) (d r-start) (b r-start) (s r-start)))
 
 organisations-in-requires : tie.Need-organisations_in-of_own-requires
@@ -113,7 +113,7 @@ module _ (o : tie.After-organisations_in-of_own) where
         counted (files k) (code k) (l k) (t k) (d k) (b k) (s k) (marked k),
         stretch-long (files k) (marked k).judged.of_set (stretched k),
         bytes_of placed,
-        o.organisations_in-of_own.ensures.bytes,
+        o.organisations_in-of_own.ensures.1,
         ap (λ (ds : List Packed). length (organisation_rows others ds)) packed-is,
       )
 
@@ -123,7 +123,7 @@ module _ (o : tie.After-organisations_in-of_own) where
   rows_all : placed.place_set-of_rows.result.rows + o.organisations_in-of_own.result.rows
       ≡ all_count (set_stock (files k)) (marks k) + organisation_count (packed_in (files k) (code k))
   rows_all =
-      omega (arith, rows_of placed, o.organisations_in-of_own.ensures.rows, ap organisation_count packed-is)
+      omega (arith, rows_of placed, o.organisations_in-of_own.ensures.0, ap organisation_count packed-is)
 
 add-needed : tie.Need-overflow_add-needed
 add-needed c = omega (arith, whole c.before.before, few c.before.before)
@@ -152,12 +152,15 @@ write-pack-requires : tie.Need-write_pack-requires
 write-pack-requires c κs =
     let o = c in
     let f = k o.before.before.before.before.before in
-    let is = written (files f) (code f) (l f) (t f) (d f) (b f) (s f) (marked f) in record { placed = record { marks = marked f; blocks = (placed o.before.before.before.before.before).place_set-of_rows.ensures.placed; stretch = stretched f }; ready_for = record {
+    let is = written (files f) (code f) (l f) (t f) (d f) (b f) (s f) (marked f) in (
+      record { marks = marked f; blocks = (placed o.before.before.before.before.before).place_set-of_rows.ensures.1.1; stretch = stretched f },
+      record {
         of_rows =
             omega (arith, rows-counted (files f) (code f) (l f) (t f) (d f) (b f) (s f) (marked f), rows_all o.before.before.before.before.before);
         of_points = sym (stretch-long (files f) (marked f).judged.of_set (stretched f));
         of_room = omega (arith, ap length is, whole o.before.before.before.before.before);
-      } }
+      },
+    )
 
 returns-2 : tie.Need-returns
 returns-2 c =

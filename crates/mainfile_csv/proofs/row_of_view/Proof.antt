@@ -45,12 +45,12 @@ module _ (p : tie.After-place_among-place) where
   place_is =
       let v = (start (judged told)).args.view in
       p.place_among-place.ensures
-      ∙ ap₂ (λ (n m : ℕ). place_among n m v) p.all_in.ensures.first p.all_in.ensures.many
+      ∙ ap₂ (λ (n m : ℕ). place_among n m v) p.all_in.ensures.0 p.all_in.ensures.1
 
 place-among-requires : tie.Need-place_among-place-requires
 place-among-requires c κs =
     let t = c.before in
-    rw (c.all_in.ensures.first, c.all_in.ensures.many) (between-few (files (judged t)) _ _ (between t))
+    rw (c.all_in.ensures.0, c.all_in.ensures.1) (between-few (files (judged t)) _ _ (between t))
 
 row-at-requires : tie.Need-row_at-requires
 row-at-requires c κs =

@@ -53,7 +53,7 @@ module _ (p : tie.After-place_among-place) where
   place_is =
       let v = (start (judged told)).args.k in
       p.place_among-place.ensures
-      ∙ ap₂ (λ (n m : ℕ). place_among n m v) p.stretch_in.ensures.first p.stretch_in.ensures.many
+      ∙ ap₂ (λ (n m : ℕ). place_among n m v) p.stretch_in.ensures.0 p.stretch_in.ensures.1
 
 returns : tie.Need-returns-then-outward_fault-ne0
 unfolding code_label
@@ -69,7 +69,7 @@ returns c =
 place-among-requires : tie.Need-place_among-place-requires
 place-among-requires c κs =
     let t = c in
-    rw (c.stretch_in.ensures.first, c.stretch_in.ensures.many) (between-few (files (judged t.before.before)) _ _ (between t.before.before))
+    rw (c.stretch_in.ensures.0, c.stretch_in.ensures.1) (between-few (files (judged t.before.before)) _ _ (between t.before.before))
 
 label-at-requires : tie.Need-label_at-requires
 label-at-requires c κs =

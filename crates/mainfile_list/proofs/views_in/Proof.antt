@@ -8,7 +8,7 @@ use Rattle.mainfile_list.proofs.views_in.Tie as tie
 returns : tie.Need-returns-in-Value
 returns c =
     let t = c in
-    rw c.all_in-all.ensures.many (after-value _ _ _ t.check_set.ensures _ t.in-Value.is)
+    rw c.all_in-all.ensures.1 (after-value _ _ _ t.check_set.ensures _ t.in-Value.is)
 
 returns-2 : tie.Need-returns-in-Refused
 returns-2 c =

@@ -5,7 +5,7 @@ use Rattle.mainfile_views.proofs.all_in.Statement.{statement}
 use Rattle.mainfile_views.proofs.all_in.Tie as tie
 
 returns : tie.Need-returns
-returns c = record { first = refl; many = c.above.ensures }
+returns c = (refl, c.above.ensures)
 
 pub all_in_spec : {M : Type 1} → statement M
 all_in_spec = tie.close (tie.spec (search rules) returns)

@@ -10,7 +10,7 @@ returns : tie.Need-returns-then-outward_fault-eq0
 unfolding live_at
 returns c =
     let t = c in
-    rw c.stretch_in-found.ensures.many (simp (eq-eqb _ 0 (sym t.outward_fault.ensures ∙ t.if-outward_fault-eq0.true)))
+    rw c.stretch_in-found.ensures.1 (simp (eq-eqb _ 0 (sym t.outward_fault.ensures ∙ t.if-outward_fault-eq0.true)))
 
 returns-2 : tie.Need-returns-else-outward_fault-eq0
 unfolding live_at

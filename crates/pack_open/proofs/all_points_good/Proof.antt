@@ -55,7 +55,7 @@ offsets-told-requires c κs =
     let s = k in
     let a = s.args in
     let pack = a.pack.now in
-    (s.requires.0, (s.requires.1.0, told pack a.rows.now a.fine a.kept.now s.requires.1.1 _ k.keep_starts.auto.1.1.0 (k.keep_starts.ensures (row_count pack) s.requires.1.1.area.good)))
+    (s.requires.0, (s.requires.1.0, told pack a.rows.now a.fine a.kept.now s.requires.1.1 _ k.keep_starts.auto.starts (k.keep_starts.ensures (row_count pack) s.requires.1.1.area.good)))
 
 returns-3 : tie.Need-returns
 returns-3 c =

@@ -140,7 +140,7 @@ module _ (c : tie.Else-not-all_points_good) where
   of_rows = past-rows.before
 
   rows-good : all_rows_good (Pack (past of_rows)) ≡ true
-  rows-good = sym (rows-said of_rows) ∙ not-false _ past-rows.if-not-all_rows_good.left
+  rows-good = sym (rows-said of_rows) ∙ past-rows.if-not-all_rows_good.false
 
   points-good : all_points_good (Pack (past of_rows)) ≡ true
   points-good = sym at-points.all_points_good.ensures ∙ c.if-not-all_points_good.false

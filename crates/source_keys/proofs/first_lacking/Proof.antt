@@ -34,9 +34,9 @@ returns c =
     let l = c in
     let e = l in
     let a = e.args in
-    let k : length a.t1 ≡ 7 = e.well_formed.0.1.0.1 in
-    let r : length a.t2 ≡ 7 = e.well_formed.1.0.1.0.1 in
-    let n = here a.t1 a.t2 l.loop-i.i (omega arith) (omega arith) in
+    let k : length a.keys ≡ 7 = e.well_formed.0.1.0.1 in
+    let r : length a.rows ≡ 7 = e.well_formed.1.0.1.0.1 in
+    let n = here a.keys a.rows l.loop-i.i (omega arith) (omega arith) in
     rw (add-one, l.loop-i.invariant.1, n) (simp c.if-keys-i.true)
 
 loop-less : tie.Need-loop-i-smaller invariant-loop decreases-loop
@@ -47,18 +47,18 @@ loop-again c =
     let l = c in
     let e = l in
     let a = e.args in
-    let k : length a.t1 ≡ 7 = e.well_formed.0.1.0.1 in
-    let r : length a.t2 ≡ 7 = e.well_formed.1.0.1.0.1 in
-    let n = here a.t1 a.t2 l.loop-i.i (omega arith) (omega arith) in
+    let k : length a.keys ≡ 7 = e.well_formed.0.1.0.1 in
+    let r : length a.rows ≡ 7 = e.well_formed.1.0.1.0.1 in
+    let n = here a.keys a.rows l.loop-i.i (omega arith) (omega arith) in
     (omega arith, rw (add-one, l.loop-i.invariant.1, n) (simp c.if-keys-i.false))
 
 returns-2 : tie.Need-returns invariant-loop decreases-loop
 returns-2 c =
     let l = c in
     let a = l.args in
-    let k : length a.t1 ≡ 7 = l.well_formed.0.1.0.1 in
-    let e : c.loop-i.i ≡ length a.t1 = omega arith in
-    rw (l.loop-i.invariant.1, e, drop-length a.t1)
+    let k : length a.keys ≡ 7 = l.well_formed.0.1.0.1 in
+    let e : c.loop-i.i ≡ length a.keys = omega arith in
+    rw (l.loop-i.invariant.1, e, drop-length a.keys)
 
 pub first_lacking_spec : {M : Type 1} → statement M
 first_lacking_spec =

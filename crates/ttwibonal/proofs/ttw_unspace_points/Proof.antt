@@ -10,7 +10,7 @@ use Rattle.ttwibonal.proofs.ttw_unspace_points.Tie as tie
 returns : tie.Need-returns
 returns c =
     let u = c in
-    told-writing c.packed_answer.ensures (said-as (ap Value u.unspace_points.ensures.count) u.unspace_points.ensures.content)
+    told-writing c.packed_answer.ensures (said-as (ap Value u.unspace_points.ensures.0) u.unspace_points.ensures.1)
 
 pub ttw_unspace_points_spec : {M : Type 1} → statement M
 ttw_unspace_points_spec = tie.close (tie.spec (search rules) (search rules) (search rules) returns)

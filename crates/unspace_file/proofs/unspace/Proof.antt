@@ -24,7 +24,7 @@ returns : tie.Need-returns-then-not-n-width
 returns c =
     let a = c.args in
     let broken : whole_records a.width a.identifier a.file.now ≡ false = c.if-not-n-width.true in
-    record { count = sym (count-broken a.width a.identifier a.file.now broken); content = sym (unspaced-broken a.width a.identifier a.file.now broken) }
+    (sym (count-broken a.width a.identifier a.file.now broken), sym (unspaced-broken a.width a.identifier a.file.now broken))
 
 rewrite-requires : tie.Need-rewrite-head-requires
 rewrite-requires c κs =
@@ -45,7 +45,7 @@ module _ (c : tie.After-rewrite-head) where
   wide =
       omega (
         arith,
-        ap length c.rewrite-head.ensures.content,
+        ap length c.rewrite-head.ensures.1,
         length-rewritten start.args.identifier 0 0 start.args.file.now,
         two-wide start.args.width start.args.identifier start.args.file.now whole,
       )
@@ -68,13 +68,13 @@ module _ (c : tie.After-rewrite-end) where
       ≡ unspaced_count entry.args.width entry.args.identifier entry.args.file.now
   counted =
       counted-both entry.args.width entry.args.identifier entry.args.file.now entry.requires.1 (whole first)
-      first.rewrite-head.new.file first.rewrite-head.ensures.content first.rewrite-head.result c.rewrite-end.result
-      first.rewrite-head.ensures.count c.rewrite-end.ensures.count
+      first.rewrite-head.new.file first.rewrite-head.ensures.1 first.rewrite-head.result c.rewrite-end.result
+      first.rewrite-head.ensures.0 c.rewrite-end.ensures.0
 
   rewritten-all : c.rewrite-end.new.file ≡ unspaced entry.args.width entry.args.identifier entry.args.file.now
   rewritten-all =
       unspaced-both entry.args.width entry.args.identifier entry.args.file.now entry.requires.1 (whole first)
-      first.rewrite-head.new.file first.rewrite-head.ensures.content c.rewrite-end.new.file c.rewrite-end.ensures.content
+      first.rewrite-head.new.file first.rewrite-head.ensures.1 c.rewrite-end.new.file c.rewrite-end.ensures.1
 
 add-result : tie.Need-overflow_add-result
 add-result c =
@@ -82,7 +82,7 @@ add-result c =
     record { fits = omega (arith, counted c.before.before, count-few a.width a.identifier a.file.now) }
 
 returns-2 : tie.Need-returns
-returns-2 c = record { count = counted c.before.before; content = rewritten-all c.before.before }
+returns-2 c = (counted c.before.before, rewritten-all c.before.before)
 
 pub unspace_spec : {M : Type 1} → statement M
 unspace_spec =

@@ -81,7 +81,7 @@ module _ (r : tie.After-rows_by-found invariant-loop decreases-loop) where
 
   rows_are : r.rows_by-found.result.rows ≡ rows_of (table_stock table) next.point
   rows_are =
-      rows-found table s.requires.known.of_table next.point t.table_shelf-s.ensures d.delivery_of-p.ensures
+      rows-found table s.requires.0.of_table next.point t.table_shelf-s.ensures d.delivery_of-p.ensures
       r.rows_by-found.ensures
 
   refusal_is : refusal_in d.delivery_of-p.result r.rows_by-found.result.rows
@@ -104,7 +104,7 @@ returns c =
     let w = c in
     let m = w in
     let r = m in
-    let bad = sym (m.mark_point.ensures.said ∙ refusal_is r.before.before.before.before.before.before.before) ∙ w.in-Bad.is in
+    let bad = sym (m.mark_point.ensures.0 ∙ refusal_is r.before.before.before.before.before.before.before) ∙ w.in-Bad.is in
     record {
       said =
           rw (c.with_view.ensures, c.place_of-place.ensures)
@@ -123,10 +123,10 @@ loop-again c =
     let m = c in
     let r = m in
     let told = c.in-Fine.is in (
-      m.mark_point.auto.1.1.0 ∙ (l r.before.before.before.before.before).loop-i.invariant.0,
+      m.mark_point.auto.marks ∙ (l r.before.before.before.before.before).loop-i.invariant.0,
       omega (arith, high r.before.before.before.before.before),
-      marking-on (left r.before.before.before.before.before) (sym (m.mark_point.ensures.said ∙ refusal_is r.before.before.before.before.before) ∙ told)
-          (m.mark_point.ensures.marked told ∙ ap (λ (rows : List ℕ). mark_rows rows (l r.before.before.before.before.before).loop-i.marks) (rows_are r.before.before.before.before.before)),
+      marking-on (left r.before.before.before.before.before) (sym (m.mark_point.ensures.0 ∙ refusal_is r.before.before.before.before.before) ∙ told)
+          (m.mark_point.ensures.1 told ∙ ap (λ (rows : List ℕ). mark_rows rows (l r.before.before.before.before.before).loop-i.marks) (rows_are r.before.before.before.before.before)),
     )
 
 returns-2 : tie.Need-returns invariant-loop decreases-loop

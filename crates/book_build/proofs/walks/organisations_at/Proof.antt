@@ -79,7 +79,7 @@ loop-again : tie.Need-loop-i-preserved invariant-loop decreases-loop
 loop-again c =
     let w = c in
     let d = w in (
-      w.organisation_at-end.auto.1.1.1.1.0 ∙ (l d.before.before.before.before).loop-i.invariant.0,
+      w.organisation_at-end.auto.out ∙ (l d.before.before.before.before).loop-i.invariant.0,
       omega (arith, high d.before.before.before.before),
       organisation-on (next d.before.before.before.before) (rest d.before.before.before.before) (s d.before.before.before.before).requires.1 (book d.before.before.before.before) (left d.before.before.before.before)
           (put_as (ap (λ (p : DeliveryPoint). organisation_row (book d.before.before.before.before) p) d.delivery_of-p.ensures) w.organisation_at-end.ensures),

@@ -93,7 +93,7 @@ module _ (k : tie.After-key_offsets-offsets invariant-loop decreases-loop) where
   step = packed_step book chosen l.loop-i.i high
 
   within : Within book next.point
-  within = within-at book chosen s.requires.known.of_chosen.inside l.loop-i.i high
+  within = within-at book chosen s.requires.0.of_chosen.inside l.loop-i.i high
 
   left : Going (points_in (table_stock table) book book starts s.args.start (packed_all book chosen))
       (points_in (table_stock table) book book starts l.loop-i.row (next ∷ rest)) s.args.out.now s.args.at
@@ -105,7 +105,7 @@ module _ (k : tie.After-key_offsets-offsets invariant-loop decreases-loop) where
   same =
       ap (λ (os : List ℕ). point_with book d.delivery_of-p.result os l.loop-i.row) k.key_offsets-offsets.ensures
       ∙ ap₂ (λ (p : DeliveryPoint) (rows : List ℕ). point_in book starts p rows l.loop-i.row) d.delivery_of-p.ensures
-      (rows-found table s.requires.known.of_table next.point t.table_shelf-s.ensures d.delivery_of-p.ensures
+      (rows-found table s.requires.0.of_table next.point t.table_shelf-s.ensures d.delivery_of-p.ensures
       r.rows_by-found.ensures)
 
   more : length (organisation_rows book (packed_rest book chosen l.loop-i.i))
@@ -115,9 +115,12 @@ module _ (k : tie.After-key_offsets-offsets invariant-loop decreases-loop) where
 point-at-requires : tie.Need-point_at-end-requires invariant-loop decreases-loop
 point-at-requires c κs =
     let k = c in
-    let here = within k in record { fields_within = rw (d k).delivery_of-p.ensures (record { postcode = here.postcode; suffix = here.suffix; box = here.box }); row_in_bounds = room_as (l k).loop-i.out (l k).loop-i.end (same k)
+    let here = within k in (
+      rw (d k).delivery_of-p.ensures (record { postcode = here.postcode; suffix = here.suffix; box = here.box }),
+      room_as (l k).loop-i.out (l k).loop-i.end (same k)
           (point-room (next k) (rest k) (s k).requires.1.1 (table_stock (table k)) (book k) (book k) (starts k) (l k).loop-i.row
-          (left k)) }
+          (left k)),
+    )
 
 organisation-len-requires : tie.Need-organisation_len-row-requires invariant-loop decreases-loop
 organisation-len-requires c κs =
@@ -149,7 +152,7 @@ loop-again : tie.Need-loop-i-preserved invariant-loop decreases-loop
 loop-again c =
     let w = c in
     let k = w in (
-      w.point_at-end.auto.1.1.1.1.1.0 ∙ (l k.before.before.before.before.before).loop-i.invariant.0,
+      w.point_at-end.auto.out ∙ (l k.before.before.before.before.before).loop-i.invariant.0,
       omega (arith, high k.before.before.before.before.before),
       omega (arith, more k.before.before.before.before.before, len c, (l k.before.before.before.before.before).loop-i.invariant.2),
       point-on (next k.before.before.before.before.before) (rest k.before.before.before.before.before) (s k.before.before.before.before.before).requires.1.1 (table_stock (table k.before.before.before.before.before)) (book k.before.before.before.before.before) (book k.before.before.before.before.before) (starts k.before.before.before.before.before) (l k.before.before.before.before.before).loop-i.row

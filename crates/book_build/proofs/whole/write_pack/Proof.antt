@@ -53,13 +53,13 @@ module _ (s : tie.Start) where
   behind-points = trailer_from st book book starts ds code s.args.rows (length chosen)
 
   room : 0 + length pack ≤ length s.args.out.now
-  room = pack-room st book book starts ds code s.args.rows (length chosen) s.requires.ready
+  room = pack-room st book book starts ds code s.args.rows (length chosen) s.requires.1
 
   -- all points have one width
   points-size : (i : ℕ) → point_width newest * length chosen ≤ length (points_in st book book starts i ds)
   points-size i =
-      let inside = s.requires.known.of_chosen.inside in
-      omega (arith, points-long st starts i (all_say book chosen inside) (all-within book chosen inside), s.requires.ready.of_points)
+      let inside = s.requires.0.of_chosen.inside in
+      omega (arith, points-long st starts i (all_say book chosen inside) (all-within book chosen inside), s.requires.1.of_points)
 
 -- the rows are written
 module _ (at_rows : tie.After-rows_at-i) where
@@ -91,9 +91,12 @@ organisations-at-requires c κs =
     let s = start-of-rows at_rows in
     let i = at_rows.rows_at-i.result in
     let organisations = organisation_rows (book s) (ds s) in
-    let j = i + length organisations in record { chosen = s.requires.known.of_chosen; chosen_in_bounds = going-room organisations (behind s i j)
-          (after-rows (st s) (book s) (book s) (starts s) (ds s) (code s) s.args.rows (length (chosen s)) s.requires.ready
-          (rows-put at_rows) j refl) (room s) }
+    let j = i + length organisations in (
+      s.requires.0.of_chosen,
+      going-room organisations (behind s i j)
+          (after-rows (st s) (book s) (book s) (starts s) (ds s) (code s) s.args.rows (length (chosen s)) s.requires.1
+          (rows-put at_rows) j refl) (room s),
+    )
 
 -- so are the organisations' rows
 module _ (at-organisations : tie.After-organisations_at-j) where
@@ -107,15 +110,21 @@ module _ (at-organisations : tie.After-organisations_at-j) where
       at-organisations.organisations_at-j.result at-organisations.organisations_at-j.new.out
   points_left =
       after-organisations (st start-of-organisations) (book start-of-organisations) (book start-of-organisations) (starts start-of-organisations) (ds start-of-organisations) (code start-of-organisations) start-of-organisations.args.rows
-      (length (chosen start-of-organisations)) start-of-organisations.requires.ready (rows-put rows_before) at-organisations.organisations_at-j.ensures
+      (length (chosen start-of-organisations)) start-of-organisations.requires.1 (rows-put rows_before) at-organisations.organisations_at-j.ensures
 
 points-at-requires : tie.Need-points_at-k-requires
 points-at-requires c κs =
     let at-organisations = c.before.before.before in
     let s = start-of-organisations at-organisations in
     let i = (rows_before at-organisations).rows_at-i.result in
-    let j = at-organisations.organisations_at-j.result in record { known = s.requires.known; chosen_bound = omega (arith, at-organisations.organisations_at-j.ensures.size); chosen_in_bounds = going-room (points_in (st s) (book s) (book s) (starts s) i (ds s))
-            (behind-points s i j) (points_left at-organisations) (room s) }
+    let j = at-organisations.organisations_at-j.result in (
+      s.requires.0,
+      (
+        omega (arith, at-organisations.organisations_at-j.ensures.size),
+        going-room (points_in (st s) (book s) (book s) (starts s) i (ds s))
+            (behind-points s i j) (points_left at-organisations) (room s),
+      ),
+    )
 
 -- and the points
 module _ (at-points : tie.After-points_at-k) where
@@ -134,7 +143,7 @@ module _ (at-points : tie.After-points_at-k) where
       start-of-points.args.out.now 0 at-points.points_at-k.result out-with-points
   trailer-left =
       after-points (st start-of-points) (book start-of-points) (book start-of-points) (starts start-of-points) (ds start-of-points) (code start-of-points) start-of-points.args.rows (length (chosen start-of-points))
-      start-of-points.requires.ready (rows-put (rows_before organisations-before)) organisations-before.organisations_at-j.ensures at-points.points_at-k.ensures
+      start-of-points.requires.1 (rows-put (rows_before organisations-before)) organisations-before.organisations_at-j.ensures at-points.points_at-k.ensures
       (points-size start-of-points (rows_before organisations-before).rows_at-i.result)
 
 trailer-at-requires : tie.Need-trailer_at-requires
@@ -144,7 +153,7 @@ trailer-at-requires c κs =
       omega (
         arith,
         going-left (points_left (organisations-before at-points)) (room s),
-        s.requires.known.of_chosen.few,
+        s.requires.0.of_chosen.few,
         s.good,
       ),
       (

@@ -21,7 +21,7 @@ returns c =
     let behind-mark-all = c in
     let start = behind-mark-all in
     let a = start.args in
-    let misplaced = sym behind-mark-all.mark_all.ensures.answer ∙ c.if-not-mark_all.true in
+    let misplaced = sym behind-mark-all.mark_all.ensures.0 ∙ c.if-not-mark_all.true in
     sym (ap (λ (t : Bool). t && all_from (is_held (slot_at a.book.now)) a.count 1) misplaced)
 
 all-marked-requires : tie.Need-all_marked-requires
@@ -29,7 +29,7 @@ all-marked-requires c κs =
     let behind-if1 = c in
     let behind-mark-all = behind-if1 in
     let start = behind-mark-all in
-    let marked = behind-mark-all.mark_all.ensures.marked (behind-if1.if-not-mark_all.false) in
+    let marked = behind-mark-all.mark_all.ensures.1 (behind-if1.if-not-mark_all.false) in
     omega (arith, marked.size, start.requires.1)
 
 returns-2 : tie.Need-returns
@@ -39,9 +39,9 @@ returns-2 c =
     let start = behind-mark-all in
     let slot = slot_at start.args.book.now in
     let yes = behind-if1.if-not-mark_all.false in
-    let placed = sym behind-mark-all.mark_all.ensures.answer ∙ yes in
+    let placed = sym behind-mark-all.mark_all.ensures.0 ∙ yes in
     c.all_marked.ensures
-    ∙ (all_held slot (behind-mark-all.mark_all.ensures.marked yes) start.args.count start.requires.1
+    ∙ (all_held slot (behind-mark-all.mark_all.ensures.1 yes) start.args.count start.requires.1
     ∙ sym (ap (λ (t : Bool). t && all_from (is_held slot) start.args.count 1) placed))
 
 pub all_placed_spec : {M : Type 1} → statement M

@@ -40,10 +40,13 @@ returns c =
     let behind-loop = behind-loop-test in
     let start = behind-loop in
     let a = start.args in
-    let l = behind-loop.loop-s in record { answer = sym
+    let l = behind-loop.loop-s in (
+      sym
           (l.invariant.1
           ∙ all-stop (well_placed (slot_at a.book.now) a.count) slots l.s l.s behind-loop-test.loop-s-test.true
-          (sym behind-mark-place.mark_place.ensures.answer ∙ c.if-not-mark_place.true)); marked = λ z. absurd (false≢true z) }
+          (sym behind-mark-place.mark_place.ensures.0 ∙ c.if-not-mark_place.true)),
+      λ z. absurd (false≢true z),
+    )
 
 loop-again : tie.Need-loop-s-preserved invariant-loop decreases-loop
 loop-again c =
@@ -57,8 +60,8 @@ loop-again c =
       omega (arith, behind-loop-test.loop-s-test.true),
       l.invariant.1
           ∙ all-step (well_placed (slot_at a.book.now) a.count) slots l.s l.s behind-loop-test.loop-s-test.true
-          (sym behind-mark-place.mark_place.ensures.answer ∙ placed),
-      behind-mark-place.mark_place.ensures.marked placed,
+          (sym behind-mark-place.mark_place.ensures.0 ∙ placed),
+      behind-mark-place.mark_place.ensures.1 placed,
     )
 
 same-length-2 : tie.Need-shape_of-marks invariant-loop decreases-loop
@@ -69,7 +72,10 @@ returns-2 c =
     let a = c.args in
     let l = c.loop-s in
     let slot = slot_at a.book.now in
-    let end : l.s ≡ slots = omega (arith, c.loop-s-test.false, l.invariant.0) in record { answer = sym (l.invariant.1 ∙ all_end (well_placed slot a.count) slots l.s l.s c.loop-s-test.false); marked = λ z. subst (λ (n : ℕ). Marked slot n l.marks) end l.invariant.2 }
+    let end : l.s ≡ slots = omega (arith, c.loop-s-test.false, l.invariant.0) in (
+      sym (l.invariant.1 ∙ all_end (well_placed slot a.count) slots l.s l.s c.loop-s-test.false),
+      λ z. subst (λ (n : ℕ). Marked slot n l.marks) end l.invariant.2,
+    )
 
 pub mark_all_spec : {M : Type 1} → statement M
 mark_all_spec =

@@ -15,7 +15,7 @@ returns c =
     let s = c in
     let slot = slot_at s.args.book.now in
     let free = rw c.IsPlace-in.ensures.0 at c.if-place-eq0.true in
-    record { answer = sym (placed-free slot s.args.s s.args.count free); marked = λ z. marked-free slot s.requires.3 free }
+    (sym (placed-free slot s.args.s s.args.count free), λ z. marked-free slot s.requires.3 free)
 
 returns-2 : tie.Need-returns-then-count-place
 returns-2 c =
@@ -23,7 +23,7 @@ returns-2 c =
     let start = behind-place-in in
     let a = start.args in
     let over = rw behind-place-in.IsPlace-in.ensures.0 at c.if-count-place.true in
-    record { answer = sym (placed-above (slot_at a.book.now) a.s a.count over); marked = λ z. absurd (false≢true z) }
+    (sym (placed-above (slot_at a.book.now) a.s a.count over), λ z. absurd (false≢true z))
 
 slice-read-if3 : tie.Need-bounds-marks-place
 slice-read-if3 c =
@@ -41,7 +41,10 @@ returns-3 c =
     let slot = slot_at a.book.now in
     let is = behind-place-in.IsPlace-in.ensures.0 in
     let some : 1 ≤ place_of (slot a.s) = omega (arith, behind-if1.if-place-eq0.false, is) in
-    let within : place_of (slot a.s) ≤ a.count = omega (arith, behind-if2.if-count-place.false, is) in record { answer = sym (placed-twice slot start.requires.3 start.requires.1 a.count start.requires.2 some within (rw is at c.if-marks-place-ne0.true)); marked = λ z. absurd (false≢true z) }
+    let within : place_of (slot a.s) ≤ a.count = omega (arith, behind-if2.if-count-place.false, is) in (
+      sym (placed-twice slot start.requires.3 start.requires.1 a.count start.requires.2 some within (rw is at c.if-marks-place-ne0.true)),
+      λ z. absurd (false≢true z),
+    )
 
 slice-write-marks : tie.Need-bounds-marks-place-2
 slice-write-marks c =
@@ -59,7 +62,10 @@ returns-4 c =
     let slot = slot_at a.book.now in
     let is = behind-place-in.IsPlace-in.ensures.0 in
     let some : 1 ≤ place_of (slot a.s) = omega (arith, behind-if1.if-place-eq0.false, is) in
-    let within : place_of (slot a.s) ≤ a.count = omega (arith, behind-if2.if-count-place.false, is) in record { answer = sym (placed_first slot start.requires.3 start.requires.1 a.count start.requires.2 some within (rw is at c.if-marks-place-ne0.false)); marked = λ z. rw is (marked-new slot start.requires.3 some (omega (arith, within, start.requires.2))) }
+    let within : place_of (slot a.s) ≤ a.count = omega (arith, behind-if2.if-count-place.false, is) in (
+      sym (placed_first slot start.requires.3 start.requires.1 a.count start.requires.2 some within (rw is at c.if-marks-place-ne0.false)),
+      λ z. rw is (marked-new slot start.requires.3 some (omega (arith, within, start.requires.2))),
+    )
 
 pub mark_place_spec : {M : Type 1} → statement M
 mark_place_spec =

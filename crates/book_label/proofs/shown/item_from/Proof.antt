@@ -66,7 +66,7 @@ headed-item-requires c κs =
     let s = start (found l) in (
       rw (written (found l)).worded_line-line.ensures.is (written (found l)).worded_line-line.ensures.short,
       asked-small s.args.table.now s.args.book.now s.args.at s.args.out.now s.requires
-          (there (found l)).if-at-eq0.left (asked l),
+          (there (found l)).if-at-eq0.false (asked l),
     )
 
 returns-2 : tie.Need-returns
@@ -79,7 +79,7 @@ returns-2 c =
     ∙ (ap (headed (line (found l.before.before.before.before.before.before)) l.label_from-answer.result)
     (given_back a.out.now _ (found l.before.before.before.before.before.before).room_before-room.result
     ∙ ap (λ (n : ℕ). take n a.out.now ++ l.label_from-answer.new.out) (room (found l.before.before.before.before.before.before)))
-    ∙ asked-item a.table.now a.book.now a.at a.out.now s.requires (there (found l.before.before.before.before.before.before)).if-at-eq0.left (asked l.before.before.before.before.before.before))
+    ∙ asked-item a.table.now a.book.now a.at a.out.now s.requires (there (found l.before.before.before.before.before.before)).if-at-eq0.false (asked l.before.before.before.before.before.before))
 
 pub item_from_spec : {M : Type 1} → statement M
 item_from_spec =

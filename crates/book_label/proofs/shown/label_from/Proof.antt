@@ -18,7 +18,7 @@ module _ (e : tie.Else-at-eq0) where
   start = e.before.before.before.before
 
   inside : Inside start.args.book.now start.args.at
-  inside = start.requires.inside e.if-at-eq0.left
+  inside = start.requires.inside e.if-at-eq0.false
 
 label-there-requires : tie.Need-label_there-requires
 label-there-requires c κs =

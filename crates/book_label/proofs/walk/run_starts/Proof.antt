@@ -96,7 +96,7 @@ add_at c =
     omega (
       arith,
       going-fits l.loop-done.invariant.1.0 (fit (start (next m.before.before.before))) (omega arith) (asked m.before.before.before) c.in-Value.is,
-      m.shown_behind.auto.1.1.1.1.1.0,
+      m.shown_behind.auto.out,
       l.loop-done.invariant.1.1,
       (start (next m.before.before.before)).good.1.1.1.1.1.1.0.0,
     )
@@ -118,7 +118,7 @@ loop-again c =
       omega (arith, l.loop-done.invariant.0),
       (
         going_step l.loop-done.invariant.1.0 (fit (start (next m.before.before.before))) (omega arith) (asked m.before.before.before) c.in-Value.is,
-        m.shown_behind.auto.1.1.1.1.1.0 ∙ l.loop-done.invariant.1.1,
+        m.shown_behind.auto.out ∙ l.loop-done.invariant.1.1,
       ),
     )
 

@@ -39,10 +39,10 @@ module _ (c : tie.In-loop-from invariant-loop decreases-loop) where
   below = omega (arith, c.loop-from-test.true, at-loop.last_of-last.ensures)
 
   small : at-loop.loop-from.from < 1_000_000
-  small = omega (arith, below, start.requires.fit.1.1)
+  small = omega (arith, below, start.requires.0.1.1)
 
   has_block : at-loop.loop-from.k < length at-loop.loop-from.blocks
-  has_block = omega (arith, so_far.place, below, start.requires.fit.1.0, at-loop.loop-from.invariant.0)
+  has_block = omega (arith, so_far.place, below, start.requires.0.1.0, at-loop.loop-from.invariant.0)
 
 add-blocks : tie.Need-overflow_add-blocks invariant-loop decreases-loop
 add-blocks c = omega (arith, (so_far c).short, small c, (start c).requires.1)
@@ -62,10 +62,13 @@ add-lesser c = omega (arith, small c)
 sums-in-requires : tie.Need-sums_in-sums-requires invariant-loop decreases-loop
 sums-in-requires c κs =
     let t = c in
-    let last = (at-loop t).last_of-last.ensures in record { fit = (
+    let last = (at-loop t).last_of-last.ensures in (
+      (
         (start t).requires.0.0,
         (omega (arith, (so_far t).place), (omega (arith, c.lesser.ensures, last, below t), omega (arith, c.lesser.ensures, last))),
-      ); file_bound = (start t).requires.0.1.1 }
+      ),
+      (start t).requires.0.1.1,
+    )
 
 -- once the rows of the block are counted
 module _ (c : tie.After-sums_in-sums invariant-loop decreases-loop) where
@@ -97,7 +100,7 @@ add-k : tie.Need-overflow_add-k invariant-loop decreases-loop
 add-k c = let t = turn c.before.before in omega (arith, (so_far t).place, small t)
 
 loop-less : tie.Need-loop-from-smaller invariant-loop decreases-loop
-loop-less c = omega (arith, (turn c.before.before).loop-from-test.taken)
+loop-less c = omega (arith, (turn c.before.before).loop-from-test.true)
 
 loop-again : tie.Need-loop-from-preserved invariant-loop decreases-loop
 loop-again c =
@@ -119,7 +122,10 @@ returns c =
     let st = stock_of a.s a.file.now in
     let marks = shelf_marks a.s a.file.now a.bits.now in
     let f = l.loop-from.invariant.1 in
-    let end : last_of a.s a.file.now ≤ l.loop-from.from = omega (arith, c.loop-from-test.false, l.last_of-last.ensures) in record { rows = filled-count st marks a.start f end; bytes = filled-size st marks a.start f end; placed = filled-blocks st marks a.start f end }
+    let end : last_of a.s a.file.now ≤ l.loop-from.from = omega (arith, c.loop-from-test.false, l.last_of-last.ensures) in (
+      filled-count st marks a.start f end,
+      (filled-size st marks a.start f end, filled-blocks st marks a.start f end),
+    )
 
 pub place_rows_spec : {M : Type 1} → statement M
 place_rows_spec =

@@ -13,13 +13,13 @@ returns c =
     let m = c in
     let t = m in
     let r = t in
-    record { said = sym t.in-Fine.is ∙ r.refusal_in.ensures; marked = λ e. m.mark_rows.ensures }
+    (sym t.in-Fine.is ∙ r.refusal_in.ensures, λ e. m.mark_rows.ensures)
 
 returns-2 : tie.Need-returns-in-Bad
 returns-2 c =
     let w = c in
     let r = w in
-    record { said = sym w.in-Bad.is ∙ r.refusal_in.ensures; marked = λ e. absurd (bad-fine _ e) }
+    (sym w.in-Bad.is ∙ r.refusal_in.ensures, λ e. absurd (bad-fine _ e))
 
 pub mark_point_spec : {M : Type 1} → statement M
 mark_point_spec = tie.close (tie.spec (search rules) (search rules) mark-rows-requires (search rules) (search rules) returns returns-2)

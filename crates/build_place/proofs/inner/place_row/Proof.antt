@@ -9,12 +9,12 @@ use Rattle.build_place.proofs.inner.place_row.Tie as tie
 returns : tie.Need-returns-then-marks-i-eq0
 returns c =
     let e = eq-eqb _ 0 c.if-marks-i-eq0.true in
-    record { len = (simp e, omega arith); start = simp e }
+    ((simp e, omega arith), simp e)
 
 returns-2 : tie.Need-returns
 returns-2 c =
     let n = ne_eqb _ 0 c.if-marks-i-eq0.false in
-    record { len = (simp n c.row_len.ensures.0, c.row_len.ensures.1); start = simp (n, add-one) }
+    ((simp n c.row_len.ensures.0, c.row_len.ensures.1), simp (n, add-one))
 
 pub place_row_spec : {M : Type 1} → statement M
 place_row_spec =

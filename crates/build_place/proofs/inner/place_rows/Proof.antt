@@ -69,7 +69,13 @@ returns c =
     let last = l.last_of-last.ensures in
     let a = l.args in
     let inv = l.loop-i.invariant in
-    let end : l.loop-i.i - 1 ≡ last_of a.s a.file.now - 1 = omega (arith, last, inv.0.some) in record { rows = inv.2 ∙ ap (count_to a.marks.now) end; bytes = inv.3 ∙ ap (bytes_to (stock_of a.s a.file.now) a.marks.now) end; placed = record { same_long = inv.0.as_long; each = λ j p q. inv.0.before j p (omega (arith, last)) } }
+    let end : l.loop-i.i - 1 ≡ last_of a.s a.file.now - 1 = omega (arith, last, inv.0.some) in (
+      inv.2 ∙ ap (count_to a.marks.now) end,
+      (
+        inv.3 ∙ ap (bytes_to (stock_of a.s a.file.now) a.marks.now) end,
+        record { same_long = inv.0.as_long; each = λ j p q. inv.0.before j p (omega (arith, last)) },
+      ),
+    )
 
 pub place_rows_spec : {M : Type 1} → statement M
 place_rows_spec =

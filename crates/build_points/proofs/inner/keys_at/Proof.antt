@@ -24,7 +24,7 @@ decreases-loop at out₀ offsets end₀ i₀ out end i = 7 - i
 loop-holds : tie.Need-loop-i-init invariant-loop decreases-loop
 loop-holds c =
     let a = c.args in
-    (omega arith, refl, going_start (offset_bytes a.t1) a.out.now a.at)
+    (omega arith, refl, going_start (offset_bytes a.offsets) a.out.now a.at)
 
 word-at-requires : tie.Need-word_at-end-requires invariant-loop decreases-loop
 word-at-requires c κs =
@@ -32,9 +32,9 @@ word-at-requires c κs =
     let s = l.before.before in
     let a = s.args in
     let i = l.loop-i.i in
-    let seven : length a.t1 ≡ 7 = s.well_formed.0.1.0.1 in
-    going-room (bytes_of 4 (get_or a.t1 i 0)) (offset_bytes (drop (i + 1) a.t1))
-    (going-as (counts_step a.t1 i (omega arith)) l.loop-i.invariant.2) s.requires
+    let seven : length a.offsets ≡ 7 = s.well_formed.0.1.0.1 in
+    going-room (bytes_of 4 (get_or a.offsets i 0)) (offset_bytes (drop (i + 1) a.offsets))
+    (going-as (counts_step a.offsets i (omega arith)) l.loop-i.invariant.2) s.requires
 
 loop-again : tie.Need-loop-i-preserved invariant-loop decreases-loop
 loop-again c =
@@ -43,10 +43,10 @@ loop-again c =
     let s = l in
     let a = s.args in
     let i = l.loop-i.i in
-    let seven : length a.t1 ≡ 7 = s.well_formed.0.1.0.1 in (
+    let seven : length a.offsets ≡ 7 = s.well_formed.0.1.0.1 in (
       omega arith,
-      word.word_at-end.auto.1.1.0 ∙ l.loop-i.invariant.1,
-      going_step (offset_bytes (drop (i + 1) a.t1)) (going-as (counts_step a.t1 i (omega arith)) l.loop-i.invariant.2)
+      word.word_at-end.auto.out ∙ l.loop-i.invariant.1,
+      going_step (offset_bytes (drop (i + 1) a.offsets)) (going-as (counts_step a.offsets i (omega arith)) l.loop-i.invariant.2)
           word.word_at-end.ensures s.requires,
     )
 
@@ -55,9 +55,9 @@ returns c =
     let l = c in
     let s = l in
     let a = s.args in
-    let seven : length a.t1 ≡ 7 = s.well_formed.0.1.0.1 in
-    let end : l.loop-i.i ≡ length a.t1 = omega arith in
-    going_end (going-as (counts_end a.t1 l.loop-i.i end) l.loop-i.invariant.2)
+    let seven : length a.offsets ≡ 7 = s.well_formed.0.1.0.1 in
+    let end : l.loop-i.i ≡ length a.offsets = omega arith in
+    going_end (going-as (counts_end a.offsets l.loop-i.i end) l.loop-i.invariant.2)
 
 pub keys_at_spec : {M : Type 1} → statement M
 keys_at_spec =

@@ -46,7 +46,7 @@ loop-again c =
     let a = s.args in
     let st = stock_of a.s a.file.now in
     let step = rows_step st a.starts.now l.loop-i.i (omega (arith, l.last_of-last.ensures)) in (
-      used.used_at-end.auto.1.1.1.1.1.0 ∙ l.loop-i.invariant.0,
+      used.used_at-end.auto.out ∙ l.loop-i.invariant.0,
       going_step (rows_left st a.starts.now (l.loop-i.i + 1)) (going-as step l.loop-i.invariant.1)
           used.used_at-end.ensures s.requires.1,
     )

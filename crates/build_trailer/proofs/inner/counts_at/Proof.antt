@@ -24,7 +24,7 @@ decreases-loop at out₀ counts end₀ i₀ out end i = 10 - i
 loop-holds : tie.Need-loop-digit-init invariant-loop decreases-loop
 loop-holds c =
     let a = c.args in
-    (omega arith, refl, going_start (counts_bytes a.t1) a.out.now a.at)
+    (omega arith, refl, going_start (counts_bytes a.of_digits) a.out.now a.at)
 
 word-at-requires : tie.Need-word_at-end-requires invariant-loop decreases-loop
 word-at-requires c κs =
@@ -32,9 +32,9 @@ word-at-requires c κs =
     let s = l.before.before in
     let a = s.args in
     let i = l.loop-digit.digit in
-    let ten : length a.t1 ≡ 10 = s.well_formed.0.1.0.1 in
-    going-room (bytes_of 4 (get_or a.t1 i 0)) (counts_bytes (drop (i + 1) a.t1))
-    (going-as (counts_step a.t1 i (omega arith)) l.loop-digit.invariant.2) s.requires
+    let ten : length a.of_digits ≡ 10 = s.well_formed.0.1.0.1 in
+    going-room (bytes_of 4 (get_or a.of_digits i 0)) (counts_bytes (drop (i + 1) a.of_digits))
+    (going-as (counts_step a.of_digits i (omega arith)) l.loop-digit.invariant.2) s.requires
 
 loop-again : tie.Need-loop-digit-preserved invariant-loop decreases-loop
 loop-again c =
@@ -43,10 +43,10 @@ loop-again c =
     let s = l in
     let a = s.args in
     let i = l.loop-digit.digit in
-    let ten : length a.t1 ≡ 10 = s.well_formed.0.1.0.1 in (
+    let ten : length a.of_digits ≡ 10 = s.well_formed.0.1.0.1 in (
       omega arith,
-      word.word_at-end.auto.1.1.0 ∙ l.loop-digit.invariant.1,
-      going_step (counts_bytes (drop (i + 1) a.t1)) (going-as (counts_step a.t1 i (omega arith)) l.loop-digit.invariant.2)
+      word.word_at-end.auto.out ∙ l.loop-digit.invariant.1,
+      going_step (counts_bytes (drop (i + 1) a.of_digits)) (going-as (counts_step a.of_digits i (omega arith)) l.loop-digit.invariant.2)
           word.word_at-end.ensures s.requires,
     )
 
@@ -55,9 +55,9 @@ returns c =
     let l = c in
     let s = l in
     let a = s.args in
-    let ten : length a.t1 ≡ 10 = s.well_formed.0.1.0.1 in
-    let end : l.loop-digit.digit ≡ length a.t1 = omega arith in
-    going_end (going-as (counts_end a.t1 l.loop-digit.digit end) l.loop-digit.invariant.2)
+    let ten : length a.of_digits ≡ 10 = s.well_formed.0.1.0.1 in
+    let end : l.loop-digit.digit ≡ length a.of_digits = omega arith in
+    going_end (going-as (counts_end a.of_digits l.loop-digit.digit end) l.loop-digit.invariant.2)
 
 pub counts_at_spec : {M : Type 1} → statement M
 counts_at_spec =

@@ -100,7 +100,7 @@ returns c =
     let w = c in
     let m = w in
     let r = m in
-    let bad = sym (m.mark_point.ensures.said ∙ refusal_is r.before.before.before.before.before.before.before) ∙ w.in-Bad.is in
+    let bad = sym (m.mark_point.ensures.0 ∙ refusal_is r.before.before.before.before.before.before.before) ∙ w.in-Bad.is in
     record {
       said =
           rw (c.with_view.ensures, c.number_at-view.ensures)
@@ -120,10 +120,10 @@ loop-again c =
     let r = m in
     let told = e.in-Fine.is in
     rw c.next_wanted-at-in-loop-at.ensures (
-      m.mark_point.auto.1.1.0 ∙ (l r.before.before.before.before.before.before).loop-at.invariant.0,
+      m.mark_point.auto.marks ∙ (l r.before.before.before.before.before.before).loop-at.invariant.0,
       next-next (code r.before.before.before.before.before.before) (points r.before.before.before.before.before.before) ((l r.before.before.before.before.before.before).loop-at.at + 1),
-      marking-on (left r.before.before.before.before.before.before) (sym (m.mark_point.ensures.said ∙ refusal_is r.before.before.before.before.before.before) ∙ told)
-          (m.mark_point.ensures.marked told ∙ ap (λ (rows : List ℕ). mark_rows rows (l r.before.before.before.before.before.before).loop-at.marks) (rows_are r.before.before.before.before.before.before)),
+      marking-on (left r.before.before.before.before.before.before) (sym (m.mark_point.ensures.0 ∙ refusal_is r.before.before.before.before.before.before) ∙ told)
+          (m.mark_point.ensures.1 told ∙ ap (λ (rows : List ℕ). mark_rows rows (l r.before.before.before.before.before.before).loop-at.marks) (rows_are r.before.before.before.before.before.before)),
     )
 
 returns-2 : tie.Need-returns invariant-loop decreases-loop

@@ -77,7 +77,7 @@ loop-again c =
     let step = packed_step points code i l.loop-place.invariant.1 (omega (arith, f.last_of-last.ensures)) in
     let rest = packed_from points code (next_wanted code points (i + 1)) in
     rw c.next_wanted-place-in-loop-place.ensures (
-      w.organisation_at-end.auto.1.1.1.1.0 ∙ l.loop-place.invariant.0,
+      w.organisation_at-end.auto.out ∙ l.loop-place.invariant.0,
       next-next code points (i + 1),
       organisation-on (packed_at points i) rest s.requires points
           (going-as (ap (organisation_rows points) step) l.loop-place.invariant.2)

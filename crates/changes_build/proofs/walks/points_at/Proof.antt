@@ -101,7 +101,7 @@ module _ (k : tie.After-key_offsets-offsets invariant-loop decreases-loop) where
   same =
       ap (λ (os : List ℕ). point_with points d.delivery_at-p.result os l.loop-place.row) k.key_offsets-offsets.ensures
       ∙ ap₂ (λ (p : DeliveryPoint) (rows : List ℕ). point_in points starts p rows l.loop-place.row) d.delivery_at-p.ensures
-      (rows-found s.args.table.now s.requires.known.of_table (delivery_at points l.loop-place.place) t.table_shelf-s.ensures
+      (rows-found s.args.table.now s.requires.0.of_table (delivery_at points l.loop-place.place) t.table_shelf-s.ensures
       d.delivery_at-p.ensures r.rows_by-found.ensures)
 
   more : length (organisation_rows points (packed_from points code l.loop-place.place))
@@ -112,9 +112,12 @@ point-at-requires : tie.Need-point_at-end-requires invariant-loop decreases-loop
 point-at-requires c κs =
     let k = c in
     let i = (l k).loop-place.place in
-    let in-file = view-within (points k) i (high k) in record { fields_within = rw (d k).delivery_at-p.ensures (record { postcode = in-file.postcode; suffix = in-file.suffix; box = in-file.box }); row_in_bounds = room_as (l k).loop-place.out (l k).loop-place.end (same k)
+    let in-file = view-within (points k) i (high k) in (
+      rw (d k).delivery_at-p.ensures (record { postcode = in-file.postcode; suffix = in-file.suffix; box = in-file.box }),
+      room_as (l k).loop-place.out (l k).loop-place.end (same k)
           (point-room (packed_at (points k) i) (rest k) (s k).requires.1.1 (table_stock (s k).args.table.now) (points k)
-          (points k) (starts k) (l k).loop-place.row (left k)) }
+          (points k) (starts k) (l k).loop-place.row (left k)),
+    )
 
 organisation-len-requires : tie.Need-organisation_len-row-requires invariant-loop decreases-loop
 organisation-len-requires c κs =
@@ -148,7 +151,7 @@ loop-again c =
     let k = w in
     let i = (l k.before.before.before.before.before.before).loop-place.place in
     rw c.next_wanted-place-in-loop-place.ensures (
-      w.point_at-end.auto.1.1.1.1.1.0 ∙ (l k.before.before.before.before.before.before).loop-place.invariant.0,
+      w.point_at-end.auto.out ∙ (l k.before.before.before.before.before.before).loop-place.invariant.0,
       next-next (code k.before.before.before.before.before.before) (points k.before.before.before.before.before.before) (i + 1),
       omega (arith, more k.before.before.before.before.before.before, len o.before, (l k.before.before.before.before.before.before).loop-place.invariant.2),
       point-on (packed_at (points k.before.before.before.before.before.before) i) (rest k.before.before.before.before.before.before) (s k.before.before.before.before.before.before).requires.1.1 (table_stock (s k.before.before.before.before.before.before).args.table.now) (points k.before.before.before.before.before.before) (points k.before.before.before.before.before.before)

@@ -53,11 +53,11 @@ module _ (s : tie.Start) where
   behind-points = trailer_from st points points starts ds code s.args.rows s.args.count
 
   room : 0 + length pack ≤ length s.args.out.now
-  room = pack-room st points points starts ds code s.args.rows s.args.count s.requires.ready
+  room = pack-room st points points starts ds code s.args.rows s.args.count s.requires.1
 
   -- all points have one width
   points-size : (i : ℕ) → point_width newest * s.args.count ≤ length (points_in st points points starts i ds)
-  points-size i = omega (arith, points-long st starts i (all_said points code) (all-within points code), s.requires.ready.of_points)
+  points-size i = omega (arith, points-long st starts i (all_said points code) (all-within points code), s.requires.1.of_points)
 
 -- the rows are written
 module _ (at_rows : tie.After-rows_at-i) where
@@ -91,7 +91,7 @@ organisations-at-requires c κs =
     let organisations = organisation_rows (points s) (ds s) in
     let j = i + length organisations in
     going-room organisations (behind s i j)
-    (after-rows (st s) (points s) (points s) (starts s) (ds s) (code s) s.args.rows s.args.count s.requires.ready
+    (after-rows (st s) (points s) (points s) (starts s) (ds s) (code s) s.args.rows s.args.count s.requires.1
     (rows-put at_rows) j refl) (room s)
 
 -- so are the organisations' rows
@@ -106,15 +106,21 @@ module _ (at-organisations : tie.After-organisations_at-j) where
       at-organisations.organisations_at-j.result at-organisations.organisations_at-j.new.out
   points_left =
       after-organisations (st start-of-organisations) (points start-of-organisations) (points start-of-organisations) (starts start-of-organisations) (ds start-of-organisations) (code start-of-organisations) start-of-organisations.args.rows
-      start-of-organisations.args.count start-of-organisations.requires.ready (rows-put rows_before) at-organisations.organisations_at-j.ensures
+      start-of-organisations.args.count start-of-organisations.requires.1 (rows-put rows_before) at-organisations.organisations_at-j.ensures
 
 points-at-requires : tie.Need-points_at-k-requires
 points-at-requires c κs =
     let at-organisations = c.before.before.before in
     let s = start-of-organisations at-organisations in
     let i = (rows_before at-organisations).rows_at-i.result in
-    let j = at-organisations.organisations_at-j.result in record { known = s.requires.known; code_bound = omega (arith, at-organisations.organisations_at-j.ensures.size); code_in_bounds = going-room (points_in (st s) (points s) (points s) (starts s) i (ds s))
-            (behind-points s i j) (points_left at-organisations) (room s) }
+    let j = at-organisations.organisations_at-j.result in (
+      s.requires.0,
+      (
+        omega (arith, at-organisations.organisations_at-j.ensures.size),
+        going-room (points_in (st s) (points s) (points s) (starts s) i (ds s))
+            (behind-points s i j) (points_left at-organisations) (room s),
+      ),
+    )
 
 -- and the points
 module _ (at-points : tie.After-points_at-k) where
@@ -133,7 +139,7 @@ module _ (at-points : tie.After-points_at-k) where
       start-of-points.args.out.now 0 at-points.points_at-k.result out-with-points
   trailer-left =
       after-points (st start-of-points) (points start-of-points) (points start-of-points) (starts start-of-points) (ds start-of-points) (code start-of-points) start-of-points.args.rows start-of-points.args.count
-      start-of-points.requires.ready (rows-put (rows_before organisations-before)) organisations-before.organisations_at-j.ensures at-points.points_at-k.ensures
+      start-of-points.requires.1 (rows-put (rows_before organisations-before)) organisations-before.organisations_at-j.ensures at-points.points_at-k.ensures
       (points-size start-of-points (rows_before organisations-before).rows_at-i.result)
 
 trailer-at-requires : tie.Need-trailer_at-requires
@@ -144,7 +150,7 @@ trailer-at-requires c κs =
       omega (
         arith,
         going-left (points_left (organisations-before at-points)) (room s),
-        s.requires.ready.of_points,
+        s.requires.1.of_points,
         packed-length (points s) (wanted_in (code s) (points s)),
         count-bound (code s) (points s),
         s.good,

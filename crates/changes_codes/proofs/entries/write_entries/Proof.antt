@@ -45,10 +45,10 @@ module _ (n : tie.In-loop-i invariant-loop decreases-loop) where
   behind = pair_bytes (drop (i + 1) codes) (drop (i + 1) counts)
 
   room : 0 + length (pair_bytes codes counts) ≤ length s.args.out.now
-  room = omega (arith, s.requires.counts_in_bounds)
+  room = omega (arith, s.requires.1)
 
   left : Going (pair_bytes codes counts) (this ++ behind) s.args.out.now 0 l.loop-i.at l.loop-i.out
-  left = going-as (pairs-on codes counts i s.requires.counts_len n.loop-i-test.taken) l.loop-i.invariant.1
+  left = going-as (pairs-on codes counts i s.requires.0 n.loop-i-test.true) l.loop-i.invariant.1
 
 loop-holds : tie.Need-loop-i-init invariant-loop decreases-loop
 loop-holds c =
@@ -70,7 +70,7 @@ loop-again : tie.Need-loop-i-preserved invariant-loop decreases-loop
 loop-again c =
     let v = c in
     let n = v in (
-      v.entry_at-at.auto.1.1.1.0 ∙ (l n.before.before.before.before.before.before).loop-i.invariant.0,
+      v.entry_at-at.auto.out ∙ (l n.before.before.before.before.before.before).loop-i.invariant.0,
       going_step (behind n.before.before.before.before.before.before) (left n.before.before.before.before.before.before) v.entry_at-at.ensures (room n.before.before.before.before.before.before),
     )
 

@@ -51,7 +51,7 @@ module _ (f : tie.After-is_live invariant-loop decreases-loop) where
   room = omega (arith, s.requires)
 
   inside : l.loop-next.next < last_of points
-  inside = omega (arith, r.loop-next-test.taken, k.last_of-last.ensures)
+  inside = omega (arith, r.loop-next-test.true, k.last_of-last.ensures)
 
   said : f.is_live.result ≡ is_live rec
   said = f.is_live.ensures ∙ ap is_live r.point_record-rec.ensures

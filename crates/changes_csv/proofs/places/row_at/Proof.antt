@@ -55,7 +55,7 @@ module _ (judged : tie.After-refusal_in) where
   address = address_at points 0 place
 
   high : suc place < length points / 168
-  high = omega (arith, start.requires.high there.if-place-eq0.left)
+  high = omega (arith, start.requires.high there.if-place-eq0.false)
 
   within : Within points read.delivery_at-p.result
   within =

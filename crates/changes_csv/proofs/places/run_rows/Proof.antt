@@ -80,7 +80,7 @@ add_at c =
     omega (
       arith,
       going-fits l.loop-done.invariant.1.0 (fit l) (omega arith) (asked m.before.before.before) c.in-Value.is,
-      m.row_behind.auto.1.1.1.1.0,
+      m.row_behind.auto.out,
       l.loop-done.invariant.1.1,
       (start l).good.1.1.1.1.0.0,
     )
@@ -110,7 +110,7 @@ loop-again c =
           ∙ (sym (next_place [] (points l) (number l) some) ∙ ap (wanted_at [] (points l)) (sym next)),
       (
         going_step l.loop-done.invariant.1.0 (fit l) (omega arith) (asked m.before.before.before.before) is,
-        m.row_behind.auto.1.1.1.1.0 ∙ l.loop-done.invariant.1.1,
+        m.row_behind.auto.out ∙ l.loop-done.invariant.1.1,
       ),
     )
 

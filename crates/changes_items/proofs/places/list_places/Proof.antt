@@ -106,7 +106,7 @@ add_at c =
     omega (
       arith,
       going-fits l.loop-done.invariant.1.1.0 (fit l) (omega arith) (asked m.before.before.before) c.in-Value.is,
-      m.item_behind.auto.1.1.1.1.1.0,
+      m.item_behind.auto.out,
       l.loop-done.invariant.1.1.1,
       (start l).good.1.1.1.1.1.0.0,
     )

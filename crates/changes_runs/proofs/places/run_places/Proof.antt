@@ -79,7 +79,7 @@ add_at c =
     omega (
       arith,
       going-fits l.loop-done.invariant.1.0 (fit l) (omega arith) (asked m.before.before.before) c.in-Value.is,
-      m.label_behind.auto.1.1.1.1.0,
+      m.label_behind.auto.out,
       l.loop-done.invariant.1.1,
       (start l).good.1.1.1.1.1.0.0,
     )
@@ -107,7 +107,7 @@ loop-again c =
           ∙ (sym (next_place (code l) (points l) (number l) some) ∙ ap (wanted_at (code l) (points l)) (sym next)),
       (
         going_step l.loop-done.invariant.1.0 (fit l) (omega arith) (asked m.before.before.before.before) is,
-        m.label_behind.auto.1.1.1.1.0 ∙ l.loop-done.invariant.1.1,
+        m.label_behind.auto.out ∙ l.loop-done.invariant.1.1,
       ),
     )
 

@@ -96,7 +96,7 @@ add_at c =
     omega (
       arith,
       going-fits (going l) (fit l) (omega arith) (asked m.before.before.before) c.in-Value.is,
-      m.shown_behind.auto.1.1.1.1.1.0,
+      m.shown_behind.auto.out,
       l.loop-done.invariant.1.1.1,
       (start l).good.1.1.1.1.1.0.0,
     )
@@ -136,7 +136,7 @@ loop-again c =
         ),
         (
           going_step (going l) (fit l) (omega arith) (asked m.before.before.before.before) is,
-          m.shown_behind.auto.1.1.1.1.1.0 ∙ l.loop-done.invariant.1.1.1,
+          m.shown_behind.auto.out ∙ l.loop-done.invariant.1.1.1,
         ),
       ),
     )

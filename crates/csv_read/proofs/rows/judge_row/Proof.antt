@@ -82,10 +82,10 @@ module _ (w : tie.After-width_of invariant-loop decreases-loop) where
   f = part (csv judged) (at-loop judged).loop-n.start (end judged)
 
   good : true ≡ get_or (forms_for (fields_of (drop (at judged) (csv judged)))) (n judged) no_form f
-  good = sym (not-false _ w.if-not-is_formed.left) ∙ formed judged
+  good = sym (w.if-not-is_formed.false) ∙ formed judged
 
   below : n judged < 16
-  below = judged.loop-n-test.taken
+  below = judged.loop-n-test.true
 
   short : leb (length judged.part_of-f.result.now) w.width_of.result ≡ leb (length f) (get_or widths (n judged) 0)
   short =

@@ -36,7 +36,7 @@ module _ (here : tie.After-whole_record) where
   owner = at point_format file (i - 1)
 
   neither-was : (eqb i 1 ≡ false) × (eqb here.needed_next.result 0 ≡ false)
-  neither-was = neither (eqb i 1) (eqb here.needed_next.result 0) here.if-i-needed_next.left
+  neither-was = neither (eqb i 1) (eqb here.needed_next.result 0) here.if-i-needed_next.false
 
   needing : needed owner ≡ 0 → ⊥
   needing =

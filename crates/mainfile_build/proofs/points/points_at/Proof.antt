@@ -72,16 +72,16 @@ module _ (k : tie.After-slice_known-1 invariant-loop decreases-loop) where
   start_of = k.before.before.before.before.before.before.before.before.before.before.before.before.before.before.before.before.before.before.before
 
 add-stop : tie.Need-overflow_add-stop invariant-loop decreases-loop
-add-stop c = let s = start_of c in omega (arith, stop-few (files s) s.requires.placed)
+add-stop c = let s = start_of c in omega (arith, stop-few (files s) s.requires.0)
 
 loop-holds : tie.Need-loop-i-init invariant-loop decreases-loop
 loop-holds c =
     let s = start_of c in
     let a = s.args in
-    let same = packed-same (files s) s.requires.placed in (
+    let same = packed-same (files s) s.requires.0 in (
       refl,
       omega arith,
-      omega (arith, s.requires.code_bound, ap (λ (ds : List Packed). length (organisation_rows (others s) ds)) same),
+      omega (arith, s.requires.1.0, ap (λ (ds : List Packed). length (organisation_rows (others s) ds)) same),
       going-as (ap (points s a.start) same) (going_start _ a.out.now a.at),
     )
 
@@ -106,7 +106,7 @@ module _ (o : tie.After-offsets_at-offsets invariant-loop decreases-loop) where
   rest = packed_by (own f) (others f) (i + 1) (stop f - (i + 1))
 
   step : packed_by (own f) (others f) i (stop f - i) ≡ packed_at (own f) (others f) i ∷ rest
-  step = packed_step (own f) (others f) i (stop f) t.loop-i-test.taken
+  step = packed_step (own f) (others f) i (stop f) t.loop-i-test.true
 
   left : Going (set_points (files f) f.args.code.now f.args.of_localities.now f.args.of_thoroughfares.now
       f.args.of_descriptors.now f.args.of_buildings.now f.args.of_sub_buildings.now f.args.start)
@@ -115,7 +115,7 @@ module _ (o : tie.After-offsets_at-offsets invariant-loop decreases-loop) where
   left = going-as (ap (points f l.loop-i.row) step) l.loop-i.invariant.3
 
   inside : Inside (own f) (others f) (point_at (files f) i)
-  inside = inside-stretch (files f) f.requires.placed i t.loop-i-test.taken
+  inside = inside-stretch (files f) f.requires.0 i t.loop-i-test.true
 
   same : point_with (own f) d.delivery_at-p.result o.offsets_at-offsets.result.of_keys l.loop-i.row
       ≡ point_in (own f) (starts f) (point_at (files f) i) (rows_of (set_stock (files f)) (point_at (files f) i)) l.loop-i.row
@@ -132,13 +132,16 @@ offsets-at-requires c κs =
     let t = c in
     let l = t in
     let f = start_of l.before.before in
-    record { placed = f.requires.placed; first_le_i = (l.loop-i.invariant.1, t.loop-i-test.true) }
+    (f.requires.0, (l.loop-i.invariant.1, t.loop-i-test.true))
 
 point-at-requires : tie.Need-point_at-end-requires invariant-loop decreases-loop
 point-at-requires c κs =
-    let o = c in record { fields_within = rw (d o).delivery_at-p.ensures (record { postcode = (inside o).postcode; suffix = (inside o).suffix; box = (inside o).box }); row_in_bounds = room_as (l o).loop-i.out (l o).loop-i.end (same o)
+    let o = c in (
+      rw (d o).delivery_at-p.ensures (record { postcode = (inside o).postcode; suffix = (inside o).suffix; box = (inside o).box }),
+      room_as (l o).loop-i.out (l o).loop-i.end (same o)
           (point-room (packed_at (own (f o)) (others (f o)) (i o)) (rest o) (f o).requires.1.1 (set_stock (files (f o)))
-          (own (f o)) (others (f o)) (starts (f o)) (l o).loop-i.row (left o)) }
+          (own (f o)) (others (f o)) (starts (f o)) (l o).loop-i.row (left o)),
+    )
 
 organisation-len-requires : tie.Need-organisation_len-row-requires invariant-loop decreases-loop
 organisation-len-requires c κs =
@@ -176,7 +179,7 @@ loop-again c =
     let n = c in
     let w = n in
     let o = w in (
-      w.point_at-end.auto.1.1.1.1.1.0 ∙ (l o.before.before.before.before.before).loop-i.invariant.0,
+      w.point_at-end.auto.out ∙ (l o.before.before.before.before.before).loop-i.invariant.0,
       omega (arith, (l o.before.before.before.before.before).loop-i.invariant.1),
       omega (arith, more o.before.before.before.before.before, len n, (l o.before.before.before.before.before).loop-i.invariant.2),
       point-on (packed_at (own (f o.before.before.before.before.before)) (others (f o.before.before.before.before.before)) (i o.before.before.before.before.before)) (rest o.before.before.before.before.before) (f o.before.before.before.before.before).requires.1.1 (set_stock (files (f o.before.before.before.before.before))) (own (f o.before.before.before.before.before))

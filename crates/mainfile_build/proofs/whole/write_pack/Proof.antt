@@ -73,28 +73,31 @@ module _ (k : tie.After-slice_known-1) where
   behind-points = trailer_from st own others starts ds code rows many
 
   room : 0 + length pack ≤ length start.args.out.now
-  room = pack-room st own others starts ds code rows many start.requires.ready_for
+  room = pack-room st own others starts ds code rows many start.requires.1
 
   -- all points have one width
   points-size : (i : ℕ) → point_width newest * many ≤ length (points_in st own others starts i ds)
   points-size i =
-      let ok = start.requires.placed.marks.judged.of_set in
-      omega (arith, points-long st starts i (all_say files ok code) (all-within files ok code), start.requires.ready_for.of_points)
+      let ok = start.requires.0.marks.judged.of_set in
+      omega (arith, points-long st starts i (all_say files ok code) (all-within files ok code), start.requires.1.of_points)
 
   same-ds : ds ≡ packed_by own others start.args.first many
-  same-ds = packed-is files start.requires.placed
+  same-ds = packed-is files start.requires.0
 
 set-rows-at-requires : tie.Need-set_rows_at-i-requires
 set-rows-at-requires c κs =
     let k = c.before in
     let i = length (used_rows (st k) (starts k)) in
-    let j = i + length (organisation_rows (others k) (ds k)) in record { ended = ended-only (files k) (start k).requires.0.marks.judged.of_set.rows; of_sub_buildings_in_bounds = omega (
+    let j = i + length (organisation_rows (others k) (ds k)) in (
+      ended-only (files k) (start k).requires.0.marks.judged.of_set.rows,
+      omega (
         arith,
         ap length (rows_are (files k) (start k).requires.0),
         going-room (used_rows (st k) (starts k)) (organisation_rows (others k) (ds k) ++ behind k i j)
             (pack-start (st k) (own k) (others k) (starts k) (ds k) (code k) (rows k) (many k) (start k).requires.1 i j refl refl)
             (room k),
-      ) }
+      ),
+    )
 
 -- the rows are written
 module _ (r : tie.After-set_rows_at-i) where
@@ -106,21 +109,24 @@ module _ (r : tie.After-set_rows_at-i) where
 
   rows-put : Put (used_rows (st r-start) (starts r-start)) (start r-start).args.out.now 0 rows_end
       r.set_rows_at-i.new.out
-  rows-put = put_as (rows_are (files r-start) (start r-start).requires.placed) r.set_rows_at-i.ensures
+  rows-put = put_as (rows_are (files r-start) (start r-start).requires.0) r.set_rows_at-i.ensures
 
 organisations-at-requires : tie.Need-organisations_at-j-requires
 organisations-at-requires c κs =
     let r = c.before.before.before in
     let k = r-start r in
     let organisations = organisation_rows (others k) (ds k) in
-    let j = rows_end r + length organisations in record { standing = standing (files k) (start k).requires.placed; many_in_bounds = omega (
+    let j = rows_end r + length organisations in (
+      standing (files k) (start k).requires.0,
+      omega (
         arith,
         ap (λ (x : List Packed). length (organisation_rows (others k) x)) (same-ds k),
         going-room organisations (behind k (rows_end r) j)
-            (after-rows (st k) (own k) (others k) (starts k) (ds k) (code k) (rows k) (many k) (start k).requires.ready_for (rows-put r) j
+            (after-rows (st k) (own k) (others k) (starts k) (ds k) (code k) (rows k) (many k) (start k).requires.1 (rows-put r) j
             refl)
             (room k),
-      ) }
+      ),
+    )
 
 -- so are the organisations' rows
 module _ (o : tie.After-organisations_at-j) where
@@ -142,14 +148,20 @@ module _ (o : tie.After-organisations_at-j) where
       organisations-end o.organisations_at-j.new.out
   points_left =
       after-organisations (st o-start) (own o-start) (others o-start) (starts o-start) (ds o-start) (code o-start)
-      (rows o-start) (many o-start) (start o-start).requires.ready_for (rows-put o-rows) organisations-put
+      (rows o-start) (many o-start) (start o-start).requires.1 (rows-put o-rows) organisations-put
 
 points-at-requires : tie.Need-points_at-k-requires
 points-at-requires c κs =
     let o = c.before.before.before in
     let k = o-start o in
-    let i = rows_end (o-rows o) in record { placed = (start k).requires.placed; code_bound = omega (arith, (organisations-put o).size); start_in_bounds = going-room (points_in (st k) (own k) (others k) (starts k) i (ds k))
-            (behind-points k i (organisations-end o)) (points_left o) (room k) }
+    let i = rows_end (o-rows o) in (
+      (start k).requires.0,
+      (
+        omega (arith, (organisations-put o).size),
+        going-room (points_in (st k) (own k) (others k) (starts k) i (ds k))
+            (behind-points k i (organisations-end o)) (points_left o) (room k),
+      ),
+    )
 
 -- and the points
 module _ (p : tie.After-points_at-k) where
@@ -168,7 +180,7 @@ module _ (p : tie.After-points_at-k) where
       (start p-start).args.out.now 0 p.points_at-k.result out-with-points
   trailer-left =
       after-points (st p-start) (own p-start) (others p-start) (starts p-start) (ds p-start) (code p-start) (rows p-start)
-      (many p-start) (start p-start).requires.ready_for (rows-put (o-rows p-organisations)) (organisations-put p-organisations)
+      (many p-start) (start p-start).requires.1 (rows-put (o-rows p-organisations)) (organisations-put p-organisations)
       p.points_at-k.ensures (points-size p-start (rows_end (o-rows p-organisations)))
 
 trailer-at-requires : tie.Need-trailer_at-requires
@@ -178,7 +190,7 @@ trailer-at-requires c κs =
       omega (
         arith,
         going-left (points_left (p-organisations p)) (room k),
-        stop-few (files k) (start k).requires.placed,
+        stop-few (files k) (start k).requires.0,
         (start k).good,
       ),
       (

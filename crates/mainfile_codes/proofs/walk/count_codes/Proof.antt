@@ -30,7 +30,7 @@ module _ (n : tie.In-loop-i invariant-loop decreases-loop) where
   file = s.args.addresses.now
 
   inside : l.loop-i.i < last_of file
-  inside = omega (arith, n.loop-i-test.taken, l.all_in-all.ensures.many, last-is file s.requires)
+  inside = omega (arith, n.loop-i-test.true, l.all_in-all.ensures.1, last-is file s.requires)
 
 -- once the end of a code's addresses is known
 module _ (e : tie.After-end_from-i invariant-loop decreases-loop) where
@@ -68,7 +68,7 @@ returns c =
     let s = l in
     let file = s.args.addresses.now in
     let all_seen : last_of file ≤ l.loop-i.i =
-    omega (arith, c.loop-i-test.false, l.all_in-all.ensures.many, last-is file s.requires) in
+    omega (arith, c.loop-i-test.false, l.all_in-all.ensures.1, last-is file s.requires) in
     let none = ap length (entries-end file l.loop-i.i all_seen) in
     let is : l.loop-i.n ≡ length (codes_in file) = omega (arith, none, l.loop-i.invariant.2) in
     (is, omega (arith, entries-few file s.requires))

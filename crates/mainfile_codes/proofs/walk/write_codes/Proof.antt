@@ -39,10 +39,10 @@ module _ (n : tie.In-loop-i invariant-loop decreases-loop) where
   i = l.loop-i.i
 
   inside : i < last_of file
-  inside = omega (arith, n.loop-i-test.taken, l.all_in-all.ensures.many, last-is file s.requires.accepted)
+  inside = omega (arith, n.loop-i-test.true, l.all_in-all.ensures.1, last-is file s.requires.0)
 
   room : 0 + length (entry_bytes (codes_in file)) ≤ length s.args.out.now
-  room = omega (arith, s.requires.addresses_in_bounds)
+  room = omega (arith, s.requires.1)
 
 -- once the end of a code's addresses is known
 module _ (e : tie.After-end_from-end invariant-loop decreases-loop) where
@@ -53,7 +53,7 @@ module _ (e : tie.After-end_from-end invariant-loop decreases-loop) where
   end = e.end_from-end.result
 
   on : Onward (file turn) (i turn) end
-  on = onward (file turn) (s turn).requires.accepted _ (l turn).loop-i.invariant.1 (inside turn) _ e.end_from-end.ensures
+  on = onward (file turn) (s turn).requires.0 _ (l turn).loop-i.invariant.1 (inside turn) _ e.end_from-end.ensures
 
   -- this entry, and all entries behind it
   abbrev this : List ℕ
@@ -101,7 +101,7 @@ loop-again c =
     let v = c in
     let e = v in
     let is = ap (λ (code : ℕ). one_entry code (end e.before.before.before.before - i (turn e.before.before.before.before))) e.code_at-code.ensures in (
-      v.entry_at-at.auto.1.1.1.0 ∙ (l (turn e.before.before.before.before)).loop-i.invariant.0,
+      v.entry_at-at.auto.out ∙ (l (turn e.before.before.before.before)).loop-i.invariant.0,
       omega (arith, (on e.before.before.before.before).further),
       (on e.before.before.before.before).within,
       going_step (behind e.before.before.before.before) (left e.before.before.before.before) (put_as is v.entry_at-at.ensures) (room (turn e.before.before.before.before)),
@@ -113,7 +113,7 @@ returns c =
     let s = l in
     let file = s.args.addresses.now in
     let all_seen : last_of file ≤ l.loop-i.i =
-    omega (arith, c.loop-i-test.false, l.all_in-all.ensures.many, last-is file s.requires.0) in
+    omega (arith, c.loop-i-test.false, l.all_in-all.ensures.1, last-is file s.requires.0) in
     wrote (going_end (going-as (ap entry_bytes (entries-end file l.loop-i.i all_seen)) l.loop-i.invariant.3))
 
 pub write_codes_spec : {M : Type 1} → statement M

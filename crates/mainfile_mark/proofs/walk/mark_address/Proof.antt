@@ -38,7 +38,7 @@ module _ (looked : tie.After-kind_rows-found) where
   rows = looked.kind_rows-found.result.rows
 
   high : i < length start.args.addresses.now / 88
-  high = omega (arith, start.requires.i_bound)
+  high = omega (arith, start.requires.1)
 
   rows_are : rows ≡ rows_at files i
   rows_are =
@@ -55,13 +55,13 @@ returns c =
     let refers = found_rows s ok (i k.before.before.before.before.before.before.before.before.before.before.before.before.before.before.before.before) (high k.before.before.before.before.before.before.before.before.before.before.before.before.before.before.before.before) (rows k.before.before.before.before.before.before.before.before.before.before.before.before.before.before.before.before) (rows_are k.before.before.before.before.before.before.before.before.before.before.before.before.before.before.before.before) in
     record {
       said =
-          m.mark_point.ensures.said
+          m.mark_point.ensures.0
           ∙ (ap (λ (p : DeliveryPoint). refusal_in p (rows k.before.before.before.before.before.before.before.before.before.before.before.before.before.before.before.before)) (read k.before.before.before.before.before.before.before.before.before.before.before.before.before.before.before.before).delivery_at-p.ensures
           ∙ (sym (refused-alike s (point_at s (i k.before.before.before.before.before.before.before.before.before.before.before.before.before.before.before.before)) (rows k.before.before.before.before.before.before.before.before.before.before.before.before.before.before.before.before) (found-seven s ok (i k.before.before.before.before.before.before.before.before.before.before.before.before.before.before.before.before) (high k.before.before.before.before.before.before.before.before.before.before.before.before.before.before.before.before) (rows k.before.before.before.before.before.before.before.before.before.before.before.before.before.before.before.before) (rows_are k.before.before.before.before.before.before.before.before.before.before.before.before.before.before.before.before)))
           ∙ ap (refusal_in (point_at s (i k.before.before.before.before.before.before.before.before.before.before.before.before.before.before.before.before))) refers));
       marks_rows =
           λ e.
-          m.mark_point.ensures.marked e s (found-in-files s ok (i k.before.before.before.before.before.before.before.before.before.before.before.before.before.before.before.before) (high k.before.before.before.before.before.before.before.before.before.before.before.before.before.before.before.before) (rows k.before.before.before.before.before.before.before.before.before.before.before.before.before.before.before.before) (rows_are k.before.before.before.before.before.before.before.before.before.before.before.before.before.before.before.before))
+          m.mark_point.ensures.1 e s (found-in-files s ok (i k.before.before.before.before.before.before.before.before.before.before.before.before.before.before.before.before) (high k.before.before.before.before.before.before.before.before.before.before.before.before.before.before.before.before) (rows k.before.before.before.before.before.before.before.before.before.before.before.before.before.before.before.before) (rows_are k.before.before.before.before.before.before.before.before.before.before.before.before.before.before.before.before))
           (start k.before.before.before.before.before.before.before.before.before.before.before.before.before.before.before.before).requires.0.bits
           ∙ ap (λ (found : List ℕ). mark_rows found (set_marks s a.of_localities.now a.of_thoroughfares.now
           a.of_descriptors.now a.of_buildings.now a.of_sub_buildings.now)) refers;

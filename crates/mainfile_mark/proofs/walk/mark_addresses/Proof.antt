@@ -82,12 +82,15 @@ mark-address-requires : tie.Need-mark_address-requires invariant-loop decreases-
 mark-address-requires c κs =
     let t = c in
     let l = t in
-    let s = start_of l in record { markable = record {
-        accepted = s.requires.markable.accepted;
+    let s = start_of l in (
+      record {
+        accepted = s.requires.0.accepted;
         bits =
-            bits-kept (files s) s.requires.markable.bits l.loop-i.invariant.0 l.loop-i.invariant.1 l.loop-i.invariant.2
+            bits-kept (files s) s.requires.0.bits l.loop-i.invariant.0 l.loop-i.invariant.1 l.loop-i.invariant.2
             l.loop-i.invariant.3 l.loop-i.invariant.4;
-      }; i_bound = omega (arith, s.requires.many_bound, t.loop-i-test.true) }
+      },
+      omega (arith, s.requires.1, t.loop-i-test.true),
+    )
 
 -- within the loop, the record at `i` is the next
 module _ (t : tie.In-loop-i invariant-loop decreases-loop) where
@@ -103,7 +106,7 @@ module _ (t : tie.In-loop-i invariant-loop decreases-loop) where
       (marks l)
   left =
       marking-as
-      (packed_step s.args.addresses.now s.args.organisations.now l.loop-i.i (end s) t.loop-i-test.taken)
+      (packed_step s.args.addresses.now s.args.organisations.now l.loop-i.i (end s) t.loop-i-test.true)
       l.loop-i.invariant.5
 
 returns : tie.Need-returns-in-Bad invariant-loop decreases-loop
@@ -176,11 +179,11 @@ mark_addresses_spec =
     (λ c. search rules)
     (λ c. search rules)
     (λ c κs. search rules)
-    (λ c. (m c).mark_address.auto.1.1.1.1.1.1.1.1.0 ∙ (at c).loop-i.invariant.0)
-    (λ c. (m c).mark_address.auto.1.1.1.1.1.1.1.1.1.0 ∙ (at c).loop-i.invariant.1)
-    (λ c. (m c).mark_address.auto.1.1.1.1.1.1.1.1.1.1.0 ∙ (at c).loop-i.invariant.2)
-    (λ c. (m c).mark_address.auto.1.1.1.1.1.1.1.1.1.1.1.0 ∙ (at c).loop-i.invariant.3)
-    (λ c. (m c).mark_address.auto.1.1.1.1.1.1.1.1.1.1.1.1.0 ∙ (at c).loop-i.invariant.4)
+    (λ c. (m c).mark_address.auto.of_localities ∙ (at c).loop-i.invariant.0)
+    (λ c. (m c).mark_address.auto.of_thoroughfares ∙ (at c).loop-i.invariant.1)
+    (λ c. (m c).mark_address.auto.of_descriptors ∙ (at c).loop-i.invariant.2)
+    (λ c. (m c).mark_address.auto.of_buildings ∙ (at c).loop-i.invariant.3)
+    (λ c. (m c).mark_address.auto.of_sub_buildings ∙ (at c).loop-i.invariant.4)
     returns
     add-i
     loop-less

@@ -17,7 +17,10 @@ start-in-requires : tie.Need-start_in-requires
 start-in-requires c κs =
     let some = c.if-row-eq0.false in
     let s = c in
-    let a = s.args in record { fit = fits-of a.kind c.row_shelf.ensures a.file.now (64 * length a.blocks.now) s.requires.0; le_i = row_of a.kind c.row_shelf.ensures a.file.now a.row some s.requires.1 }
+    let a = s.args in (
+      fits-of a.kind c.row_shelf.ensures a.file.now (64 * length a.blocks.now) s.requires.0,
+      row_of a.kind c.row_shelf.ensures a.file.now a.row some s.requires.1,
+    )
 
 returns-3 : tie.Need-returns
 returns-3 c =

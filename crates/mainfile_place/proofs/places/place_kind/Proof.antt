@@ -10,7 +10,7 @@ place-rows-requires : tie.Need-place_rows-requires
 place-rows-requires c κs =
     let s = c.before.before.before.before.before in
     let a = s.args in
-    record { fit = fits-of a.kind c.row_shelf.ensures a.file.now (64 * length a.blocks.now) s.requires.0; start_bound = s.requires.1 }
+    (fits-of a.kind c.row_shelf.ensures a.file.now (64 * length a.blocks.now) s.requires.0, s.requires.1)
 
 returns : tie.Need-returns
 returns c =

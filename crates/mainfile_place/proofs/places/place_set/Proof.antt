@@ -47,51 +47,57 @@ from₅ c = from₄ (fourth c)
 
 -- the rows and bytes of each file are few, and so are those of all files before it
 few₁ : (c : tie.After-place_kind-first) → (c.place_kind-first.result.rows ≤ 1_000_000) × (c.place_kind-first.result.bytes ≤ 104_000_000)
-few₁ c = c.place_kind-first.ensures.small
+few₁ c = c.place_kind-first.ensures.1.1.1
 
 few₂ : (c : tie.After-place_kind-second)
     → (c.place_kind-second.result.rows ≤ 1_000_000) × (c.place_kind-second.result.bytes ≤ 104_000_000)
-few₂ c = c.place_kind-second.ensures.small
+few₂ c = c.place_kind-second.ensures.1.1.1
 
 few₃ : (c : tie.After-place_kind-third)
     → (c.place_kind-third.result.rows ≤ 1_000_000) × (c.place_kind-third.result.bytes ≤ 104_000_000)
-few₃ c = c.place_kind-third.ensures.small
+few₃ c = c.place_kind-third.ensures.1.1.1
 
 few₄ : (c : tie.After-place_kind-fourth)
     → (c.place_kind-fourth.result.rows ≤ 1_000_000) × (c.place_kind-fourth.result.bytes ≤ 104_000_000)
-few₄ c = c.place_kind-fourth.ensures.small
+few₄ c = c.place_kind-fourth.ensures.1.1.1
 
 few₅ : (c : tie.After-place_kind-fifth)
     → (c.place_kind-fifth.result.rows ≤ 1_000_000) × (c.place_kind-fifth.result.bytes ≤ 104_000_000)
-few₅ c = c.place_kind-fifth.ensures.small
+few₅ c = c.place_kind-fifth.ensures.1.1.1
 
 place-kind-requires : tie.Need-place_kind-first-requires
 place-kind-requires c.before.before.before.before.before.before.before.before.before.before.before.before.before.before.before.before.before.before.before.before κs =
     let s = c.before.before.before.before.before.before.before.before.before.before.before.before.before.before.before.before in
-    record { file_bound = (s.requires.1.of_localities, (kind-few (files s.before.before.before.before.before.before.before.before.before.before.before.before.before.before.before.before.before.before.before.before) s.requires.0 1).1); start_bound = omega arith }
+    ((s.requires.1.of_localities, (kind-few (files s.before.before.before.before.before.before.before.before.before.before.before.before.before.before.before.before.before.before.before.before) s.requires.0 1).1), omega arith)
 
 place-kind-requires-2 : tie.Need-place_kind-second-requires
 place-kind-requires-2 c.before.before.before.before.before.before.before.before.before.before.before.before.before.before.before.before κs =
     let w = c.before.before.before in
     let s = from₁ w in
-    record { file_bound = (s.requires.blocks_for.of_thoroughfares, (kind-few (files s.before.before.before.before.before.before.before.before.before.before.before.before.before.before.before.before.before) s.requires.accepted_rows 2).1); start_bound = omega (arith, (few₁ w.before.before.before.before.before.before.before.before.before.before.before.before.before.before.before.before).1) }
+    ((s.requires.1.of_thoroughfares, (kind-few (files s.before.before.before.before.before.before.before.before.before.before.before.before.before.before.before.before.before) s.requires.0 2).1), omega (arith, (few₁ w.before.before.before.before.before.before.before.before.before.before.before.before.before.before.before.before).1))
 
 place-kind-requires-3 : tie.Need-place_kind-third-requires
 place-kind-requires-3 c.before.before.before.before.before.before.before.before.before.before.before κs =
     let w = c.before.before.before.before in
     let s = from₂ w in
-    record { file_bound = (s.requires.blocks_for.of_descriptors, (kind-few (files s.before.before.before.before.before.before.before.before.before.before.before.before.before.before.before.before.before.before.before.before.before) s.requires.accepted_rows 3).1); start_bound = omega (arith, (few₁ (first w)).1, (few₂ w.before.before.before.before.before.before.before.before.before.before.before).1) }
+    ((s.requires.1.of_descriptors, (kind-few (files s.before.before.before.before.before.before.before.before.before.before.before.before.before.before.before.before.before.before.before.before.before) s.requires.0 3).1), omega (arith, (few₁ (first w)).1, (few₂ w.before.before.before.before.before.before.before.before.before.before.before).1))
 
 place-kind-requires-4 : tie.Need-place_kind-fourth-requires
 place-kind-requires-4 c.before.before.before.before.before.before κs =
     let w = c.before.before.before.before in
-    let s = from₃ w in record { file_bound = (s.requires.blocks_for.of_buildings, (kind-few (files s.before.before.before.before.before.before.before.before.before.before.before.before.before.before.before.before.before.before.before.before.before) s.requires.accepted_rows 4).1); start_bound = omega (arith, (few₁ (first (second w))).1, (few₂ (second w)).1, (few₃ w.before.before.before.before.before.before).1) }
+    let s = from₃ w in (
+      (s.requires.1.of_buildings, (kind-few (files s.before.before.before.before.before.before.before.before.before.before.before.before.before.before.before.before.before.before.before.before.before.before.before.before.before.before) s.requires.0 4).1),
+      omega (arith, (few₁ (first (second w))).1, (few₂ (second w)).1, (few₃ w.before.before.before.before.before.before).1),
+    )
 
 place-kind-requires-5 : tie.Need-place_kind-fifth-requires
 place-kind-requires-5 c.before κs =
     let w = c.before.before.before.before in
     let v = third w in
-    let s = from₄ w in record { file_bound = (s.requires.blocks_for.of_sub_buildings, (kind-few (files s.before.before.before.before.before.before.before.before.before.before.before.before.before.before.before.before.before.before.before.before.before.before.before.before.before.before) s.requires.accepted_rows 5).1); start_bound = omega (arith, (few₁ (first (second v))).1, (few₂ (second v)).1, (few₃ v.before.before.before.before.before).1, (few₄ w.before).1) }
+    let s = from₄ w in (
+      (s.requires.1.of_sub_buildings, (kind-few (files s.before.before.before.before.before.before.before.before.before.before.before.before.before.before.before.before.before.before.before.before.before.before.before.before.before.before.before.before.before.before.before) s.requires.0 5).1),
+      omega (arith, (few₁ (first (second v))).1, (few₂ (second v)).1, (few₃ v.before.before.before.before.before).1, (few₄ w.before).1),
+    )
 
 add-two : tie.Need-overflow_add-two
 add-two c = let w = c.before.before.before in omega (arith, (few₁ (first w)).1, (few₂ w.before.before.before.before.before.before.before.before.before.before.before).1)
@@ -147,7 +153,7 @@ returns c =
     let v = fourth w in
     let s = from₅ w in
     let a = s.args in
-    let e = accepted-ended (files s.before.before.before.before.before.before.before.before.before.before.before.before.before.before.before.before.before.before.before.before.before.before.before.before.before.before.before.before.before.before.before.before.before.before.before.before) s.requires.accepted_rows in
+    let e = accepted-ended (files s.before.before.before.before.before.before.before.before.before.before.before.before.before.before.before.before.before.before.before.before.before.before.before.before.before.before.before.before.before.before.before.before.before.before.before.before) s.requires.0 in
     let p₁ = (t₁ w).place_kind-first in
     let p₂ = (t₂ w).place_kind-second in
     let p₃ = (t₃ w).place_kind-third in
@@ -160,7 +166,8 @@ returns c =
     let u = a.s-bits.now in
     let two = ap₂ ◌+◌ p₁.ensures.1.0 p₂.ensures.1.0 in
     let three = ap₂ ◌+◌ two p₃.ensures.1.0 in
-    let four = ap₂ ◌+◌ three p₄.ensures.1.0 in record { rows = omega (
+    let four = ap₂ ◌+◌ three p₄.ensures.1.0 in (
+      omega (
         arith,
         count-is (files s.before.before.before.before.before.before.before.before.before.before.before.before.before.before.before.before.before.before.before.before.before.before.before.before.before.before.before.before.before.before.before.before.before.before.before.before) l t d b u e,
         p₁.ensures.0,
@@ -168,21 +175,26 @@ returns c =
         p₃.ensures.0,
         p₄.ensures.0,
         p₅.ensures.0,
-      ); bytes = omega (arith, bytes-is (files s.before.before.before.before.before.before.before.before.before.before.before.before.before.before.before.before.before.before.before.before.before.before.before.before.before.before.before.before.before.before.before.before.before.before.before.before) l t d b u e, four, p₅.ensures.1.0); placed = record {
+      ),
+      (
+        omega (arith, bytes-is (files s.before.before.before.before.before.before.before.before.before.before.before.before.before.before.before.before.before.before.before.before.before.before.before.before.before.before.before.before.before.before.before.before.before.before.before.before) l t d b u e, four, p₅.ensures.1.0),
+        record {
           room =
               record {
-                of_localities = omega (arith, s.requires.blocks_for.of_localities, p₁.kept.1.1.1.0);
-                of_thoroughfares = omega (arith, s.requires.blocks_for.of_thoroughfares, p₂.kept.1.1.1.0);
-                of_descriptors = omega (arith, s.requires.blocks_for.of_descriptors, p₃.kept.1.1.1.0);
-                of_buildings = omega (arith, s.requires.blocks_for.of_buildings, p₄.kept.1.1.1.0);
-                of_sub_buildings = omega (arith, s.requires.blocks_for.of_sub_buildings, p₅.auto.1.1.1.0);
+                of_localities = omega (arith, s.requires.1.of_localities, p₁.kept.1.1.1.0);
+                of_thoroughfares = omega (arith, s.requires.1.of_thoroughfares, p₂.kept.1.1.1.0);
+                of_descriptors = omega (arith, s.requires.1.of_descriptors, p₃.kept.1.1.1.0);
+                of_buildings = omega (arith, s.requires.1.of_buildings, p₄.kept.1.1.1.0);
+                of_sub_buildings = omega (arith, s.requires.1.of_sub_buildings, p₅.auto.1.1.1.0);
               };
           of_localities = p₁.ensures.1.1.0;
           of_thoroughfares = blocks_from p₁.ensures.1.0 p₂.ensures.1.1.0;
           of_descriptors = blocks_from two p₃.ensures.1.1.0;
           of_buildings = blocks_from three p₄.ensures.1.1.0;
           of_sub_buildings = blocks_from four p₅.ensures.1.1.0;
-        } }
+        },
+      ),
+    )
 
 same_length : tie.Need-shape_of-l_blocks
 same_length c = (t₁ c.before.before.before.before.before.before.before.before).place_kind-first.kept.blocks
@@ -194,10 +206,10 @@ same-length-3 : tie.Need-shape_of-d_blocks
 same-length-3 c = (t₃ c.before.before.before.before.before.before.before.before).place_kind-third.kept.blocks
 
 same-length-4 : tie.Need-shape_of-b_blocks
-same-length-4 c = (fourth c.before.before.before.before.before.before.before.before).place_kind-fourth.auto.1.1.1.0
+same-length-4 c = (fourth c.before.before.before.before.before.before.before.before).place_kind-fourth.auto.blocks
 
 same-length-5 : tie.Need-shape_of-s_blocks
-same-length-5 c = c.place_kind-fifth.auto.1.1.1.0
+same-length-5 c = c.place_kind-fifth.auto.blocks
 
 pub place_set_spec : {M : Type 1} → statement M
 place_set_spec =

@@ -41,7 +41,7 @@ module _ (b : tie.Start) where
   begun : Going whole (u₁ ++ (u₂ ++ (u₃ ++ (u₄ ++ u₅)))) b.args.out.now b.args.at b.args.at b.args.out.now
   begun =
       used_start files b.args.of_localities.now b.args.of_thoroughfares.now b.args.of_descriptors.now
-      b.args.of_buildings.now b.args.of_sub_buildings.now b.requires.ended b.args.out.now b.args.at
+      b.args.of_buildings.now b.args.of_sub_buildings.now b.requires.0 b.args.out.now b.args.at
 
 -- behind the localities
 module _ (c : tie.After-rows_at-i) where
@@ -53,7 +53,7 @@ module _ (c : tie.After-rows_at-i) where
   after₁ =
       going_step (u₂ b₁ ++ (u₃ b₁ ++ (u₄ b₁ ++ u₅ b₁))) (begun b₁)
       (put_of 1 c.row_shelf.ensures b₁.args.localities.now b₁.args.of_localities.now
-      c.rows_at-i.ensures) b₁.requires.of_sub_buildings_in_bounds
+      c.rows_at-i.ensures) b₁.requires.1
 
 module _ (c : tie.After-rows_at-j) where
   abbrev c₁ : tie.After-rows_at-i
@@ -67,7 +67,7 @@ module _ (c : tie.After-rows_at-j) where
   after₂ =
       going_step (u₃ b₂ ++ (u₄ b₂ ++ u₅ b₂)) (after₁ c₁)
       (put_of 2 c.row_shelf-2.ensures b₂.args.thoroughfares.now b₂.args.of_thoroughfares.now
-      c.rows_at-j.ensures) b₂.requires.of_sub_buildings_in_bounds
+      c.rows_at-j.ensures) b₂.requires.1
 
 module _ (c : tie.After-rows_at-k) where
   abbrev c₂ : tie.After-rows_at-j
@@ -81,7 +81,7 @@ module _ (c : tie.After-rows_at-k) where
   after₃ =
       going_step (u₄ b₃ ++ u₅ b₃) (after₂ c₂)
       (put_of 3 c.row_shelf-3.ensures b₃.args.descriptors.now b₃.args.of_descriptors.now
-      c.rows_at-k.ensures) b₃.requires.of_sub_buildings_in_bounds
+      c.rows_at-k.ensures) b₃.requires.1
 
 module _ (c : tie.After-rows_at-l) where
   abbrev c₃ : tie.After-rows_at-k
@@ -95,7 +95,7 @@ module _ (c : tie.After-rows_at-l) where
   after₄ =
       going_step (u₅ b₄) (after₃ c₃)
       (put_of 4 c.row_shelf-4.ensures b₄.args.buildings.now b₄.args.of_buildings.now
-      c.rows_at-l.ensures) b₄.requires.of_sub_buildings_in_bounds
+      c.rows_at-l.ensures) b₄.requires.1
 
 rows-at-requires : tie.Need-rows_at-i-requires
 rows-at-requires c.before.before.before.before.before.before.before.before.before.before.before.before.before.before.before.before κs =
@@ -108,28 +108,28 @@ rows-at-requires-2 c.before.before.before.before.before.before.before.before.bef
     let w = c in
     let b = b₁ w.before.before.before.before.before.before.before.before.before.before.before.before.before.before.before in
     room_of 2 c.row_shelf-2.ensures b.args.thoroughfares.now b.args.of_thoroughfares.now
-    w.rows_at-i.result _ (going-room (u₂ b) (u₃ b ++ (u₄ b ++ u₅ b)) (after₁ w.before.before.before.before.before.before.before.before.before.before.before.before.before.before.before) b.requires.of_sub_buildings_in_bounds)
+    w.rows_at-i.result _ (going-room (u₂ b) (u₃ b ++ (u₄ b ++ u₅ b)) (after₁ w.before.before.before.before.before.before.before.before.before.before.before.before.before.before.before) b.requires.1)
 
 rows-at-requires-3 : tie.Need-rows_at-k-requires
 rows-at-requires-3 c.before.before.before.before.before.before κs =
     let w = c in
     let b = b₂ w.before.before.before.before.before.before.before.before.before.before in
     room_of 3 c.row_shelf-3.ensures b.args.descriptors.now b.args.of_descriptors.now
-    w.rows_at-j.result _ (going-room (u₃ b) (u₄ b ++ u₅ b) (after₂ w.before.before.before.before.before.before.before.before.before.before) b.requires.of_sub_buildings_in_bounds)
+    w.rows_at-j.result _ (going-room (u₃ b) (u₄ b ++ u₅ b) (after₂ w.before.before.before.before.before.before.before.before.before.before) b.requires.1)
 
 rows-at-requires-4 : tie.Need-rows_at-l-requires
 rows-at-requires-4 c.before κs =
     let w = c in
     let b = b₃ w.before.before.before.before.before in
     room_of 4 c.row_shelf-4.ensures b.args.buildings.now b.args.of_buildings.now
-    w.rows_at-k.result _ (going-room (u₄ b) (u₅ b) (after₃ w.before.before.before.before.before) b.requires.of_sub_buildings_in_bounds)
+    w.rows_at-k.result _ (going-room (u₄ b) (u₅ b) (after₃ w.before.before.before.before.before) b.requires.1)
 
 rows-at-requires-5 : tie.Need-rows_at-requires
 rows-at-requires-5 c κs =
     let w = c in
     let b = b₄ w in
     room_of 5 c.row_shelf-5.ensures b.args.sub_buildings.now b.args.of_sub_buildings.now
-    w.rows_at-l.result _ (going-left (after₄ w) b.requires.of_sub_buildings_in_bounds)
+    w.rows_at-l.result _ (going-left (after₄ w) b.requires.1)
 
 same_length : tie.Need-shape_of-out
 same_length c =
@@ -138,8 +138,8 @@ same_length c =
     let third = c₃ fourth.before.before.before.before.before.before.before in
     let second = c₂ third in
     let first = c₁ second in
-    fifth.rows_at.auto.1.1.1.1.0
-    ∙ (fourth.rows_at-l.auto.1.1.1.1.0
+    fifth.rows_at.auto.out
+    ∙ (fourth.rows_at-l.auto.out
     ∙ (third.rows_at-k.kept.out
     ∙ (second.rows_at-j.kept.out ∙ first.rows_at-i.kept.out)))
 
@@ -150,7 +150,7 @@ returns c =
     let b = b₄ w.before.before.before.before.before.before.before in
     going-last (after₄ w.before.before.before.before.before.before.before)
     (put_of 5 l.row_shelf-5.ensures b.args.sub_buildings.now b.args.of_sub_buildings.now
-    l.rows_at.ensures) b.requires.of_sub_buildings_in_bounds
+    l.rows_at.ensures) b.requires.1
 
 pub set_rows_at_spec : {M : Type 1} → statement M
 set_rows_at_spec =

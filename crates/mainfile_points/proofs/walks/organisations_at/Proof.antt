@@ -73,7 +73,7 @@ loop-again c =
     let i = l.loop-i.i in
     let end = a.first + a.many in
     let step = packed_step own others i end t.loop-i-test.true in (
-      w.organisation_at-to.auto.1.1.1.1.0 ∙ l.loop-i.invariant.0,
+      w.organisation_at-to.auto.out ∙ l.loop-i.invariant.0,
       organisation-on (packed_at own others i) (packed_by own others (i + 1) (end - (i + 1))) s.requires.1 others
           (going-as (ap (organisation_rows others) step) l.loop-i.invariant.1)
           (put_as (ap (organisation_row others) d.delivery_at-p.ensures) w.organisation_at-to.ensures),

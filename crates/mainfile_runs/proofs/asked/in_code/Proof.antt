@@ -38,7 +38,7 @@ walk-requires c κs =
     let s = c.before in
     let t = s in
     let k = t in
-    rw (s.stretch_in-s.ensures.first, s.stretch_in-s.ensures.many)
+    rw (s.stretch_in-s.ensures.0, s.stretch_in-s.ensures.1)
     (code-between (files k.before.before) (set-accepted (files k.before.before) (sym k.check_set.ensures ∙ t.in-Value.is))
     (start k.before.before).args.code.now)
 
@@ -55,7 +55,7 @@ returns-2 c =
     let clean = rw f.outward_fault.ensures at good.if-outward_fault-ne0.false in
     w.walk.ensures
     ∙ (ap₂ (λ (n m : ℕ). run_from (shown_among a.listed (files k.before.before.before.before.before.before.before.before) n m) a.first a.count a.out.now)
-    s.stretch_in-s.ensures.first s.stretch_in-s.ensures.many
+    s.stretch_in-s.ensures.0 s.stretch_in-s.ensures.1
     ∙ code-shown (main_of (files k.before.before.before.before.before.before.before.before)) taken a.first a.count a.out.now a.code.now clean _
     (asks-code (files k.before.before.before.before.before.before.before.before) taken a.code.now clean) a.listed)
 

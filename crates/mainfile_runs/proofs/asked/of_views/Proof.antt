@@ -29,7 +29,7 @@ walk-requires c κs =
     let all = c.before in
     let t = all.before in
     let k = t.before.before in
-    rw (all.all_in.ensures.first, all.all_in.ensures.many)
+    rw (all.all_in.ensures.0, all.all_in.ensures.1)
     (all-between (files k) (set-accepted (files k) (sym k.check_set.ensures ∙ t.in-Value.is)))
 
 returns : tie.Need-returns-in-Value
@@ -42,7 +42,7 @@ returns c =
     let taken = sym k.check_set.ensures ∙ t.in-Value.is in
     w.walk.ensures
     ∙ (ap₂ (λ (n m : ℕ). run_from (shown_among a.listed (files k.before.before.before.before.before.before) n m) a.first a.count a.out.now)
-    all.all_in.ensures.first all.all_in.ensures.many
+    all.all_in.ensures.0 all.all_in.ensures.1
     ∙ views-shown (main_of (files k.before.before.before.before.before.before)) taken a.first a.count a.out.now _ (asks-views (files k.before.before.before.before.before.before) taken) a.listed)
 
 returns-2 : tie.Need-returns-in-Refused

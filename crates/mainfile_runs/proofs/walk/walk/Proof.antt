@@ -92,7 +92,7 @@ add_at c =
     omega (
       arith,
       going-fits l.loop-done.invariant.1.0 (fit (start l)) (omega arith) (asked m.before.before.before) c.in-Value.is,
-      m.shown_behind.auto.1.1.1.1.1.1.1.1.1.1.0,
+      m.shown_behind.auto.out,
       l.loop-done.invariant.1.1,
       (start l).good.1.1.1.1.1.1.1.1.1.1.1.0.0,
     )
@@ -124,7 +124,7 @@ loop-again c =
           ∙ (sym (next_place (first s) (many s) (number l) there) ∙ ap (place_among (first s) (many s)) (sym next)),
       (
         going_step l.loop-done.invariant.1.0 (fit s) (omega arith) (asked m.before.before.before.before) is,
-        m.shown_behind.auto.1.1.1.1.1.1.1.1.1.1.0 ∙ l.loop-done.invariant.1.1,
+        m.shown_behind.auto.out ∙ l.loop-done.invariant.1.1,
       ),
     )
 

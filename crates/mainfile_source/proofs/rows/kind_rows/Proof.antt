@@ -26,7 +26,7 @@ returns c =
       third.row_in-descriptor.ensures,
       second.row_in-thoroughfare.ensures,
       first.row_in-locality.ensures,
-    ) (sym (rows-seven (kind_found files) a.t6 start.well_formed.1.1.1.1.1.0.1.0.1))
+    ) (sym (rows-seven (kind_found files) a.keys start.well_formed.1.1.1.1.1.0.1.0.1))
 
 pub kind_rows_spec : {M : Type 1} → statement M
 kind_rows_spec = tie.close (tie.spec (λ c. search rules) (λ c κs. search rules) (λ c. search rules) (λ c κs. search rules) (λ c. search rules) (λ c κs. search rules) (λ c. search rules) (λ c κs. search rules) (λ c. search rules) (λ c κs. search rules) (λ c. search rules) (λ c κs. search rules) (λ c. search rules) (λ c κs. search rules) returns)

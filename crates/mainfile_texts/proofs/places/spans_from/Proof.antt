@@ -20,7 +20,7 @@ returns c =
     let at-2 = at-3 in
     let at_1 = at-2 in
     let a = at_1.args in
-    spans-are a.t1 a.t2 a.t3 a.t4 a.p
+    spans-are a.own a.premises a.streets a.localities a.p
     at_1.span_at.result
     at-2.span_at-2.result
     at-3.span_at-3.result

@@ -27,7 +27,7 @@ module _ (l : tie.In-loop-i invariant-loop decreases-loop) where
       omega (
         arith,
         l.loop-i.invariant.place,
-        one_of start.args.width l.loop-i.i start.args.n l.loop-i-test.taken,
+        one_of start.args.width l.loop-i.i start.args.n l.loop-i-test.true,
         start.requires.1,
       )
 

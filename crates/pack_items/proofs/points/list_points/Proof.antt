@@ -63,7 +63,7 @@ add_at c =
     omega (
       arith,
       going-fits l.loop-done.invariant.1.0 (fit m.before.before.before) (omega arith) (asked m.before.before.before) c.in-Value.is,
-      m.item_behind.auto.1.1.1.1.0,
+      m.item_behind.auto.out,
       l.loop-done.invariant.1.1,
       (start m.before.before.before).well_formed.1.1.1.1.0.0,
     )
@@ -93,7 +93,7 @@ loop-again c =
       omega (arith, l.loop-done.invariant.0),
       (
         going_step l.loop-done.invariant.1.0 (fit m.before.before.before) (omega arith) (asked m.before.before.before) c.in-Value.is,
-        m.item_behind.auto.1.1.1.1.0 ∙ l.loop-done.invariant.1.1,
+        m.item_behind.auto.out ∙ l.loop-done.invariant.1.1,
       ),
     )
 

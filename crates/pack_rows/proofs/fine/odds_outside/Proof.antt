@@ -59,9 +59,9 @@ module _ (c : tie.After-struct_known-in-loop-i-1 invariant-loop decreases-loop) 
       let l = at-loop.loop-i in
       let r = at-step.Row-step.result in
       let rows = start.args.rows.now in
-      let fine = not-false _ at_mark.if-not-fine.left in
+      let fine = at_mark.if-not-fine.false in
       going_next rows start.args.count l.marks l.kind l.odds l.at l.i l.inv.1 r _
-      (omega (arith, at-step.loop-i-test.taken)) (at-step.Row-step.ensures (and_left _ _ fine))
+      (omega (arith, at-step.loop-i-test.true)) (at-step.Row-step.ensures (and_left _ _ fine))
       (leb-true l.kind (row_kind rows l.at) (and_right r.fine _ fine))
       at_mark.mark.kept.bits at_mark.mark.ensures
 
@@ -70,7 +70,7 @@ add-odds c =
     omega (arith, (more c).least, odds-before-bound (start c).args.rows.now (at-step c).Row-step.result.end)
 
 loop-again : tie.Need-loop-i-preserved invariant-loop decreases-loop
-loop-again c = ((at_mark c).mark.auto.0 ∙ (at-loop c).loop-i.invariant.0, more c)
+loop-again c = ((at_mark c).mark.auto.bits ∙ (at-loop c).loop-i.invariant.0, more c)
 
 same-length-3 : tie.Need-shape_of-marks-then-at-rows invariant-loop decreases-loop
 same-length-3 c = c.loop-i.invariant.0

@@ -15,8 +15,11 @@ returns : tie.Need-returns
 returns c =
     let l = c in
     let s = l in
-    let a = s.args in record { bytes_value = l.label_at-answer.ensures; tail = subst (λ (o : Outcome Answer). TailZero o.answer o.memory) (sym l.label_at-answer.ensures)
-          (fresh-zero a.table.now a.points.now a.place s.requires) }
+    let a = s.args in (
+      l.label_at-answer.ensures,
+      subst (λ (o : Outcome Answer). TailZero o.answer o.memory) (sym l.label_at-answer.ensures)
+          (fresh-zero a.table.now a.points.now a.place s.requires),
+    )
 
 pub fresh_label_spec : {M : Type 1} → statement M
 fresh_label_spec = tie.close (tie.spec (search rules) label-at-requires returns)

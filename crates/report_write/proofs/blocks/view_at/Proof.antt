@@ -28,7 +28,7 @@ module _ (l : tie.After-fresh_label-fresh) where
 
   told : Told text l.fresh_label-fresh.result.answer l.fresh_label-fresh.result.bytes
   told =
-      subst (λ (o : Outcome Answer). ToldBy text o) (sym l.fresh_label-fresh.ensures.bytes_value)
+      subst (λ (o : Outcome Answer). ToldBy text o) (sym l.fresh_label-fresh.ensures.0)
       (view-told start.args.table.now start.args.points.now start.args.place start.requires.1 (zeros 499)
       (size 499))
 

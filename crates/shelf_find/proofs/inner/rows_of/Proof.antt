@@ -15,13 +15,13 @@ decreases-loop file s keys rows₀ i₀ rows i = 7 - i
 
 loop-holds : tie.Need-loop-i-init invariant-loop decreases-loop
 loop-holds c =
-    let a = c.args in rows_none (found a.s a.file.now) a.t3 _ refl
+    let a = c.args in rows_none (found a.s a.file.now) a.keys _ refl
 
 loop-again : tie.Need-loop-i-preserved invariant-loop decreases-loop
 loop-again c =
     let l = c in
     let a = l.args in
-    rows_next (found a.s a.file.now) a.t3 l.loop-i.rows l.loop-i.i l.loop-i.invariant c.row_for.result
+    rows_next (found a.s a.file.now) a.keys l.loop-i.rows l.loop-i.i l.loop-i.invariant c.row_for.result
     c.loop-i-test.true c.row_for.ensures
 
 returns : tie.Need-returns invariant-loop decreases-loop
@@ -29,7 +29,7 @@ returns c =
     let l = c in
     let start = l in
     let a = start.args in
-    rows_all (found a.s a.file.now) a.t3 l.loop-i.rows l.loop-i.i l.loop-i.invariant start.well_formed.1.1.0.1.0.1
+    rows_all (found a.s a.file.now) a.keys l.loop-i.rows l.loop-i.i l.loop-i.invariant start.well_formed.1.1.0.1.0.1
     c.loop-i-test.false
 
 pub rows_of_spec : {M : Type 1} → statement M

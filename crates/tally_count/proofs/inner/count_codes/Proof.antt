@@ -12,9 +12,9 @@ count-runs-requires : tie.Need-count_runs-requires
 count-runs-requires c κs =
     let v = c.before.before.before.before.before.before in
     let s = v.before.before.before.before.before in
-    let codes = v.sort.auto.0 in (
-      subst Rises (sym v.sort.ensures.numbers) (sorted_rises s.args.codes.now),
-      omega (arith, codes, v.sort.auto.1.0, s.requires.0),
+    let codes = v.sort.auto.numbers in (
+      subst Rises (sym v.sort.ensures.0) (sorted_rises s.args.codes.now),
+      omega (arith, codes, v.sort.auto.spare, s.requires.0),
       omega (arith, codes, s.requires.1),
     )
 
@@ -22,7 +22,7 @@ returns : tie.Need-returns
 returns c =
     let r = c in
     let v = r in
-    counted-sorted _ v.sort.ensures.numbers v.sort.ensures.spare r.count_runs.ensures
+    counted-sorted _ v.sort.ensures.0 v.sort.ensures.1 r.count_runs.ensures
 
 pub count_codes_spec : {M : Type 1} → statement M
 count_codes_spec =

@@ -23,7 +23,7 @@ module _ (r : tie.After-run_end-end invariant-loop decreases-loop) where
   s = l.before.before.before
 
   inside : l.loop-i.i < length s.args.codes.now
-  inside = omega (arith, ones-long l.loop-i.invariant, r.loop-i-test.taken)
+  inside = omega (arith, ones-long l.loop-i.invariant, r.loop-i-test.true)
 
   place : l.loop-i.entries < length s.args.codes.now
   place = omega (arith, inside, l.loop-i.invariant.low)

@@ -15,7 +15,7 @@ returns c =
     let a = p.args in
     let other : spaces_at a.width a.at a.file.now ≡ false =
     rw p.part_of.ensures at (sym t.all_are.ensures ∙ c.if-not-all_are.true) in
-    record { count = ap (λ (t : Bool). cond t 1 0) (sym other); content = sym (rewritten-other a.width a.at a.proper a.file.now other) }
+    (ap (λ (t : Bool). cond t 1 0) (sym other), sym (rewritten-other a.width a.at a.proper a.file.now other))
 
 returns-2 : tie.Need-returns
 returns-2 c =
@@ -26,7 +26,7 @@ returns-2 c =
     let a = p.args in
     let spaces : spaces_at a.width a.at a.file.now ≡ true =
     rw p.part_of.ensures at (sym t.all_are.ensures ∙ e.if-not-all_are.false) in
-    record { count = ap (λ (t : Bool). cond t 1 0) (sym spaces); content = f.fill.ensures ∙ sym (rewritten-spaces a.width a.at a.proper a.file.now spaces) }
+    (ap (λ (t : Bool). cond t 1 0) (sym spaces), f.fill.ensures ∙ sym (rewritten-spaces a.width a.at a.proper a.file.now spaces))
 
 pub rewrite_spec : {M : Type 1} → statement M
 rewrite_spec =
