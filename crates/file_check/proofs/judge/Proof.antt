@@ -69,7 +69,7 @@ returns-4 c =
     (rw b.is_between.ensures at c.if-is_between.false))
 
 is-above-requires : tie.Need-is_above-requires
-is-above-requires c.before.before.before.before κs =
+is-above-requires c κs =
     let r = c in
     let start = r in
     let a = start.args in

@@ -21,7 +21,7 @@ offsets-decide c =
     (sym (simp (sym f.fields_good.ensures ∙ c.if-not-fields_good.false) (and-true (all_points pack (offsets_fine pack)))))
 
 fields-good-requires : tie.Need-fields_good-requires
-fields-good-requires c.before.before κs =
+fields-good-requires c κs =
     let s = c.before.before.before in
     (s.requires.0, (s.requires.1.0, s.requires.1.1.area.area))
 

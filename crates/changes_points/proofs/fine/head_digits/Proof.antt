@@ -15,5 +15,4 @@ returns c =
 pub head_digits_spec : {M : Type 1} → statement M
 head_digits_spec =
     tie.close
-    (tie.spec
-(search rules) returns)
+    (tie.spec (search rules) returns)

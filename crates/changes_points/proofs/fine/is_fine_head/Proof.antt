@@ -39,7 +39,7 @@ returns c =
     (sym c.type_at-kind.ensures ∙ eqb-true _ 0 marks.2)
 
 is-fine-outward-requires : tie.Need-is_fine_outward-outward-requires
-is-fine-outward-requires c.before.before.before.before.before.before.before.before κs =
+is-fine-outward-requires c κs =
     let at-start = c in
     (search rules, λ e. good-outward at-start.args.before.now (at-start.requires e))
 

@@ -27,5 +27,4 @@ returns-7 c = rw c.in-Addresses.is c.address_header_ok.ensures
 pub is_header_spec : {M : Type 1} → statement M
 is_header_spec =
     tie.close
-    (tie.spec
-(search rules) (search rules) (search rules) (search rules) (search rules) (search rules) (search rules) (search rules) (search rules) (search rules) (search rules) (search rules) (search rules) (search rules) returns returns-2 returns-3 returns-4 returns-5 returns-6 returns-7)
+    (tie.spec (search rules) (search rules) (search rules) (search rules) (search rules) (search rules) (search rules) (search rules) (search rules) (search rules) (search rules) (search rules) (search rules) (search rules) returns returns-2 returns-3 returns-4 returns-5 returns-6 returns-7)

@@ -66,24 +66,24 @@ few₅ : (c : tie.After-place_kind-fifth)
 few₅ c = c.place_kind-fifth.ensures.1.1.1
 
 place-kind-requires : tie.Need-place_kind-first-requires
-place-kind-requires c.before.before.before.before.before.before.before.before.before.before.before.before.before.before.before.before.before.before.before.before κs =
+place-kind-requires c κs =
     let s = c.before.before.before.before.before.before.before.before.before.before.before.before.before.before.before.before in
     ((s.requires.1.of_localities, (kind-few (files s.before.before.before.before.before.before.before.before.before.before.before.before.before.before.before.before.before.before.before.before) s.requires.0 1).1), omega arith)
 
 place-kind-requires-2 : tie.Need-place_kind-second-requires
-place-kind-requires-2 c.before.before.before.before.before.before.before.before.before.before.before.before.before.before.before.before κs =
+place-kind-requires-2 c κs =
     let w = c.before.before.before in
     let s = from₁ w in
     ((s.requires.1.of_thoroughfares, (kind-few (files s.before.before.before.before.before.before.before.before.before.before.before.before.before.before.before.before.before) s.requires.0 2).1), omega (arith, (few₁ w.before.before.before.before.before.before.before.before.before.before.before.before.before.before.before.before).1))
 
 place-kind-requires-3 : tie.Need-place_kind-third-requires
-place-kind-requires-3 c.before.before.before.before.before.before.before.before.before.before.before κs =
+place-kind-requires-3 c κs =
     let w = c.before.before.before.before in
     let s = from₂ w in
     ((s.requires.1.of_descriptors, (kind-few (files s.before.before.before.before.before.before.before.before.before.before.before.before.before.before.before.before.before.before.before.before.before) s.requires.0 3).1), omega (arith, (few₁ (first w)).1, (few₂ w.before.before.before.before.before.before.before.before.before.before.before).1))
 
 place-kind-requires-4 : tie.Need-place_kind-fourth-requires
-place-kind-requires-4 c.before.before.before.before.before.before κs =
+place-kind-requires-4 c κs =
     let w = c.before.before.before.before in
     let s = from₃ w in (
       (s.requires.1.of_buildings, (kind-few (files s.before.before.before.before.before.before.before.before.before.before.before.before.before.before.before.before.before.before.before.before.before.before.before.before.before.before) s.requires.0 4).1),
@@ -91,7 +91,7 @@ place-kind-requires-4 c.before.before.before.before.before.before κs =
     )
 
 place-kind-requires-5 : tie.Need-place_kind-fifth-requires
-place-kind-requires-5 c.before κs =
+place-kind-requires-5 c κs =
     let w = c.before.before.before.before in
     let v = third w in
     let s = from₄ w in (

@@ -16,5 +16,4 @@ returns c =
 pub is_fine_descriptor_spec : {M : Type 1} → statement M
 is_fine_descriptor_spec =
     tie.close
-    (tie.spec
-(search rules) (search rules) returns)
+    (tie.spec (search rules) (search rules) returns)

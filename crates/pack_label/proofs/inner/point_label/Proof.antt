@@ -43,7 +43,7 @@ module _ (c : tie.After-trailer_number-start) where
   within = omega (arith, place, here)
 
 trailer-number-requires : tie.Need-trailer_number-start-requires
-trailer-number-requires c.before κs =
+trailer-number-requires c κs =
     let start = c in
     (trailed start.args.pack.now start.requires.0 _ c.layout_in-layout.ensures, lit≤ tt)
 

@@ -48,12 +48,12 @@ judged : (c : tie.After-next_marked invariant-loop decreases-loop)
 judged c = rw (start c.before.before.before).requires.1.0.rest at c.next_marked.ensures
 
 trailer-number-requires : tie.Need-trailer_number-count-requires invariant-loop decreases-loop
-trailer-number-requires c.before.before.before.before.before.before κs =
+trailer-number-requires c κs =
     let s = c.before.before.before.before in
     (trailed s.args.pack.now s.requires.0 s.args.layout s.requires.1.0, lit≤ tt)
 
 trailer-number-requires-2 : tie.Need-trailer_number-at-requires invariant-loop decreases-loop
-trailer-number-requires-2 c.before.before.before.before.before κs =
+trailer-number-requires-2 c κs =
     let s = c.before.before.before.before.before in
     (trailed s.args.pack.now s.requires.0 s.args.layout s.requires.1.0, lit≤ tt)
 

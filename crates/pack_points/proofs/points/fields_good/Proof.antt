@@ -33,12 +33,12 @@ room c =
     (omega (arith, counted.trailer_number-count.ensures.0, c.loop-i-test.true)) loop.loop-i.invariant.1
 
 trailer-number-requires : tie.Need-trailer_number-count-requires invariant-loop decreases-loop
-trailer-number-requires c.before.before.before.before κs =
+trailer-number-requires c κs =
     let start = c in
     (trailed start.args.pack.now start.requires.0 start.args.layout start.requires.1.0, lit≤ tt)
 
 trailer-number-requires-2 : tie.Need-trailer_number-at-requires invariant-loop decreases-loop
-trailer-number-requires-2 c.before.before.before κs =
+trailer-number-requires-2 c κs =
     let start = c in
     (trailed start.args.pack.now start.requires.0 start.args.layout start.requires.1.0, lit≤ tt)
 
