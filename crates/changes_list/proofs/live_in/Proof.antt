@@ -10,7 +10,7 @@ returns : tie.Need-returns-in-Value
 unfolding live_answer
 returns c =
     let k = c in
-    rw c.Live-at.ensures (after-value _ _ _ k.check_points.ensures _ c.in-Value.is)
+    rw c.live_at.ensures (after-value _ _ _ k.check_points.ensures _ c.in-Value.is)
 
 returns-2 : tie.Need-returns-in-Refused
 unfolding live_answer

@@ -20,7 +20,7 @@ returns-2 c =
     let v = c in
     let n = v in
     let a = n.args in
-    rw n.Numbers-of.ensures.0 (ap (answered (format_of a.kind) a.file.now) (sym (sym v.verdict_of.ensures ∙ c.in-Bad.is)))
+    rw n.numbers_of-format.ensures.0 (ap (answered (format_of a.kind) a.file.now) (sym (sym v.verdict_of.ensures ∙ c.in-Bad.is)))
 
 pub check_spec : {M : Type 1} → statement M
 check_spec =

@@ -32,7 +32,7 @@ returns-2 c =
     let book = a.book.now in
     let kept = rw behind-keeper-of.keeper_of-s.ensures at behind-if1.if-s-ge-SLOTS.false in
     let place =
-    behind-place-in.IsPlace-in.ensures.0 ∙ ap (λ (s : ℕ). place_of (slot_at book s)) behind-keeper-of.keeper_of-s.ensures in
+    behind-place-in.place_in-place.ensures.0 ∙ ap (λ (s : ℕ). place_of (slot_at book s)) behind-keeper-of.keeper_of-s.ensures in
     let count = behind-above.above.ensures.0 ∙ ap (λ (n : ℕ). n - 1) behind-count-of.count_of-count.ensures.0 in
     removal-done book a.id.now kept _ _ _ place count
     (upto-laid behind-above.above.result behind-remove-all.remove_all.ensures behind-short-at.short_at.ensures)

@@ -33,7 +33,7 @@ returns-2 c =
     let book = a.book.now in
     let kept = rw behind-keeper-of.keeper_of-s.ensures at behind-if1.if-s-ge-SLOTS.false in
     let place =
-    behind-place-in.IsPlace-in.ensures.0 ∙ ap (λ (s : ℕ). place_of (slot_at book s)) behind-keeper-of.keeper_of-s.ensures in
+    behind-place-in.place_in-place.ensures.0 ∙ ap (λ (s : ℕ). place_of (slot_at book s)) behind-keeper-of.keeper_of-s.ensures in
     let count = behind-count-of.count_of-count.result in
     replacement-done book (present a.view.now a.follower.now) kept _ count _ place behind-count-of.count_of-count.ensures.0
     (upto-laid count behind-replace-all.replace_all.ensures behind-short-at.short_at.ensures)

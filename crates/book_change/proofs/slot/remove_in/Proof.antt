@@ -17,7 +17,7 @@ returns c =
     let behind-place-in = behind-if1 in
     let start = behind-place-in in
     let a = start.args in
-    let own = rw behind-place-in.IsPlace-in.ensures.0 at behind-if1.if-own-place.true in
+    let own = rw behind-place-in.place_in-own.ensures.0 at behind-if1.if-own-place.true in
     set-as (sym (removed-own a.book.now a.place a.s own)) behind-free-slot.free_slot.ensures
 
 returns-2 : tie.Need-returns-then-place-own
@@ -28,7 +28,7 @@ returns-2 c =
     let behind-place-in = behind-if1 in
     let start = behind-place-in in
     let a = start.args in
-    let is = behind-place-in.IsPlace-in.ensures.0 in
+    let is = behind-place-in.place_in-own.ensures.0 in
     let other = rw is at behind-if1.if-own-place.false in
     let later = rw is at behind-if2.if-place-own.true in
     set-as
@@ -42,7 +42,7 @@ returns-3 c =
     let behind-place-in = behind-if1 in
     let start = behind-place-in in
     let a = start.args in
-    let is = behind-place-in.IsPlace-in.ensures.0 in
+    let is = behind-place-in.place_in-own.ensures.0 in
     let other = rw is at behind-if1.if-own-place.false in
     let earlier = rw is at c.if-place-own.false in
     set-as (sym (removed-earlier a.book.now a.place a.s other earlier)) (set_same start.requires)

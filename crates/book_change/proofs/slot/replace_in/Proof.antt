@@ -13,7 +13,7 @@ returns c =
     let behind-place-in = behind-if1 in
     let start = behind-place-in in
     let a = start.args in
-    let own = rw behind-place-in.IsPlace-in.ensures.0 at behind-if1.if-place_in-place.true in
+    let own = rw behind-place-in.place_in.ensures.0 at behind-if1.if-place_in-place.true in
     set-as (sym (replaced-own a.book.now a.place a.s (present a.view.now a.follower.now) own))
     behind-keep-in.keep_in.ensures
 
@@ -22,7 +22,7 @@ returns-2 c =
     let behind-place-in = c in
     let start = behind-place-in in
     let a = start.args in
-    let other = rw behind-place-in.IsPlace-in.ensures.0 at c.if-place_in-place.false in
+    let other = rw behind-place-in.place_in.ensures.0 at c.if-place_in-place.false in
     set-as (sym (replaced-other a.book.now a.place a.s (present a.view.now a.follower.now) other))
     (set_same start.requires.0)
 

@@ -16,7 +16,7 @@ returns c =
     let p = t in
     let a = p.args in
     rw (c.all_are.ensures, l.slot_of.ensures)
-    (sym (fine-free (slot_at a.book.now) a.s (rw p.IsPlace-in.ensures.0 at t.if-place_in-eq0.true)))
+    (sym (fine-free (slot_at a.book.now) a.s (rw p.place_in.ensures.0 at t.if-place_in-eq0.true)))
 
 returns-2 : tie.Need-returns-then-not-is_well_kept
 returns-2 c =
@@ -28,7 +28,7 @@ returns-2 c =
     let a = p.args in
     let kept = rw (f.follower_of.ensures, v.view_of.ensures) at k.is_well_kept.ensures in
     sym
-    (fine-ill (slot_at a.book.now) a.s (rw p.IsPlace-in.ensures.0 at t.if-place_in-eq0.false)
+    (fine-ill (slot_at a.book.now) a.s (rw p.place_in.ensures.0 at t.if-place_in-eq0.false)
     (sym kept ∙ c.if-not-is_well_kept.true))
 
 keeper-of-requires : tie.Need-keeper_of-requires
@@ -51,7 +51,7 @@ returns-3 c =
     let kept = rw (f.follower_of.ensures, v.view_of.ensures) at k.is_well_kept.ensures in
     rw (c.keeper_of.ensures, i.identity_of.ensures)
     (sym
-    (fine-well (slot_at a.book.now) a.s (rw p.IsPlace-in.ensures.0 at t.if-place_in-eq0.false)
+    (fine-well (slot_at a.book.now) a.s (rw p.place_in.ensures.0 at t.if-place_in-eq0.false)
     (sym kept ∙ u.if-not-is_well_kept.false)))
 
 pub is_fine_spec : {M : Type 1} → statement M

@@ -35,7 +35,7 @@ returns c =
     sym
     (l.loop-s.invariant.1
     ∙ first-stop (free a.book.now) slots l.loop-s.s (omega arith)
-    (ap (λ (t : Bool). not (not t)) (eq-eqb _ 0 (rw c.IsPlace-in.ensures.0 at c.if-place_in-eq0.true))))
+    (ap (λ (t : Bool). not (not t)) (eq-eqb _ 0 (rw c.place_in.ensures.0 at c.if-place_in-eq0.true))))
 
 loop-again : tie.Need-loop-s-preserved invariant-loop decreases-loop
 loop-again c =
@@ -44,7 +44,7 @@ loop-again c =
       omega arith,
       l.loop-s.invariant.1
           ∙ first_step (free a.book.now) slots l.loop-s.s (omega arith)
-          (ap (λ (t : Bool). not (not t)) (ne_eqb _ 0 (rw c.IsPlace-in.ensures.0 at c.if-place_in-eq0.false))),
+          (ap (λ (t : Bool). not (not t)) (ne_eqb _ 0 (rw c.place_in.ensures.0 at c.if-place_in-eq0.false))),
     )
 
 returns-2 : tie.Need-returns invariant-loop decreases-loop

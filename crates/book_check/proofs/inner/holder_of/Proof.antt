@@ -29,7 +29,7 @@ returns c =
     sym
     (l.loop-s.invariant.1
     ∙ first-stop (has_place (slot_at a.book.now) a.place) slots l.loop-s.s (omega arith)
-    (eq-eqb _ a.place (rw c.IsPlace-in.ensures.0 at c.if-place_in-place.true)))
+    (eq-eqb _ a.place (rw c.place_in.ensures.0 at c.if-place_in-place.true)))
 
 loop-again : tie.Need-loop-s-preserved invariant-loop decreases-loop
 loop-again c =
@@ -38,7 +38,7 @@ loop-again c =
       omega arith,
       l.loop-s.invariant.1
           ∙ first_step (has_place (slot_at a.book.now) a.place) slots l.loop-s.s (omega arith)
-          (ne_eqb _ a.place (rw c.IsPlace-in.ensures.0 at c.if-place_in-place.false)),
+          (ne_eqb _ a.place (rw c.place_in.ensures.0 at c.if-place_in-place.false)),
     )
 
 returns-2 : tie.Need-returns invariant-loop decreases-loop

@@ -36,7 +36,7 @@ returns-2 : tie.Need-returns
 returns-2 c =
     let p = c in
     let id = p in
-    rw (c.same_bytes.ensures, p.IsPlace-in.ensures.0, id.identity_of-kept.ensures)
+    rw (c.same_bytes.ensures, p.place_in-used.ensures.0, id.identity_of-kept.ensures)
 
 pub is_keeper_spec : {M : Type 1} → statement M
 is_keeper_spec =

@@ -14,7 +14,7 @@ returns : tie.Need-returns-then-place-eq0
 returns c =
     let s = c in
     let slot = slot_at s.args.book.now in
-    let free = rw c.IsPlace-in.ensures.0 at c.if-place-eq0.true in
+    let free = rw c.place_in-place.ensures.0 at c.if-place-eq0.true in
     (sym (placed-free slot s.args.s s.args.count free), λ z. marked-free slot s.requires.3 free)
 
 returns-2 : tie.Need-returns-then-count-place
@@ -22,7 +22,7 @@ returns-2 c =
     let behind-place-in = c in
     let start = behind-place-in in
     let a = start.args in
-    let over = rw behind-place-in.IsPlace-in.ensures.0 at c.if-count-place.true in
+    let over = rw behind-place-in.place_in-place.ensures.0 at c.if-count-place.true in
     (sym (placed-above (slot_at a.book.now) a.s a.count over), λ z. absurd (false≢true z))
 
 slice-read-if3 : tie.Need-bounds-marks-place
@@ -39,7 +39,7 @@ returns-3 c =
     let start = behind-place-in in
     let a = start.args in
     let slot = slot_at a.book.now in
-    let is = behind-place-in.IsPlace-in.ensures.0 in
+    let is = behind-place-in.place_in-place.ensures.0 in
     let some : 1 ≤ place_of (slot a.s) = omega (arith, behind-if1.if-place-eq0.false, is) in
     let within : place_of (slot a.s) ≤ a.count = omega (arith, behind-if2.if-count-place.false, is) in (
       sym (placed-twice slot start.requires.3 start.requires.1 a.count start.requires.2 some within (rw is at c.if-marks-place-ne0.true)),
@@ -60,7 +60,7 @@ returns-4 c =
     let start = behind-place-in in
     let a = start.args in
     let slot = slot_at a.book.now in
-    let is = behind-place-in.IsPlace-in.ensures.0 in
+    let is = behind-place-in.place_in-place.ensures.0 in
     let some : 1 ≤ place_of (slot a.s) = omega (arith, behind-if1.if-place-eq0.false, is) in
     let within : place_of (slot a.s) ≤ a.count = omega (arith, behind-if2.if-count-place.false, is) in (
       sym (placed_first slot start.requires.3 start.requires.1 a.count start.requires.2 some within (rw is at c.if-marks-place-ne0.false)),

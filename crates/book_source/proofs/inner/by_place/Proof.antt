@@ -36,8 +36,8 @@ module _ (r : tie.After-place_in-place invariant-loop decreases-loop) where
   low : loop.loop-s.s - 1 < slots
   low = omega (arith, loop.loop-s.invariant.0)
 
-  within : r.IsPlace-in.result ≤ slots
-  within = omega (arith, r.IsPlace-in.ensures.0, facts.good.placed (loop.loop-s.s - 1) low, facts.few)
+  within : r.place_in-place.result ≤ slots
+  within = omega (arith, r.place_in-place.ensures.0, facts.good.placed (loop.loop-s.s - 1) low, facts.few)
 
   taken : TakenFrom (slot_at book) (suc (loop.loop-s.s - 1)) loop.loop-s.starts
   taken =
@@ -53,8 +53,8 @@ loop-again : tie.Need-loop-s-preserved-then-place-ne0 invariant-loop decreases-l
 loop-again c =
     let r = c in
     let starts = (loop r.before).loop-s.starts in
-    let q = r.IsPlace-in.result - 1 in
-    let place : place_of (slot_at (book r.before) ((loop r.before).loop-s.s - 1)) ≡ suc q = sym r.IsPlace-in.ensures.0 ∙ omega arith in (
+    let q = r.place_in-place.result - 1 in
+    let place : place_of (slot_at (book r.before) ((loop r.before).loop-s.s - 1)) ≡ suc q = sym r.place_in-place.ensures.0 ∙ omega arith in (
       omega (arith, (loop r.before).loop-s.invariant.0),
       (
         length-set starts q _ ∙ (loop r.before).loop-s.invariant.1.0,
@@ -70,7 +70,7 @@ loop-again-2 c =
       (
         (loop r.before).loop-s.invariant.1.0,
         take_none (slot_at (book r.before)) ((loop r.before).loop-s.s - 1) (low r.before) (loop r.before).loop-s.starts
-            (λ p h e. omega (arith, r.IsPlace-in.ensures.0, e)) (taken r.before),
+            (λ p h e. omega (arith, r.place_in-place.ensures.0, e)) (taken r.before),
       ),
     )
 

@@ -26,7 +26,7 @@ plain-at-requires c κs =
     let a = s.args in
     let own = a.own.now in
     let offsets = a.offsets.of_keys in
-    let g = after_front own a.p offsets a.row s.requires.1 front.Front-at.ensures in
+    let g = after_front own a.p offsets a.row s.requires.1 front.front_at-i.ensures in
     (s.requires.0, going-room (plain_in own a.p) (offsets_of own a.p offsets a.row) g s.requires.1)
 
 keys-at-requires : tie.Need-keys_at-k-requires
@@ -38,7 +38,7 @@ keys-at-requires c κs =
     let own = a.own.now in
     let offsets = a.offsets.of_keys in
     let g =
-    after-plain own a.p offsets a.row s.requires.1 front.Front-at.ensures plain.plain_at-j.ensures in
+    after-plain own a.p offsets a.row s.requires.1 front.front_at-i.ensures plain.plain_at-j.ensures in
     going-room (offset_bytes offsets) (last_offset own a.p offsets a.row) g s.requires.1
 
 word-at-requires : tie.Need-word_at-requires
@@ -49,7 +49,7 @@ word-at-requires c κs =
     let s = front.before.before.before.before in
     let a = s.args in
     let g =
-    after-keys a.own.now a.p a.offsets.of_keys a.row s.requires.1 front.Front-at.ensures
+    after-keys a.own.now a.p a.offsets.of_keys a.row s.requires.1 front.front_at-i.ensures
     plain.plain_at-j.ensures keys.keys_at-k.ensures in
     going-left g s.requires.1
 
@@ -63,7 +63,7 @@ returns c =
     let s = front in
     let a = s.args in
     let g =
-    after-keys a.own.now a.p a.offsets.of_keys a.row s.requires.1 front.Front-at.ensures
+    after-keys a.own.now a.p a.offsets.of_keys a.row s.requires.1 front.front_at-i.ensures
     plain.plain_at-j.ensures keys.keys_at-k.ensures in
     going-last g (put_as (ap (bytes_of 4) offset.ensures) word.word_at.ensures) s.requires.1
 

@@ -100,7 +100,7 @@ returns-2 c =
     rw spans at written.print_row.ensures
     ∙ placed-written (look judged.before.before.before.before.before.before.before) (address judged.before.before.before.before.before.before.before) (place judged.before.before.before.before.before.before.before) (start judged.before.before.before.before.before.before.before).args.out.now (points judged.before.before.before.before.before.before.before)
     (points judged.before.before.before.before.before.before.before) some (says_at (points judged.before.before.before.before.before.before.before) (place judged.before.before.before.before.before.before.before) (high judged.before.before.before.before.before.before.before) 0)
-    (rw r.delivery_at-p.ensures at ending.Ending-of.ensures) resolved
+    (rw r.delivery_at-p.ensures at ending.ending_of.ensures) resolved
 
 returns-3 : tie.Need-returns-in-Bad
 returns-3 c =

@@ -24,8 +24,8 @@ module _ (c : tie.After-cut_field-first) where
   abbrev start : tie.Start
   start = c.before.before
 
-  on : c.Cut-field.result.next ≡ field_start (csv start) (at start) 2
-  on = next_here start.requires.0 1 (omega arith) start.requires.1 c.Cut-field.ensures.1
+  on : c.cut_field-first.result.next ≡ field_start (csv start) (at start) 2
+  on = next_here start.requires.0 1 (omega arith) start.requires.1 c.cut_field-first.ensures.1
 
 cut-field-requires-2 : tie.Need-cut_field-second-requires
 cut-field-requires-2 c κs = cut-here (start c).requires.0 2 (omega arith) (on c)
@@ -77,7 +77,7 @@ returns c =
     let s = start first.before.before.before.before.before.before.before.before.before in
     let row = s.requires.0 in
     record {
-      town = said_here row 1 (omega arith) s.requires.1 first.Cut-field.ensures.0;
+      town = said_here row 1 (omega arith) s.requires.1 first.cut_field-first.ensures.0;
       dependent_locality = said_here row 2 (omega arith) (on first.before.before.before.before.before.before.before.before.before) second.cut_field-second.ensures.0;
       double_locality = said_here row 3 (omega arith) (on2 second.before.before.before.before.before.before.before) third.cut_field-third.ensures.0;
       thoroughfare = said_here row 4 (omega arith) (on3 third.before.before.before.before.before) fourth.cut_field-fourth.ensures.0;

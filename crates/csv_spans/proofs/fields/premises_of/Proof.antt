@@ -49,8 +49,8 @@ module _ (c : tie.After-cut_field-first) where
   abbrev start1 : tie.Start
   start1 = start c.before
 
-  on1 : c.Cut-field.result.next ≡ field_start (csv c.before) (at c.before) 8
-  on1 = next_here start1.requires.0 7 (omega arith) (begun c.before) c.Cut-field.ensures.1
+  on1 : c.cut_field-first.result.next ≡ field_start (csv c.before) (at c.before) 8
+  on1 = next_here start1.requires.0 7 (omega arith) (begun c.before) c.cut_field-first.ensures.1
 
 cut-field-requires-2 : tie.Need-cut_field-second-requires
 cut-field-requires-2 c κs = cut-here (start1 c).requires.0 8 (omega arith) (on1 c)
@@ -106,7 +106,7 @@ returns c =
     let row = (start v.before.before.before.before.before.before.before.before.before.before).requires.0 in
     record {
       number = v.value_of-number.ensures ∙ ap value (number-field v.before.before.before.before.before.before.before.before.before.before);
-      building = said_here row 7 (omega arith) (begun v.before.before.before.before.before.before.before.before.before.before) first.Cut-field.ensures.0;
+      building = said_here row 7 (omega arith) (begun v.before.before.before.before.before.before.before.before.before.before) first.cut_field-first.ensures.0;
       sub_building = said_here row 8 (omega arith) (on1 first.before.before.before.before.before.before.before.before.before) second.cut_field-second.ensures.0;
       box = said_here row 9 (omega arith) (on2 second.before.before.before.before.before.before.before) third.cut_field-third.ensures.0;
       department = said_here row 10 (omega arith) (on3 third.before.before.before.before.before) fourth.cut_field-fourth.ensures.0;

@@ -36,7 +36,7 @@ returns c =
     (last
     (step (step (at_places places.before.before.before.before.before.before.before.before.before.before.before.before.before.before.before) places.places_at-i.ensures)
     premises.premises_at-j.ensures)
-    ending.Ending-at.ensures)
+    ending.ending_at.ensures)
 
 pub write_row_spec : {M : Type 1} → statement M
 write_row_spec =

@@ -10,13 +10,13 @@ use Rattle.file_formats.proofs.inner.record_in.Tie as tie
 
 whole-record-requires : tie.Need-whole_record-requires
 whole-record-requires c κs =
-    let s = c.before.before.before in
+    let s = c.before.before in
     let has : s.args.i < length s.args.file.now / Table.width = rw c.in-Table.is at s.requires in
     (has, omega arith)
 
 whole-record-requires-2 : tie.Need-whole_record-requires-in-Points
 whole-record-requires-2 c κs =
-    let s = c.before.before.before in
+    let s = c.before.before in
     let has : s.args.i < length s.args.file.now / Point.width = rw c.in-Points.is at s.requires in
     (has, omega arith)
 

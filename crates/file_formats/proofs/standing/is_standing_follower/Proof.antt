@@ -24,7 +24,7 @@ returns c = λ e. absurd (false≢true e)
 -- the record before needs one behind it, stands as it must, and so this is the one
 module _ (here : tie.After-whole_record) where
   abbrev start : tie.Start
-  start = here.before.before
+  start = here.before.before.before.before.before
 
   abbrev file : List ℕ
   file = start.args.file.now

@@ -10,7 +10,7 @@ none : (c : tie.After-no_text-none) → c.no_text-none.result ≡ no_text
 none c = c.no_text-none.ensures
 
 bare : tie.Need-returns-in-Bare
-bare c = rw (c.in-Bare.is, c.Front-at.ensures, none c.before.before.before.before)
+bare c = rw (c.in-Bare.is, c.front_at.ensures, none c.before.before.before.before)
 
 name-line : tie.Need-returns-in-NameLine
 name-line c = rw (c.in-NameLine.is, c.front_at-in-NameLine.ensures, none c.before.before.before.before)

@@ -91,13 +91,13 @@ returns-2 c =
     let fine = sym (verdict-is judged.before.before.before.before.before.before) ∙ told.in-Fine.is in
     let resolved = resolved-fine s (start judged.before.before.before.before.before.before).requires.accepted (place judged.before.before.before.before.before.before) (high judged.before.before.before.before.before.before) 0 fine in
     written.write_from.ensures
-    ∙ (ap (λ (e : Elements). written_by ending.Ending-of.result e out)
+    ∙ (ap (λ (e : Elements). written_by ending.ending_of.result e out)
     (ap₂ (elements_at s) (read judged.before.before.before.before.before.before).delivery_at-p.ensures (rows_are judged.before.before.before.before.before.before))
     ∙ placed-written (look judged.before.before.before.before.before.before) (address judged.before.before.before.before.before.before) (place judged.before.before.before.before.before.before) out s.addresses s.organisations
     (there judged.before.before.before.before.before.before).if-place-eq0.false
     (says_at s.addresses s.organisations (place judged.before.before.before.before.before.before) (high judged.before.before.before.before.before.before)
     (start judged.before.before.before.before.before.before).requires.accepted.organisations 0)
-    (rw (read judged.before.before.before.before.before.before).delivery_at-p.ensures at ending.Ending-of.ensures) resolved)
+    (rw (read judged.before.before.before.before.before.before).delivery_at-p.ensures at ending.ending_of.ensures) resolved)
 
 returns-3 : tie.Need-returns-in-Bad
 returns-3 c =

@@ -12,43 +12,43 @@ use Rattle.mainfile_formats.proofs.inner.record_in.Tie as tie
 
 whole-record-requires : tie.Need-whole_record-requires
 whole-record-requires c κs =
-    let s = c.before.before.before in
+    let s = c.before.before in
     let has : s.args.i < length s.args.file.now / MainLocality.width = rw c.in-Localities.is at s.requires in
     (has, omega arith)
 
 whole-record-requires-2 : tie.Need-whole_record-requires-in-Thoroughfares
 whole-record-requires-2 c κs =
-    let s = c.before.before.before in
+    let s = c.before.before in
     let has : s.args.i < length s.args.file.now / MainText.thoroughfare_width = rw c.in-Thoroughfares.is at s.requires in
     (has, omega arith)
 
 whole-record-requires-3 : tie.Need-whole_record-requires-in-Descriptors
 whole-record-requires-3 c κs =
-    let s = c.before.before.before in
+    let s = c.before.before in
     let has : s.args.i < length s.args.file.now / MainText.descriptor_width = rw c.in-Descriptors.is at s.requires in
     (has, omega arith)
 
 whole-record-requires-4 : tie.Need-whole_record-requires-in-Buildings
 whole-record-requires-4 c κs =
-    let s = c.before.before.before in
+    let s = c.before.before in
     let has : s.args.i < length s.args.file.now / MainText.building_width = rw c.in-Buildings.is at s.requires in
     (has, omega arith)
 
 whole-record-requires-5 : tie.Need-whole_record-requires-in-SubBuildings
 whole-record-requires-5 c κs =
-    let s = c.before.before.before in
+    let s = c.before.before in
     let has : s.args.i < length s.args.file.now / MainText.sub_building_width = rw c.in-SubBuildings.is at s.requires in
     (has, omega arith)
 
 whole-record-requires-6 : tie.Need-whole_record-requires-in-Organisations
 whole-record-requires-6 c κs =
-    let s = c.before.before.before in
+    let s = c.before.before in
     let has : s.args.i < length s.args.file.now / MainOrganisation.width = rw c.in-Organisations.is at s.requires in
     (has, omega arith)
 
 whole-record-requires-7 : tie.Need-whole_record-requires-in-Addresses
 whole-record-requires-7 c κs =
-    let s = c.before.before.before in
+    let s = c.before.before in
     let has : s.args.i < length s.args.file.now / MainAddress.width = rw c.in-Addresses.is at s.requires in
     (has, omega arith)
 

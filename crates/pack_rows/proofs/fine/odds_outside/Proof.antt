@@ -53,21 +53,21 @@ module _ (c : tie.After-struct_known-in-loop-i-1 invariant-loop decreases-loop) 
   start = at-loop.before.before.before
 
   more : Going start.args.rows.now start.args.count at_mark.mark.new.bits
-      (row_kind start.args.rows.now at-loop.loop-i.at) (at-loop.loop-i.odds + at-step.Row-step.result.odds)
-      at-step.Row-step.result.end (at-loop.loop-i.i + 1)
+      (row_kind start.args.rows.now at-loop.loop-i.at) (at-loop.loop-i.odds + at-step.row_step-step.result.odds)
+      at-step.row_step-step.result.end (at-loop.loop-i.i + 1)
   more =
       let l = at-loop.loop-i in
-      let r = at-step.Row-step.result in
+      let r = at-step.row_step-step.result in
       let rows = start.args.rows.now in
       let fine = at_mark.if-not-fine.false in
       going_next rows start.args.count l.marks l.kind l.odds l.at l.i l.inv.1 r _
-      (omega (arith, at-step.loop-i-test.true)) (at-step.Row-step.ensures (and_left _ _ fine))
+      (omega (arith, at-step.loop-i-test.true)) (at-step.row_step-step.ensures (and_left _ _ fine))
       (leb-true l.kind (row_kind rows l.at) (and_right r.fine _ fine))
       at_mark.mark.kept.bits at_mark.mark.ensures
 
 add-odds : tie.Need-overflow_add-odds invariant-loop decreases-loop
 add-odds c =
-    omega (arith, (more c).least, odds-before-bound (start c).args.rows.now (at-step c).Row-step.result.end)
+    omega (arith, (more c).least, odds-before-bound (start c).args.rows.now (at-step c).row_step-step.result.end)
 
 loop-again : tie.Need-loop-i-preserved invariant-loop decreases-loop
 loop-again c = ((at_mark c).mark.auto.bits ∙ (at-loop c).loop-i.invariant.0, more c)
