@@ -112,7 +112,7 @@ module _ (points : List ℕ) (a : Accepted point_format points) (followers : Fol
     is-followed false z =
         let due = eqb-false (needed rec) 0 z in
         and_yes (eq-eqb (point_fault next) 0 (followers i low high view due))
-        (needed-follows (record_of points (i - 1)) rec next view (a.each i low high).in_place due)
+        (needed-follows (record_of points (i - 1)) rec next view (a.each i low high).in-place due)
 
     -- a live view of the file may be kept
     pub keepable : is_live rec ≡ true → Keepable (present_at points i)

@@ -117,7 +117,7 @@ module _ (points : List ℕ) (p : Accepted point_format points) (i : ℕ) (low :
       → (get_or next 41 0 ≡ needed rec) × (point_fault next ≡ 0)
   follower-there view n =
       let last = records point_format points - 1 in
-      let there = view-followed (record_at 168 points (i - 1)) rec next view (p.each i low high).in_place n in
+      let there = view-followed (record_at 168 points (i - 1)) rec next view (p.each i low high).in-place n in
       let inside : i + 1 ≤ last = omega arith in (
         follower-type rec next there,
         ⊎_elim (λ (h : i + 1 ≡ last). absurd (not-trailer h (follower-front rec next there)))

@@ -5,7 +5,7 @@ use mathlib.Core.List.{[]}
 use Rattle.refusal.specs.declared.Answer.TheVariants.{Refused}
 use Rattle.refusal.proofs.Outcomes.{afterwards-refused}
 use Rattle.changes_label.proofs.Laws.{table-accepted, wanted-place}
-use Rattle.csv.specs.Row.{view_row}
+use Rattle.csv_paf.specs.Row.{view_row}
 use Rattle.changes_csv.proofs.Laws.{row-by-place}
 use Rattle.changes_csv.proofs.row_of_view.Statement.{statement}
 use Rattle.changes_csv.proofs.row_of_view.Tie as tie

@@ -4,7 +4,7 @@ use mathlib.Core.Path.{sym, ◌∙◌}
 use Rattle.refusal.proofs.Outcomes.{afterwards-refused}
 use Rattle.run.specs.declared.Series.TheVariants.{Unasked}
 use Rattle.changes_label.proofs.Laws.{table-accepted}
-use Rattle.csv.specs.Row.{view_rows}
+use Rattle.csv_paf.specs.Row.{view_rows}
 use Rattle.changes_csv.proofs.Laws.{rows-by-place}
 use Rattle.changes_csv.proofs.rows_of_views.Statement.{statement}
 use Rattle.changes_csv.proofs.rows_of_views.Tie as tie

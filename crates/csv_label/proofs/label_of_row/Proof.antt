@@ -6,7 +6,7 @@ use mathlib.Core.Option.{Option}
 use Prim.Native.Nat.{ℕ}
 use Rattle.refusal.specs.declared.Answer.TheVariants.{Refused}
 use Rattle.refusal.proofs.Outcomes.{afterwards-refused}
-use Rattle.csv.specs.Ask.{resolved_of, label_or, row_label, csv_label}
+use Rattle.csv_paf.specs.Ask.{resolved_of, label_or, row_label, csv_label}
 use Rattle.csv_label.proofs.RowLaws.{row_here}
 use Rattle.csv_label.proofs.ShownLaws.{label-asked}
 use Rattle.csv_label.proofs.label_of_row.Statement.{statement}

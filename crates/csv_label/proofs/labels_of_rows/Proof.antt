@@ -4,7 +4,7 @@ use mathlib.Core.Path.{sym, ◌∙◌}
 use mathlib.Core.Bool.{false}
 use Rattle.refusal.proofs.Outcomes.{afterwards-refused}
 use Rattle.run.specs.declared.Series.TheVariants.{Unasked}
-use Rattle.csv.specs.Ask.{csv_labels}
+use Rattle.csv_paf.specs.Ask.{csv_labels}
 use Rattle.csv_label.proofs.ShownLaws.{rows-shown}
 use Rattle.csv_label.proofs.labels_of_rows.Statement.{statement}
 use Rattle.csv_label.proofs.labels_of_rows.Tie as tie

@@ -9,7 +9,7 @@ use Rattle.source.specs.Address.{present}
 use Rattle.source.specs.Resolve.{forbidden_of}
 use Rattle.label.specs.declared.Span.{Span}
 use Rattle.label.specs.Spans.{text_in2, elements_in}
-use Rattle.csv.specs.Ask.{forbidden_in}
+use Rattle.csv_paf.specs.Ask.{forbidden_in}
 use Rattle.csv_spans.proofs.Rules.{is-filled, forbidden-same, rule-one, rule-two, no-rule}
 use Rattle.csv_spans.proofs.forbidden_in.Statement.{statement}
 use Rattle.csv_spans.proofs.forbidden_in.Tie as tie

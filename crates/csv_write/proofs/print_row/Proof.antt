@@ -9,7 +9,7 @@ use lib.ListN.{length}
 use Rattle.source.specs.Address.{Elements}
 use Rattle.label.specs.Spans.{elements_in}
 use Rattle.label.proofs.Room.{counted-short, counted-written}
-use Rattle.csv.specs.Row.{carried}
+use Rattle.csv_paf.specs.Row.{carried}
 use Rattle.csv_write.specs.Pieces.{row_in}
 use Rattle.csv_write.proofs.Written.{written-carried, written-not}
 use Rattle.csv_write.proofs.print_row.Statement.{statement}

@@ -34,7 +34,7 @@ returns-2 c =
     sym
     (judged-falls (format_of a.kind) a.file.now a.i
     (rw (f.fault_in-fault.ensures, r.record_in-rec.ensures) at t.if-fault-ne0.false)
-    (not-true _ (rw (u.is_above.ensures, p.record_in-before.ensures, r.record_in-rec.ensures) at c.if-not-is_above.true)))
+    ((rw (u.is_above.ensures, p.record_in-before.ensures, r.record_in-rec.ensures) at c.if-not-is_above.true)))
 
 returns-3 : tie.Need-returns-then-is_between
 returns-3 c =
@@ -49,7 +49,7 @@ returns-3 c =
     sym
     (judged-fine (format_of a.kind) a.file.now a.i
     (rw (f.fault_in-fault.ensures, r.record_in-rec.ensures) at t.if-fault-ne0.false)
-    (not-false _ (rw (u.is_above.ensures, p.record_in-before.ensures, r.record_in-rec.ensures) at v.if-not-is_above.false))
+    ((rw (u.is_above.ensures, p.record_in-before.ensures, r.record_in-rec.ensures) at v.if-not-is_above.false))
     (rw b.is_between.ensures at c.if-is_between.true))
 
 returns-4 : tie.Need-returns-else-is_between
@@ -65,7 +65,7 @@ returns-4 c =
     sym
     (judged-stray (format_of a.kind) a.file.now a.i
     (rw (f.fault_in-fault.ensures, r.record_in-rec.ensures) at t.if-fault-ne0.false)
-    (not-false _ (rw (u.is_above.ensures, p.record_in-before.ensures, r.record_in-rec.ensures) at v.if-not-is_above.false))
+    ((rw (u.is_above.ensures, p.record_in-before.ensures, r.record_in-rec.ensures) at v.if-not-is_above.false))
     (rw b.is_between.ensures at c.if-is_between.false))
 
 is-above-requires : tie.Need-is_above-requires

@@ -43,7 +43,7 @@ module _ (c : tie.Else-not-is_whole) where
   all = sym c.is_whole.ensures ∙ c.if-not-is_whole.false
 
 record-in-requires : tie.Need-record_in-first-requires
-record-in-requires c κs = omega (arith, at-least-two (f c) (file c) (all c))
+record-in-requires c κs = omega (arith, at-least-two (f c.before) (file c.before) (all c.before))
 
 -- the first record is asked for its identifier
 module _ (c : tie.After-is_retired) where

@@ -37,4 +37,4 @@ returns-2 c =
 
 pub print_label_spec : {M : Type 1} → statement M
 print_label_spec =
-    tie.close (tie.spec (search rules) returns (λ c κs. fits c.before.before.before.before) (search rules) returns-2)
+    tie.close (tie.spec (search rules) returns (λ c κs. fits c.before) (search rules) returns-2)

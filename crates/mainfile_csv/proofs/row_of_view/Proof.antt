@@ -4,7 +4,7 @@ use mathlib.Core.Path.{◌≡◌, sym, ap₂, ◌∙◌}
 use Prim.Native.Nat.{ℕ}
 use Rattle.refusal.specs.declared.Answer.TheVariants.{Refused}
 use Rattle.refusal.proofs.Outcomes.{afterwards-refused}
-use Rattle.csv.specs.Row.{view_row}
+use Rattle.csv_paf.specs.Row.{view_row}
 use Rattle.mainfile.specs.Set.{Set, set_of}
 use Rattle.mainfile_check.proofs.Laws.{set-accepted}
 use Rattle.mainfile_views.specs.Range.{views_in}

@@ -8,7 +8,7 @@ use Rattle.run.specs.Series.{run_from}
 use Rattle.mainfile.specs.Set.{Set, set_of}
 use Rattle.mainfile_check.proofs.Laws.{set-accepted}
 use Rattle.mainfile_label.proofs.Laws.{all-between}
-use Rattle.csv.specs.Row.{view_rows}
+use Rattle.csv_paf.specs.Row.{view_rows}
 use Rattle.mainfile_csv.specs.Rows.{rows_among}
 use Rattle.mainfile_csv.proofs.Laws.{rows-by-place}
 use Rattle.mainfile_csv.proofs.rows_of_views.Statement.{statement}

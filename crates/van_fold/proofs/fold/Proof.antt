@@ -53,4 +53,4 @@ returns-3 c =
 
 pub fold_spec : {M : Type 1} → statement M
 fold_spec =
-    tie.close (tie.spec (search rules) returns returns-2 (λ c κs. fits c.before.before.before.before) (search rules) returns-3)
+    tie.close (tie.spec (search rules) returns returns-2 (λ c κs. fits c.before) (search rules) returns-3)

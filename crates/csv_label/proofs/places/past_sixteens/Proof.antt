@@ -11,7 +11,7 @@ use borrow.Author.Tests.{not-false}
 use lib.Dec.{eqb}
 use lib.ListN.{length, take, drop}
 use Rattle.field.specs.Test.{every}
-use Rattle.csv.specs.File.{behind_row}
+use Rattle.csv_paf.specs.File.{behind_row}
 use Rattle.csv_label.proofs.RowLaws.{behind-past}
 use Rattle.csv_label.proofs.places.past_sixteens.Statement.{statement}
 use Rattle.csv_label.proofs.places.past_sixteens.Tie as tie

@@ -6,7 +6,7 @@ use mathlib.Core.Path.{◌≡◌, refl, sym, ◌∙◌}
 use mathlib.Core.List.{List}
 use native.Mathlib.Omega.{arith}
 use lib.ListN.{length, drop}
-use Rattle.csv.specs.File.{behind_row}
+use Rattle.csv_paf.specs.File.{behind_row}
 use Rattle.csv_label.proofs.RowLaws.{behind-step, behind-stop, stop-high, behind-end}
 use Rattle.csv_label.proofs.places.row_behind.Statement.{statement}
 use Rattle.csv_label.proofs.places.row_behind.Tie as tie

@@ -7,8 +7,8 @@ use mathlib.Core.List.{List}
 use native.Mathlib.Omega.{arith}
 use lib.ListN.{length, drop, length-drop, drop_of_length-le}
 use lib.Seq.{drop-length}
-use Rattle.csv.specs.File.{rows_of}
-use Rattle.csv.specs.Ask.{kth_of}
+use Rattle.csv_paf.specs.File.{rows_of}
+use Rattle.csv_paf.specs.Ask.{kth_of}
 use Rattle.csv_label.specs.Shown.{row_from}
 use Rattle.csv_label.proofs.RowLaws.{kth-none, kth-zero, kth-first, kth-behind}
 use Rattle.csv_label.proofs.places.row_place.Statement.{statement}

@@ -10,7 +10,7 @@ use Rattle.label.proofs.Puts.{lent, given_back}
 use Rattle.refusal.specs.Outcome.{said}
 use Rattle.item_write.specs.Headed.{before, headed}
 use Rattle.item_write.proofs.Headed.{cut-within}
-use Rattle.csv.specs.Ask.{label_or, row_line}
+use Rattle.csv_paf.specs.Ask.{label_or, row_line}
 use Rattle.csv_label.specs.Shown.{resolved_at}
 use Rattle.csv_label.proofs.ShownLaws.{line-worded, ap-short, asked-small, asked-item}
 use Rattle.csv_label.proofs.shown.item_at.Statement.{statement}

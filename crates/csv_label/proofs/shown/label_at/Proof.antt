@@ -4,8 +4,8 @@ use mathlib.Core.Path.{◌≡◌, sym, ap, ◌∙◌}
 use lib.ListN.{drop}
 use Rattle.source.specs.Address.{Elements}
 use Rattle.label.specs.Label.{label_of, room_outcome}
-use Rattle.csv.specs.File.{fields_of}
-use Rattle.csv.specs.Ask.{row_elements, forbidden_in}
+use Rattle.csv_paf.specs.File.{fields_of}
+use Rattle.csv_paf.specs.Ask.{row_elements, forbidden_in}
 use Rattle.csv_label.proofs.ShownLaws.{label-none, label-refused, label-printed}
 use Rattle.csv_label.proofs.shown.label_at.Statement.{statement}
 use Rattle.csv_label.proofs.shown.label_at.Tie as tie

@@ -13,8 +13,8 @@ use Rattle.refusal.specs.Outcome.{said}
 use Rattle.refusal.proofs.Outcomes.{answer-of}
 use Rattle.run.specs.Series.{Asking, asked_behind}
 use Rattle.run.proofs.Going.{Fitting, Going, going_start, going-fits, going_step, going-stop, going_end}
-use Rattle.csv.specs.File.{rows_of}
-use Rattle.csv.specs.Ask.{kth_of, resolved_of}
+use Rattle.csv_paf.specs.File.{rows_of}
+use Rattle.csv_paf.specs.Ask.{kth_of, resolved_of}
 use Rattle.csv_label.specs.Shown.{row_from, resolved_at, shown_of, shown_row, RowPlace}
 use Rattle.csv_label.proofs.RowLaws.{kth-next, row_here, number-within}
 use Rattle.csv_label.proofs.ShownLaws.{shown-within, shown-there}

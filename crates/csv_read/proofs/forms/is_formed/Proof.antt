@@ -7,7 +7,7 @@ use mathlib.Core.List.{List, [], ◌∷◌}
 use lib.Dec.{eqb}
 use lib.ListN.{get_or}
 use Rattle.file_compare.specs.Order.{same}
-use Rattle.csv.specs.File.{double_form, organisation_form}
+use Rattle.csv_paf.specs.File.{double_form, organisation_form}
 use Rattle.csv_read.proofs.FormLaws.{form-text, form-at, before_at, ahead-at}
 use Rattle.csv_read.proofs.forms.is_formed.Statement.{statement}
 use Rattle.csv_read.proofs.forms.is_formed.Tie as tie

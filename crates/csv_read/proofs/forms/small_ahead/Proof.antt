@@ -7,7 +7,7 @@ use mathlib.Core.List.{List, [], ◌∷◌}
 use native.Mathlib.Omega.{arith}
 use lib.ListN.{drop, get_or}
 use Rattle.file_compare.specs.Order.{same}
-use Rattle.csv.specs.File.{fields_of}
+use Rattle.csv_paf.specs.File.{fields_of}
 use Rattle.csv_read.proofs.Cut.{comma-within, this-field, next_field, no_field}
 use Rattle.csv_read.proofs.forms.small_ahead.Statement.{statement}
 use Rattle.csv_read.proofs.forms.small_ahead.Tie as tie

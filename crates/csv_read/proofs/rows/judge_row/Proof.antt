@@ -11,7 +11,7 @@ use borrow.Author.Tests.{not-true, not-false}
 use lib.Dec.{leb}
 use lib.ListN.{length, drop, get_or}
 use Rattle.field.specs.Text.{part}
-use Rattle.csv.specs.File.{fields_of, forms_for, widths}
+use Rattle.csv_paf.specs.File.{fields_of, forms_for, widths}
 use Rattle.csv_read.specs.Cut.{field_end}
 use Rattle.csv_read.specs.Judged.{no_form, Reading, faulty_row, ended_row, Judges}
 use Rattle.csv_read.proofs.Cut.{end-within, comma-within}

@@ -8,7 +8,7 @@ use native.Mathlib.Numerals.{add-one}
 use lib.ListN.{drop, get_or}
 use Rattle.field.specs.Digits.{value}
 use Rattle.field.proofs.Fronts.{four-digits}
-use Rattle.csv.specs.File.{fields_of}
+use Rattle.csv_paf.specs.File.{fields_of}
 use Rattle.csv_read.specs.Cut.{field_start}
 use Rattle.csv_spans.proofs.Laws.{short, cut-here, end-high, said_here, field-here, next_here}
 use Rattle.csv_spans.proofs.fields.premises_of.Statement.{statement}

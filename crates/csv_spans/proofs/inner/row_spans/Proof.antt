@@ -7,8 +7,8 @@ use native.Mathlib.Omega.{arith}
 use native.Mathlib.Numerals.{add-one}
 use lib.ListN.{drop}
 use Rattle.label.proofs.Stand.{all-stand}
-use Rattle.csv.specs.File.{fields_of}
-use Rattle.csv.specs.Ask.{row_elements}
+use Rattle.csv_paf.specs.File.{fields_of}
+use Rattle.csv_paf.specs.Ask.{row_elements}
 use Rattle.csv_read.specs.Cut.{field_start}
 use Rattle.csv_spans.proofs.Laws.{end-high, code-sized, outward-here, inward-here}
 use Rattle.csv_spans.proofs.inner.row_spans.Statement.{statement}

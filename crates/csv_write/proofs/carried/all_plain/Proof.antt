@@ -7,7 +7,7 @@ use mathlib.Core.Bool.{not, ◌&&◌}
 use native.Mathlib.Omega.{arith}
 use lib.ListN.{length, drop}
 use Rattle.field.proofs.Faults.{every-step, every-end}
-use Rattle.csv.specs.Row.{plain_byte, plain}
+use Rattle.csv_paf.specs.Row.{plain_byte, plain}
 use Rattle.csv_write.proofs.carried.all_plain.Statement.{statement}
 use Rattle.csv_write.proofs.carried.all_plain.Tie as tie
 

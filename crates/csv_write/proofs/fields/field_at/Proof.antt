@@ -11,12 +11,12 @@ at-text : (c : tie.Start) → let g = c.args in let a = g.a.now in let b = g.b.n
 at-text c = begun (field-made _ _ c.args.s) c.requires
 
 text-at-requires : tie.Need-text_at-i-requires
-text-at-requires c κs = room (at-text c)
+text-at-requires c κs = room (at-text c.before.before.before.before)
 
 byte-at-requires : tie.Need-byte_at-requires
 byte-at-requires c κs =
     let text = c in
-    room (step (at-text text) text.text_at-i.ensures)
+    room (step (at-text text.before.before.before.before.before.before.before.before) text.text_at-i.ensures)
 
 returns : tie.Need-returns
 returns c =

@@ -10,12 +10,12 @@ at-number : (c : tie.Start) → let g = c.args in Begun (number_field g.n) (numb
 at-number c = begun (number-made c.args.n) c.requires
 
 number-at-requires : tie.Need-number_at-i-requires
-number-at-requires c κs = room (at-number c)
+number-at-requires c κs = room (at-number c.before.before)
 
 byte-at-requires : tie.Need-byte_at-requires
 byte-at-requires c κs =
     let number = c in
-    room (step (at-number number) number.number_at-i.ensures)
+    room (step (at-number number.before.before.before.before.before.before) number.number_at-i.ensures)
 
 returns : tie.Need-returns
 returns c =

@@ -56,7 +56,7 @@ returns c =
 pub places_at_spec : {M : Type 1} → statement M
 places_at_spec =
     tie.close
-    (tie.spec (λ c κs. room (none c.before.before.before.before.before.before.before.before.before.before.before.before.before.before.before.before.before.before.before.before.before.before.before.before.before.before.before.before.before.before.before.before.before.before.before.before)) (λ c κs. room (postcode c.before.before.before.before.before.before.before.before.before.before.before.before.before.before.before.before.before.before.before.before.before.before.before.before.before.before.before.before.before))
+    (tie.spec (λ c κs. room (none c.before.before.before.before.before.before)) (λ c κs. room (postcode c.before.before.before.before.before.before.before.before.before.before.before.before.before.before.before.before.before.before.before.before.before.before.before.before.before.before.before.before.before))
     (λ c κs. room (town c.before.before.before.before.before.before.before.before.before.before.before.before.before.before.before.before.before.before.before.before.before.before.before.before)) (λ c κs. room (dependent c.before.before.before.before.before.before.before.before.before.before.before.before.before.before.before.before.before.before.before))
     (λ c κs. room (double c.before.before.before.before.before.before.before.before.before.before.before.before.before.before)) (λ c κs. room (street c.before.before.before.before.before.before.before.before))
     (search rules) returns)

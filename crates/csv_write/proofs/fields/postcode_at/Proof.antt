@@ -12,19 +12,19 @@ at-outward : (c : tie.Start) → let g = c.args in let a = g.a.now in let b = g.
 at-outward c = begun (postcode-made _ _ c.args.outward c.args.inward) c.requires
 
 text-at-requires : tie.Need-text_at-i-requires
-text-at-requires c κs = room (at-outward c)
+text-at-requires c κs = room (at-outward c.before.before.before.before)
 
 byte-at-requires : tie.Need-byte_at-j-requires
 byte-at-requires c κs =
     let outward = c in
-    room (step (at-outward outward) outward.text_at-i.ensures)
+    room (step (at-outward outward.before.before.before.before.before.before.before.before) outward.text_at-i.ensures)
 
 field-at-requires : tie.Need-field_at-requires
 field-at-requires c κs =
     let space = c in
     let outward = space.before.before.before.before in
     room
-    (step (step (at-outward outward.before.before.before.before.before) outward.text_at-i.ensures)
+    (step (step (at-outward outward.before.before.before.before.before.before.before.before) outward.text_at-i.ensures)
     space.byte_at-j.ensures)
 
 returns : tie.Need-returns

@@ -57,7 +57,7 @@ returns c =
 pub premises_at_spec : {M : Type 1} → statement M
 premises_at_spec =
     tie.close
-    (tie.spec (λ c κs. room (none c.before.before.before.before.before.before.before.before.before.before.before.before.before.before.before.before.before.before.before.before.before.before.before.before.before.before.before.before.before.before.before.before)) (λ c κs. room (number c.before.before.before.before.before.before.before.before.before.before.before.before.before.before.before.before.before.before.before.before.before.before.before.before.before.before.before))
+    (tie.spec (λ c κs. room (none c.before.before.before.before)) (λ c κs. room (number c.before.before.before.before.before.before.before.before.before.before.before.before.before.before.before.before.before.before.before.before.before.before.before.before.before.before.before))
     (λ c κs. room (building c.before.before.before.before.before.before.before.before.before.before.before.before.before.before.before.before.before.before.before.before.before.before)) (λ c κs. room (sub_building c.before.before.before.before.before.before.before.before.before.before.before.before.before.before.before.before.before))
     (λ c κs. room (box c.before.before.before.before.before.before.before.before.before.before.before.before)) (λ c κs. room (department c.before.before.before.before.before.before.before))
     (search rules) returns)

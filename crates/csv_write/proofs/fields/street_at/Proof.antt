@@ -11,19 +11,19 @@ at_name : (c : tie.Start) → let g = c.args in let a = g.a.now in let b = g.b.n
 at_name c = begun (street-made _ _ c.args.name c.args.descriptor) c.requires
 
 text-at-requires : tie.Need-text_at-i-requires
-text-at-requires c κs = room (at_name c)
+text-at-requires c κs = room (at_name c.before.before.before.before)
 
 tail-at-requires : tie.Need-tail_at-j-requires
 tail-at-requires c κs =
     let name = c in
-    room (step (at_name name) name.text_at-i.ensures)
+    room (step (at_name name.before.before.before.before.before.before.before.before) name.text_at-i.ensures)
 
 byte-at-requires : tie.Need-byte_at-requires
 byte-at-requires c κs =
     let beside = c in
     let name = beside.before.before.before.before in
     room
-    (step (step (at_name name.before.before.before.before.before) name.text_at-i.ensures) beside.tail_at-j.ensures)
+    (step (step (at_name name.before.before.before.before.before.before.before.before) name.text_at-i.ensures) beside.tail_at-j.ensures)
 
 returns : tie.Need-returns
 returns c =

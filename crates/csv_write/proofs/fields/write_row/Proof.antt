@@ -12,19 +12,19 @@ at_places : (c : tie.Start) → let g = c.args in let a = g.a.now in let b = g.b
 at_places c = begun-front (row_made _ _ c.args.e c.args.x) c.requires
 
 places-at-requires : tie.Need-places_at-i-requires
-places-at-requires c κs = room (at_places c)
+places-at-requires c κs = room (at_places c.before.before.before.before)
 
 premises-at-requires : tie.Need-premises_at-j-requires
 premises-at-requires c κs =
     let places = c in
-    room (step (at_places places) places.places_at-i.ensures)
+    room (step (at_places places.before.before.before.before.before.before.before.before) places.places_at-i.ensures)
 
 ending-at-requires : tie.Need-ending_at-requires
 ending-at-requires c κs =
     let premises = c in
     let places = premises.before.before.before.before in
     room
-    (step (step (at_places places.before.before.before.before.before) places.places_at-i.ensures)
+    (step (step (at_places places.before.before.before.before.before.before.before.before) places.places_at-i.ensures)
     premises.premises_at-j.ensures)
 
 returns : tie.Need-returns

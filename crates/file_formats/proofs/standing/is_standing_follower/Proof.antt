@@ -47,24 +47,24 @@ module _ (here : tie.After-whole_record) where
   was = judged-record point_format file (i - 1) (start.requires.0.last_fine (eqb-false i 1 neither-was.0))
 
   follower : follows owner (at point_format file i) ≡ true
-  follower = owner-placed file i start.requires.0.low was.in_place needing
+  follower = owner-placed file i start.requires.0.low was.in-place needing
 
 is-fine-follower-requires : tie.Need-is_fine_follower-requires
 is-fine-follower-requires here κs =
     rw (here.whole_record-before.ensures, here.whole_record.ensures)
-    (owned (owner here) (at point_format (file here) (i here)) (needing here) (follower here) (was here).well-formed-2)
+    (owned (owner here) (at point_format (file here) (i here)) (needing here) (follower here) (was here).well_formed)
 
 returns-2 : tie.Need-returns
 returns-2 c =
     let here = c in
-    let rec = at point_format (file here.before.before.before.before) (i here.before.before.before.before) in
-    let high = (start here.before.before.before.before).requires.0.high in
+    let rec = at point_format (file here.before) (i here.before) in
+    let high = (start here.before).requires.0.high in
     λ e.
-    judged-fine point_format (file here.before.before.before.before) (i here.before.before.before.before) (rw here.whole_record.ensures at (c.is_fine_follower.ensures e))
-    (risen (eqb (i here.before.before.before.before) 1) _
-    (above-owner (owner here.before.before.before.before) rec (needing here.before.before.before.before) (follower here.before.before.before.before) (record-length 168 (file here.before.before.before.before) (i here.before.before.before.before - 1) (omega (arith, high)))
-    (record-length 168 (file here.before.before.before.before) (i here.before.before.before.before) (omega (arith, high)))))
-    (follower-placed (owner here.before.before.before.before) rec (at point_format (file here.before.before.before.before) (i here.before.before.before.before + 1)) (start here.before.before.before.before).requires.1 (follower here.before.before.before.before))
+    judged-fine point_format (file here.before) (i here.before) (rw here.whole_record.ensures at (c.is_fine_follower.ensures e))
+    (risen (eqb (i here.before) 1) _
+    (above-owner (owner here.before) rec (needing here.before) (follower here.before) (record-length 168 (file here.before) (i here.before - 1) (omega (arith, high)))
+    (record-length 168 (file here.before) (i here.before) (omega (arith, high)))))
+    (follower-placed (owner here.before) rec (at point_format (file here.before) (i here.before + 1)) (start here.before).requires.1 (follower here.before))
 
 pub is_standing_follower_spec : {M : Type 1} → statement M
 is_standing_follower_spec =

@@ -79,7 +79,7 @@ returns-3 c =
     let file = start.args.file.now in
     let i = start.args.i in
     λ e.
-    judged-fine point_format file i (good next.before.before.before.before.before.before.before.before.before)
+    judged-fine point_format file i (good next.before)
     (in_order (eqb i 1) _
     (rw (
       higher.is_above_42-above.ensures,

@@ -8,15 +8,11 @@ use Rattle.item_write.proofs.inner.headed_item.Tie as tie
 
 over-label-requires : tie.Need-over_label-requires
 over-label-requires c κs =
-    let value = c.before.before in
-    let start = value.before.before.before.before in
-    (start.requires.0, rw value.in-Value.is at start.requires.1)
+    (c.requires.0, rw c.in-Value.is at c.requires.1)
 
 over-refusal-requires : tie.Need-over_refusal-requires
 over-refusal-requires c κs =
-    let refused = c.before.before in
-    let start = refused.before.before.before.before in
-    (start.requires.0, rw refused.in-Refused.is at start.requires.1)
+    (c.requires.0, rw c.in-Refused.is at c.requires.1)
 
 returns : tie.Need-returns-in-Value
 returns c =

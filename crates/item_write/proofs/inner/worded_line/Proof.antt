@@ -21,18 +21,18 @@ module _ (c : tie.Start) where
   begun = begun-front (record { is = refl }) (omega (arith, short))
 
 bytes-at-requires : tie.Need-bytes_at-i-requires
-bytes-at-requires c κs = room (begun c)
+bytes-at-requires c κs = room (begun c.before.before)
 
 spaced-at-requires : tie.Need-spaced_at-j-requires
 spaced-at-requires c κs =
     let word = c in
-    room (step (begun word) word.bytes_at-i.ensures)
+    room (step (begun word.before.before.before.before.before) word.bytes_at-i.ensures)
 
 byte-at-requires : tie.Need-byte_at-len-requires
 byte-at-requires c κs =
     let number = c in
     let word = number.before.before.before in
-    room (step (step (begun word.before.before.before) word.bytes_at-i.ensures) number.spaced_at-j.ensures)
+    room (step (step (begun word.before.before.before.before.before) word.bytes_at-i.ensures) number.spaced_at-j.ensures)
 
 returns : tie.Need-returns
 returns c =

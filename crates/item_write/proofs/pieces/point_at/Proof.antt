@@ -13,18 +13,18 @@ unfolding point_line
 at-start c = begun (record { is = refl }) c.requires
 
 bytes-at-requires : tie.Need-bytes_at-i-requires
-bytes-at-requires c κs = room (at-start c)
+bytes-at-requires c κs = room (at-start c.before.before.before.before)
 
 spaced-at-requires : tie.Need-spaced_at-j-requires
 spaced-at-requires c κs =
     let word = c in
-    room (step (at-start word) word.bytes_at-i.ensures)
+    room (step (at-start word.before.before.before.before.before.before.before.before) word.bytes_at-i.ensures)
 
 byte-at-requires : tie.Need-byte_at-requires
 byte-at-requires c κs =
     let number = c in
     let word = number.before.before.before.before in
-    room (step (step (at-start word.before.before.before.before) word.bytes_at-i.ensures) number.spaced_at-j.ensures)
+    room (step (step (at-start word.before.before.before.before.before.before.before.before) word.bytes_at-i.ensures) number.spaced_at-j.ensures)
 
 returns : tie.Need-returns
 returns c =

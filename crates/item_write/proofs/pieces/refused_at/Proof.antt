@@ -16,25 +16,25 @@ unfolding refused_text
 at-start c = begun (record { is = refl }) c.requires
 
 bytes-at-requires : tie.Need-bytes_at-i-requires
-bytes-at-requires c κs = room (at-start c)
+bytes-at-requires c κs = room (at-start c.before.before.before.before)
 
 spaced-at-requires : tie.Need-spaced_at-j-requires
 spaced-at-requires c κs =
     let word = c in
-    room (step (at-start word) word.bytes_at-i.ensures)
+    room (step (at-start word.before.before.before.before.before.before.before.before) word.bytes_at-i.ensures)
 
 spaced-at-requires-2 : tie.Need-spaced_at-k-requires
 spaced-at-requires-2 c κs =
     let number = c in
     let word = number.before.before.before.before in
-    room (step (step (at-start word.before.before.before.before) word.bytes_at-i.ensures) number.spaced_at-j.ensures)
+    room (step (step (at-start word.before.before.before.before.before.before.before.before) word.bytes_at-i.ensures) number.spaced_at-j.ensures)
 
 fault-at-requires : tie.Need-fault_at-l-requires
 fault-at-requires c κs =
     let detail = c in
     let number = detail.before.before.before.before in
     let word = number.before.before.before.before in
-    let said = step (step (at-start word.before.before.before.before) word.bytes_at-i.ensures) number.spaced_at-j.ensures in
+    let said = step (step (at-start word.before.before.before.before.before.before.before.before) word.bytes_at-i.ensures) number.spaced_at-j.ensures in
     room (step said detail.spaced_at-k.ensures)
 
 byte-at-requires : tie.Need-byte_at-requires
@@ -43,7 +43,7 @@ byte-at-requires c κs =
     let detail = fault.before.before.before.before in
     let number = detail.before.before.before.before in
     let word = number.before.before.before.before in
-    let said = step (step (at-start word.before.before.before.before) word.bytes_at-i.ensures) number.spaced_at-j.ensures in
+    let said = step (step (at-start word.before.before.before.before.before.before.before.before) word.bytes_at-i.ensures) number.spaced_at-j.ensures in
     room (step (step said detail.spaced_at-k.ensures) fault.fault_at-l.ensures)
 
 returns : tie.Need-returns

@@ -12,19 +12,19 @@ at-start : (c : tie.Start) → let g = c.args in let a = g.a.now in let b = g.b.
 at-start c = begun (head-made _ _ c.args.e) c.requires
 
 line-at-requires : tie.Need-line_at-i-requires
-line-at-requires c κs = room (at-start c)
+line-at-requires c κs = room (at-start c.before.before.before.before.before.before.before)
 
 line-at-requires-2 : tie.Need-line_at-j-requires
 line-at-requires-2 c κs =
     let organisation = c in
-    room (step (at-start organisation) organisation.line_at-i.ensures)
+    room (step (at-start organisation.before.before.before.before.before.before.before.before.before.before.before) organisation.line_at-i.ensures)
 
 box-at-requires : tie.Need-box_at-requires
 box-at-requires c κs =
     let department = c in
     let organisation = department.before.before.before.before in
     let start = organisation.before.before.before.before.before.before.before.before in
-    room (step (step (at-start start) organisation.line_at-i.ensures) department.line_at-j.ensures)
+    room (step (step (at-start start.before.before.before) organisation.line_at-i.ensures) department.line_at-j.ensures)
 
 returns : tie.Need-returns
 returns c =

@@ -22,18 +22,18 @@ at-double c =
     start.requires
 
 place-at-requires : tie.Need-place_at-i-requires
-place-at-requires c κs = room (at-double c)
+place-at-requires c κs = room (at-double c.before)
 
 place-at-requires-2 : tie.Need-place_at-j-requires
 place-at-requires-2 c κs =
     let double = c in
-    room (step (at-double double) double.place_at-i.ensures)
+    room (step (at-double double.before.before.before.before.before) double.place_at-i.ensures)
 
 place-at-requires-3 : tie.Need-place_at-requires
 place-at-requires-3 c κs =
     let dependent = c in
     let double = dependent in
-    room (step (step (at-double double) double.place_at-i.ensures) dependent.place_at-j.ensures)
+    room (step (step (at-double double.before.before.before.before.before.before.before.before.before) double.place_at-i.ensures) dependent.place_at-j.ensures)
 
 returns : tie.Need-returns
 returns c =

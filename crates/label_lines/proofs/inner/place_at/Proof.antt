@@ -9,7 +9,7 @@ use Rattle.label_lines.proofs.inner.place_at.Tie as tie
 returns : tie.Need-returns
 returns c =
     let lent = c.put_place in
-    put-part _ _ lent.new.1.1.1.1.1.0 _ _ (omega arith) lent.ensures
+    put-part _ _ lent.new.out _ _ (omega arith) lent.ensures
 
 pub place_at_spec : {M : Type 1} → statement M
 place_at_spec =

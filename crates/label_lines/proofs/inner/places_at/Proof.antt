@@ -18,19 +18,19 @@ at-dependent c =
     start.requires
 
 place-at-requires : tie.Need-place_at-i-requires
-place-at-requires c κs = room (at-dependent c)
+place-at-requires c κs = room (at-dependent c.before)
 
 place-at-requires-2 : tie.Need-place_at-j-requires
 place-at-requires-2 c κs =
     let dependent = c in
-    room (step (at-dependent dependent) dependent.place_at-i.ensures)
+    room (step (at-dependent dependent.before.before.before.before.before) dependent.place_at-i.ensures)
 
 localities-at-requires : tie.Need-localities_at-requires
 localities-at-requires c κs =
     let street = c in
     let dependent = street in
     room
-    (step (step (at-dependent dependent) dependent.place_at-i.ensures) street.place_at-j.ensures)
+    (step (step (at-dependent dependent.before.before.before.before.before.before.before.before.before) dependent.place_at-i.ensures) street.place_at-j.ensures)
 
 returns : tie.Need-returns
 returns c =

@@ -15,12 +15,12 @@ at-upper c =
     begun (premises-made _ _ start.args.l c.no_front-none.ensures) start.requires
 
 place-at-requires : tie.Need-place_at-i-requires
-place-at-requires c κs = room (at-upper c)
+place-at-requires c κs = room (at-upper c.before)
 
 line-at-requires : tie.Need-line_at-requires
 line-at-requires c κs =
     let upper = c in
-    room (step (at-upper upper) upper.place_at-i.ensures)
+    room (step (at-upper upper.before.before.before.before.before) upper.place_at-i.ensures)
 
 returns : tie.Need-returns
 returns c =

@@ -24,18 +24,18 @@ at-box c =
     begun-front (box-made _ _ start.args.s (λ z. c.if-text_len-eq0.false (c.text_len.ensures.0 ∙ z))) start.requires
 
 bytes-at-requires : tie.Need-bytes_at-i-requires
-bytes-at-requires c κs = room (at-box c)
+bytes-at-requires c κs = room (at-box c.before.before.before)
 
 text-at-requires : tie.Need-text_at-j-requires
 text-at-requires c κs =
     let box = c in
-    room (step (at-box box) box.bytes_at-i.ensures)
+    room (step (at-box box.before.before.before.before.before.before.before) box.bytes_at-i.ensures)
 
 byte-at-requires : tie.Need-byte_at-requires
 byte-at-requires c κs =
     let text = c in
     let box = text in
-    room (step (step (at-box box) box.bytes_at-i.ensures) text.text_at-j.ensures)
+    room (step (step (at-box box.before.before.before.before.before.before.before.before.before.before.before) box.bytes_at-i.ensures) text.text_at-j.ensures)
 
 returns-2 : tie.Need-returns
 returns-2 c =

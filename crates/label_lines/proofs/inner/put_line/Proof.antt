@@ -24,12 +24,12 @@ at-text c =
     begun-front (line_made _ _ start.args.s (λ z. c.if-text_len-eq0.false (c.text_len.ensures.0 ∙ z))) start.requires
 
 text-at-requires : tie.Need-text_at-i-requires
-text-at-requires c κs = room (at-text c)
+text-at-requires c κs = room (at-text c.before)
 
 byte-at-requires : tie.Need-byte_at-requires
 byte-at-requires c κs =
     let text = c in
-    room (step (at-text text) text.text_at-i.ensures)
+    room (step (at-text text.before.before.before.before.before) text.text_at-i.ensures)
 
 returns-2 : tie.Need-returns
 returns-2 c =

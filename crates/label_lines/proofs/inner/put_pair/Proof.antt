@@ -13,25 +13,25 @@ at-start : (c : tie.Start) → let g = c.args in let a = g.a.now in let b = g.b.
 at-start c = begun-front (pair_made _ _ c.args.s c.args.t) c.requires
 
 text-at-requires : tie.Need-text_at-i-requires
-text-at-requires c κs = room (at-start c)
+text-at-requires c κs = room (at-start c.before.before.before.before)
 
 byte-at-requires : tie.Need-byte_at-j-requires
 byte-at-requires c κs =
     let text = c in
-    room (step (at-start text) text.text_at-i.ensures)
+    room (step (at-start text.before.before.before.before.before.before.before.before) text.text_at-i.ensures)
 
 text-at-requires-2 : tie.Need-text_at-k-requires
 text-at-requires-2 c κs =
     let space = c in
     let text = space.before.before.before.before in
-    room (step (step (at-start text.before.before.before.before.before) text.text_at-i.ensures) space.byte_at-j.ensures)
+    room (step (step (at-start text.before.before.before.before.before.before.before.before) text.text_at-i.ensures) space.byte_at-j.ensures)
 
 byte-at-requires-2 : tie.Need-byte_at-requires
 byte-at-requires-2 c κs =
     let other = c in
     let space = other.before.before.before.before in
     let text = space.before.before.before.before in
-    let one = step (at-start text.before.before.before.before.before) text.text_at-i.ensures in
+    let one = step (at-start text.before.before.before.before.before.before.before.before) text.text_at-i.ensures in
     room (step (step one space.byte_at-j.ensures) other.text_at-k.ensures)
 
 returns : tie.Need-returns

@@ -30,25 +30,25 @@ at-lead c =
     (place-made _ _ g.f g.name g.tail (λ z. c.if-text_len-eq0.false (c.text_len.ensures.0 ∙ z))) start.requires
 
 lead-at-requires : tie.Need-lead_at-i-requires
-lead-at-requires c κs = room (at-lead c)
+lead-at-requires c κs = room (at-lead c.before)
 
 text-at-requires : tie.Need-text_at-j-requires
 text-at-requires c κs =
     let lead = c in
-    room (step (at-lead lead) lead.lead_at-i.ensures)
+    room (step (at-lead lead.before.before.before.before.before) lead.lead_at-i.ensures)
 
 tail-at-requires : tie.Need-tail_at-k-requires
 tail-at-requires c κs =
     let name = c in
     let lead = name in
-    room (step (step (at-lead lead) lead.lead_at-i.ensures) name.text_at-j.ensures)
+    room (step (step (at-lead lead.before.before.before.before.before.before.before.before.before) lead.lead_at-i.ensures) name.text_at-j.ensures)
 
 byte-at-requires : tie.Need-byte_at-requires
 byte-at-requires c κs =
     let tail = c in
     let name = tail in
     let lead = name.before.before.before.before in
-    let two = step (step (at-lead lead.before.before) lead.lead_at-i.ensures) name.text_at-j.ensures in
+    let two = step (step (at-lead lead.before.before.before.before.before.before.before.before.before) lead.lead_at-i.ensures) name.text_at-j.ensures in
     room (step two tail.tail_at-k.ensures)
 
 returns-2 : tie.Need-returns

@@ -21,18 +21,18 @@ at_head c =
     start.requires
 
 head-at-requires : tie.Need-head_at-i-requires
-head-at-requires c κs = room (at_head c)
+head-at-requires c κs = room (at_head c.before.before.before)
 
 premises-at-requires : tie.Need-premises_at-j-requires
 premises-at-requires c κs =
     let head = c in
-    room (step (at_head head) head.head_at-i.ensures)
+    room (step (at_head head.before.before.before.before.before.before.before) head.head_at-i.ensures)
 
 places-at-requires : tie.Need-places_at-k-requires
 places-at-requires c κs =
     let premises = c in
     let head = premises in
-    let one = step (at_head head) head.head_at-i.ensures in
+    let one = step (at_head head.before.before.before.before.before.before.before.before.before.before.before) head.head_at-i.ensures in
     room (step one premises.premises_at-j.ensures)
 
 pair-at-requires : tie.Need-pair_at-requires
@@ -40,7 +40,7 @@ pair-at-requires c κs =
     let places = c in
     let premises = places in
     let head = premises.before.before.before.before in
-    let one = step (at_head head.before.before.before.before) head.head_at-i.ensures in
+    let one = step (at_head head.before.before.before.before.before.before.before.before.before.before.before) head.head_at-i.ensures in
     room (step (step one premises.premises_at-j.ensures) places.places_at-k.ensures)
 
 returns : tie.Need-returns

@@ -15,18 +15,18 @@ at-number c =
     begun (front-made _ _ start.args.f) start.requires
 
 number-at-requires : tie.Need-number_at-i-requires
-number-at-requires c κs = room (at-number c)
+number-at-requires c κs = room (at-number c.before)
 
 text-at-requires : tie.Need-text_at-j-requires
 text-at-requires c κs =
     let number = c in
-    room (step (at-number number) number.number_at-i.ensures)
+    room (step (at-number number.before.before.before.before.before) number.number_at-i.ensures)
 
 tail-at-requires : tie.Need-tail_at-requires
 tail-at-requires c κs =
     let text = c in
     let number = text in
-    room (step (step (at-number number) number.number_at-i.ensures) text.text_at-j.ensures)
+    room (step (step (at-number number.before.before.before.before.before.before.before.before.before) number.number_at-i.ensures) text.text_at-j.ensures)
 
 returns : tie.Need-returns
 returns c =

@@ -30,12 +30,12 @@ at_front c =
     start.requires
 
 front-text-at-requires : tie.Need-front_text_at-i-requires
-front-text-at-requires c κs = room (at_front c)
+front-text-at-requires c κs = room (at_front c.before)
 
 byte-at-requires : tie.Need-byte_at-requires
 byte-at-requires c κs =
     let front = c in
-    room (step (at_front front) front.front_text_at-i.ensures)
+    room (step (at_front front.before.before.before.before.before) front.front_text_at-i.ensures)
 
 returns-2 : tie.Need-returns-then-f
 returns-2 c =

@@ -21,12 +21,12 @@ at-space c =
     begun (record { is = tail-some start.args.t.now c.if-t-eq0.false }) start.requires
 
 byte-at-requires : tie.Need-byte_at-i-requires
-byte-at-requires c κs = room (at-space c)
+byte-at-requires c κs = room (at-space c.before)
 
 bytes-at-requires : tie.Need-bytes_at-requires
 bytes-at-requires c κs =
     let space = c in
-    room (step (at-space space) space.byte_at-i.ensures)
+    room (step (at-space space.before.before.before.before.before) space.byte_at-i.ensures)
 
 returns-2 : tie.Need-returns
 returns-2 c =

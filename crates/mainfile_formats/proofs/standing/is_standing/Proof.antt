@@ -14,7 +14,7 @@ is-standing-locality-requires c κs = rw c.in-Localities.is at c.requires
 
 is-standing-name-requires : tie.Need-is_standing_name-requires
 is-standing-name-requires c κs =
-    let start = c.before.before.before in
+    let start = c.before.before in
     let walk : Walk thoroughfares start.args.file.now start.args.i = rw c.in-Thoroughfares.is at start.requires in
     (walk.low, omega (arith, walk.high), lit≤ tt, lit≤ tt, lit≤ tt, lit≤ tt)
 
@@ -23,13 +23,13 @@ is-standing-descriptor-requires c κs = rw c.in-Descriptors.is at c.requires
 
 is-standing-name-requires-2 : tie.Need-is_standing_name-requires-in-Buildings
 is-standing-name-requires-2 c κs =
-    let start = c.before.before.before in
+    let start = c.before.before in
     let walk : Walk buildings start.args.file.now start.args.i = rw c.in-Buildings.is at start.requires in
     (walk.low, omega (arith, walk.high), lit≤ tt, lit≤ tt, lit≤ tt, lit≤ tt)
 
 is-standing-name-requires-3 : tie.Need-is_standing_name-requires-in-SubBuildings
 is-standing-name-requires-3 c κs =
-    let start = c.before.before.before in
+    let start = c.before.before in
     let walk : Walk sub_buildings start.args.file.now start.args.i = rw c.in-SubBuildings.is at start.requires in
     (walk.low, omega (arith, walk.high), lit≤ tt, lit≤ tt, lit≤ tt, lit≤ tt)
 

@@ -60,7 +60,7 @@ module _ (c : tie.After-struct_known-in-loop-i-1 invariant-loop decreases-loop) 
       let r = at-step.row_step-step.result in
       let rows = start.args.rows.now in
       let fine = at_mark.if-not-fine.false in
-      going_next rows start.args.count l.marks l.kind l.odds l.at l.i l.inv.1 r _
+      going_next rows start.args.count l.marks l.kind l.odds l.at l.i l.invariant.1 r _
       (omega (arith, at-step.loop-i-test.true)) (at-step.row_step-step.ensures (and_left _ _ fine))
       (leb-true l.kind (row_kind rows l.at) (and_right r.fine _ fine))
       at_mark.mark.kept.bits at_mark.mark.ensures

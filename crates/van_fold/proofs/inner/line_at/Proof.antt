@@ -90,7 +90,7 @@ module _ (c : tie.After-printed_at invariant-loop decreases-loop) where
 row-at-requires : tie.Need-row_at-i-requires invariant-loop decreases-loop
 row-at-requires c κs =
     let p = c in
-    going-room (first p) (others p (done_at (k p.before))) (row p refl) (start p.before).requires
+    going-room (first p.before.before) (others p.before.before (done_at (k p.before.before.before))) (row p.before.before refl) (start p.before.before.before).requires
 
 done-at-requires : tie.Need-done_at-at-requires invariant-loop decreases-loop
 done-at-requires c κs =
@@ -139,7 +139,7 @@ last c =
 row-at-requires-2 : tie.Need-row_at-requires invariant-loop decreases-loop
 row-at-requires-2 c κs =
     let end = c in
-    going-left (last end) end.requires
+    going-left (last end.before.before) end.requires
 
 returns : tie.Need-returns invariant-loop decreases-loop
 returns c =
@@ -151,6 +151,6 @@ pub line_at_spec : {M : Type 1} → statement M
 line_at_spec =
     tie.close
     (tie.spec invariant-loop decreases-loop loop-holds (λ c. omega arith) (λ c. omega arith) (λ c. omega arith) (λ c. omega arith)
-    space-in-requires (search rules) (λ c. omega (arith, end_low c, (start c.before).good.0.1)) (λ c. omega arith)
+    space-in-requires (search rules) (λ c. omega (arith, end_low c, (start c.before).well_formed.0.1)) (λ c. omega arith)
     (λ c. omega arith) (λ c. end_low c) row-at-requires done-at-requires add_at loop-less loop-again (λ c. omega arith)
     (λ c. omega arith) (λ c. omega arith) row-at-requires-2 (search rules) returns)

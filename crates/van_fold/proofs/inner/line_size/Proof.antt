@@ -65,7 +65,7 @@ add-bytes c = omega (arith, c.printed_at.ensures, (broken c.before).few)
 add-bytes-2 : tie.Need-overflow_add-bytes-in-loop-at invariant-loop decreases-loop
 add-bytes-2 c =
     let start = (at-loop c.before).before.before in
-    omega (arith, (line_low (line c.before) (next c.before c.printed_at.ensures refl)).1, start.good.0.1)
+    omega (arith, (line_low (line c.before) (next c.before c.printed_at.ensures refl)).1, start.well_formed.0.1)
 
 done-at-requires : tie.Need-done_at-at-requires invariant-loop decreases-loop
 done-at-requires c κs = omega (arith, is c.before, space-low columns (drop (at-loop c.before).loop-at.at (line c.before)))
@@ -82,7 +82,7 @@ behind c =
     )
 
 add_at : tie.Need-overflow_add-at invariant-loop decreases-loop
-add_at c = omega (arith, (behind c).1, (at-loop c.before.before).good.0.1)
+add_at c = omega (arith, (behind c).1, (at-loop c.before.before).well_formed.0.1)
 
 loop-less : tie.Need-loop-at-smaller invariant-loop decreases-loop
 loop-less c = omega (arith, (behind c).0, (behind c).1)

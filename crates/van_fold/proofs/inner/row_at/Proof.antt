@@ -11,12 +11,12 @@ at_row : (c : tie.Start) → Begun (ended (c.args.row.now ∷ [])) (c.args.row.n
 at_row c = begun (record { is = refl }) c.requires
 
 bytes-at-requires : tie.Need-bytes_at-i-requires
-bytes-at-requires c κs = room (at_row c)
+bytes-at-requires c κs = room (at_row c.before.before.before)
 
 byte-at-requires : tie.Need-byte_at-requires
 byte-at-requires c κs =
     let row = c in
-    room (step (at_row row) row.bytes_at-i.ensures)
+    room (step (at_row row.before.before.before.before.before.before.before) row.bytes_at-i.ensures)
 
 returns : tie.Need-returns
 returns c =

@@ -40,7 +40,7 @@ next : (c : tie.After-line_size-size invariant-loop decreases-loop)
 next c =
     let end = c in
     let l = (at-loop end.before.before).loop-at in
-    text-next (text end.before.before) l.at l.inv end.loop-at-test.true end.line_end-end.ensures c.line_size-size.ensures
+    text-next (text end.before.before) l.at l.invariant end.loop-at-test.true end.line_end-end.ensures c.line_size-size.ensures
 
 add-rows : tie.Need-overflow_add-rows invariant-loop decreases-loop
 add-rows c =

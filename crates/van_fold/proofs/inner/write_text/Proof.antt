@@ -61,7 +61,7 @@ module _ (c : tie.After-line_end-end invariant-loop decreases-loop) where
 line-at-requires : tie.Need-line_at-i-requires invariant-loop decreases-loop
 line-at-requires c κs =
     let e = c in
-    going-room (first e) (others e) (line e) (room e)
+    going-room (first e.before.before) (others e.before.before) (line e.before.before) (room e.before.before)
 
 add_at : tie.Need-overflow_add-at invariant-loop decreases-loop
 add_at c =
