@@ -23,7 +23,7 @@ returns-3 c =
     let n = m in
     let l = n in
     let book = l.args.book.now in
-    let placed = rw n.count_of-count.ensures.0 at p.all_Placed.ensures in
+    let placed = rw n.count_of-count.ensures.0 at p.all_placed.ensures in
     sym
     (misplaced book l.if-book-ne-LENGTH.false (rw n.count_of-count.ensures.0 at m.if-count-gt-SLOTS.false)
     (sym placed ∙ c.if-not-all_placed.true))
@@ -36,7 +36,7 @@ returns-4 c =
     let n = m in
     let l = n in
     let book = l.args.book.now in
-    let placed = rw n.count_of-count.ensures.0 at p.all_Placed.ensures in
+    let placed = rw n.count_of-count.ensures.0 at p.all_placed.ensures in
     c.all_fine.ensures
     ∙ sym
     (by-fine book l.if-book-ne-LENGTH.false (rw n.count_of-count.ensures.0 at m.if-count-gt-SLOTS.false) (sym placed ∙ o.if-not-all_placed.false))

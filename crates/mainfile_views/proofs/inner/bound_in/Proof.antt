@@ -66,7 +66,7 @@ bound_in_spec =
     rank-at-requires
     (search rules)
     loop-again
-    (λ c. omega (arith, short c.before))
+    (λ c. omega (arith, short c.before.before.before))
     (search rules)
     loop-again-2
     returns)

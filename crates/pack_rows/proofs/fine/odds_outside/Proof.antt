@@ -63,7 +63,7 @@ module _ (c : tie.After-struct_known-in-loop-i-1 invariant-loop decreases-loop) 
       going_next rows start.args.count l.marks l.kind l.odds l.at l.i l.invariant.1 r _
       (omega (arith, at-step.loop-i-test.true)) (at-step.row_step-step.ensures (and_left _ _ fine))
       (leb-true l.kind (row_kind rows l.at) (and_right r.fine _ fine))
-      at_mark.mark.kept.bits at_mark.mark.ensures
+      at_mark.mark.auto.bits at_mark.mark.ensures
 
 add-odds : tie.Need-overflow_add-odds invariant-loop decreases-loop
 add-odds c =
