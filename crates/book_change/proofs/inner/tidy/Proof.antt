@@ -13,19 +13,19 @@ use Rattle.book_change.proofs.inner.tidy.Tie as tie
 
 bytes-at-requires : tie.Need-bytes_at-requires
 bytes-at-requires c κs =
-    let s = c.before.before.before in
+    let s = c.before.before in
     copy-room book_length s.args.book.now (book-long s.args.book.now s.requires)
 
 count-of-requires : tie.Need-count_of-count-requires
 count-of-requires c κs =
-    let start = c.before.before.before.before.before.before in
+    let start = c.before.before.before.before in
     book-long start.args.book.now start.requires
 
 tidy-all-requires : tie.Need-tidy_all-requires
 tidy-all-requires c κs =
     let behind-count-of = c.before.before in
     let behind-bytes-at = behind-count-of.before.before.before in
-    let start = behind-bytes-at.before.before.before.before in
+    let start = behind-bytes-at.before.before in
     let book = start.args.book.now in
     let long = book-long book start.requires in
     let old = copied book_length book _ long behind-bytes-at.bytes_at.ensures in

@@ -20,7 +20,7 @@ loop-again : tie.Need-loop-i-preserved invariant-loop decreases-loop
 loop-again c =
     let l = c in
     let a = l.args in
-    offsets-next a.starts.now a.keys a.rows l.loop-i.of-keys l.loop-i.i l.loop-i.invariant c.key_offset.result
+    offsets-next a.starts.now a.keys a.rows l.loop-i.of_keys l.loop-i.i l.loop-i.invariant c.key_offset.result
     c.loop-i-test.true c.key_offset.ensures
 
 returns : tie.Need-returns invariant-loop decreases-loop
@@ -28,7 +28,7 @@ returns c =
     let l = c in
     let start = l in
     let a = start.args in
-    offsets-all a.starts.now a.keys a.rows l.loop-i.of-keys l.loop-i.i l.loop-i.invariant start.well_formed.1.0.1.0.1
+    offsets-all a.starts.now a.keys a.rows l.loop-i.of_keys l.loop-i.i l.loop-i.invariant start.well_formed.1.0.1.0.1
     start.well_formed.1.1.0.1.0.1 c.loop-i-test.false
 
 pub key_offsets_spec : {M : Type 1} → statement M
