@@ -18,14 +18,14 @@ bytes-at-requires c κs =
 
 count-of-requires : tie.Need-count_of-count-requires
 count-of-requires c κs =
-    let start = c.before.before.before.before in
+    let start = c in
     book-long start.args.book.now start.requires
 
 tidy-all-requires : tie.Need-tidy_all-requires
 tidy-all-requires c κs =
-    let behind-count-of = c.before.before in
-    let behind-bytes-at = behind-count-of.before.before.before in
-    let start = behind-bytes-at.before.before in
+    let behind-count-of = c in
+    let behind-bytes-at = behind-count-of in
+    let start = behind-bytes-at in
     let book = start.args.book.now in
     let long = book-long book start.requires in
     let old = copied book_length book _ long behind-bytes-at.bytes_at.ensures in

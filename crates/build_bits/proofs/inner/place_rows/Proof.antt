@@ -62,12 +62,12 @@ add-lesser c = omega (arith, small c)
 sums-in-requires : tie.Need-sums_in-sums-requires invariant-loop decreases-loop
 sums-in-requires c κs =
     let t = c in
-    let last = (at-loop t).last_of-last.ensures in (
+    let last = (at-loop t.before).last_of-last.ensures in (
       (
-        (start t).requires.0.0,
-        (omega (arith, (so_far t).place), (omega (arith, c.lesser.ensures, last, below t), omega (arith, c.lesser.ensures, last))),
+        (start t.before).requires.0.0,
+        (omega (arith, (so_far t.before).place), (omega (arith, c.lesser.ensures, last, below t.before), omega (arith, c.lesser.ensures, last))),
       ),
-      (start t).requires.0.1.1,
+      (start t.before).requires.0.1.1,
     )
 
 -- once the rows of the block are counted
@@ -107,7 +107,7 @@ loop-again c =
     let t = turn c.before.before in
     let l = (at-loop t).loop-from in
     let a = (start t).args in (
-      length-set l.blocks l.k (a.start + l.bytes) ∙ l.inv.0,
+      length-set l.blocks l.k (a.start + l.bytes) ∙ l.invariant.0,
       filling-on (stock_of a.s a.file.now) (shelf_marks a.s a.file.now a.bits.now) a.start (so_far t) (below t)
           (has_block t) (counted c.before.before),
     )

@@ -68,8 +68,8 @@ module _ (c : tie.In-loop-i invariant-loop decreases-loop) where
 row-at-requires : tie.Need-row_at-end-requires invariant-loop decreases-loop
 row-at-requires c κs =
     let t = c in
-    let i = (at-loop t).loop-i.i in
-    ((start t).requires.0, going-room (row_bytes_at (st t) i) (rows_left (st t) (marks t) (i + 1)) (left t) (start t).requires.1)
+    let i = (at-loop t.before).loop-i.i in
+    ((start t.before).requires.0, going-room (row_bytes_at (st t.before) i) (rows_left (st t.before) (marks t.before) (i + 1)) (left t.before) (start t.before).requires.1)
 
 loop-less : tie.Need-loop-i-smaller invariant-loop decreases-loop
 loop-less c =
@@ -95,7 +95,7 @@ loop-again c =
     let all : (st t.before.before.before.before.before).last ≤ (st t.before.before.before.before.before).last = omega arith in
     let low = next_low (st t.before.before.before.before.before) bits (i + 1) (st t.before.before.before.before.before).last more all in
     rw (c.next_marked-i-in-loop-i.ensures ∙ ap (next_marked bits (i + 1)) last) (
-      row.auto.1.1.1.1.0 ∙ (at-loop t.before.before.before.before.before).loop-i.invariant.0,
+      row.auto.out ∙ (at-loop t.before.before.before.before.before).loop-i.invariant.0,
       (λ h. (omega (arith, low), next-marked (st t.before.before.before.before.before) bits (i + 1) (st t.before.before.before.before.before).last more all (omega (arith, h, last)))),
       going-as (next-left (st t.before.before.before.before.before) bits (i + 1) (st t.before.before.before.before.before).last more all (omega arith))
           (going_step (rows_left (st t.before.before.before.before.before) (marks t.before.before.before.before.before) (i + 1)) (left t.before.before.before.before.before) row.ensures (start t.before.before.before.before.before).requires.1),

@@ -80,7 +80,7 @@ loop-again c =
     let high = (start c).requires.0.1.1.1 in
     let some = (start c).requires.0.1.0 in
     let row = c.row_len-bytes in
-    let w = walked_row some l.inv.0 row.result (l.inv.2 (below c)) row.ensures.0 row.ensures.1 in
+    let w = walked_row some l.invariant.0 row.result (l.invariant.2 (below c)) row.ensures.0 row.ensures.1 in
     rw c.next_marked-i-in-loop-i.ensures (
       next-walked st a.bits.now i a.to (further c) high some w,
       next-high st a.bits.now i a.to (further c) high,

@@ -21,7 +21,7 @@ module _ (s : tie.After-own_row-row) where
         arith,
         s.start_at-at.ensures,
         start-within start.args.addresses.now start.args.i,
-        start.good.0.1,
+        start.well_formed.0.1,
       )
 
   row_fits : s.own_row-row.result * 153 + 100 < 18_446_744_073_709_551_616
@@ -31,7 +31,7 @@ module _ (s : tie.After-own_row-row) where
         arith,
         s.own_row-row.ensures,
         own-before start.args.organisations.now rec,
-        start.good.1.0.1,
+        start.well_formed.1.0.1,
       )
 
 cast-t10 : tie.Need-overflow_cast-result

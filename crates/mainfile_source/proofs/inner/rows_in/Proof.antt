@@ -29,16 +29,16 @@ module _ (c : tie.After-rows_of-3) where
 
   -- counts are small beside a number, and so are rows
   one : c.rows_of-two.result < 400_000_000_000_000_000
-  one = omega (arith, c.rows_of-two.ensures, start.good.0.1)
+  one = omega (arith, c.rows_of-two.ensures, start.well_formed.0.1)
 
   two : c.rows_of.result < 400_000_000_000_000_000
-  two = omega (arith, c.rows_of.ensures, start.good.1.0.1)
+  two = omega (arith, c.rows_of.ensures, start.well_formed.1.0.1)
 
   three : c.rows_of-2.result < 400_000_000_000_000_000
-  three = omega (arith, c.rows_of-2.ensures, start.good.1.1.0.1)
+  three = omega (arith, c.rows_of-2.ensures, start.well_formed.1.1.0.1)
 
   four : c.rows_of-3.result < 400_000_000_000_000_000
-  four = omega (arith, c.rows_of-3.ensures, start.good.1.1.1.0.1)
+  four = omega (arith, c.rows_of-3.ensures, start.well_formed.1.1.1.0.1)
 
   short : (i : ℕ) → get_or looked.kind_rows-found.result.rows i 0 ≤ 9_223_372_036_854_775_808
   short i =
@@ -50,11 +50,11 @@ module _ (c : tie.After-rows_of-3) where
           → length
           (cond t (file_of files 1) (cond u (file_of files 2) (cond v (file_of files 3) (cond w (file_of files 4) (file_of files 5)))))
           ≤ 9_223_372_036_854_775_808
-      by_tests true u v w = omega (arith, start.good.0.1)
-      by_tests false true v w = omega (arith, start.good.1.0.1)
-      by_tests false false true w = omega (arith, start.good.1.1.0.1)
-      by_tests false false false true = omega (arith, start.good.1.1.1.0.1)
-      by_tests false false false false = omega (arith, start.good.1.1.1.1.0.1)
+      by_tests true u v w = omega (arith, start.well_formed.0.1)
+      by_tests false true v w = omega (arith, start.well_formed.1.0.1)
+      by_tests false false true w = omega (arith, start.well_formed.1.1.0.1)
+      by_tests false false false true = omega (arith, start.well_formed.1.1.1.0.1)
+      by_tests false false false false = omega (arith, start.well_formed.1.1.1.1.0.1)
 
 add_five : tie.Need-overflow_add-five
 add_five c = omega (arith, one c, two c, three c, four c)

@@ -52,4 +52,4 @@ returns c =
 
 pub upper_number_spec : {M : Type 1} → statement M
 upper_number_spec = tie.close (tie.spec invariant-loop decreases-loop (λ c κs. search rules) loop-holds (λ c. search rules) (λ c. omega (arith, short c.before))
-    (λ c κs. search rules) (λ c. search rules) loop-again (λ c. omega (arith, short c.before)) (λ c. search rules) loop-again-2 returns)
+    (λ c κs. search rules) (λ c. search rules) loop-again (λ c. omega (arith, short c.before.before.before)) (λ c. search rules) loop-again-2 returns)

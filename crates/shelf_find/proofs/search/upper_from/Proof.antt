@@ -57,7 +57,7 @@ upper_from_spec =
     (λ c κs. c.requires.0)
     (search rules)
     loop-again
-    (λ c. omega (arith, short c.before))
+    (λ c. omega (arith, short c.before.before.before))
     (search rules)
     loop-again-2
     returns)
