@@ -11,8 +11,8 @@ use Rattle.changes_codes.proofs.codes_in.Tie as tie
 
 list-codes-requires : tie.Need-list_codes-requires
 list-codes-requires c κs =
-    let t = c.before in
-    let k = t.before.before in
+    let t = c in
+    let k = t in
     let e = sym k.check_points.ensures ∙ t.in-Value.is in
     accepted point_format k.args.points.now _ e
 

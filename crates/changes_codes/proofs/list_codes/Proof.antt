@@ -57,8 +57,8 @@ write-if-room-requires : tie.Need-write_if_room-requires
 write-if-room-requires c κs =
     let q = c in
     let k = q.count_codes-k.ensures in (
-      as_many k (points q.before.before.before.before) _ (listed q.before.before.before.before),
-      few k (points q.before.before.before.before) _ (listed q.before.before.before.before) (s q.before.before.before.before).requires,
+      as_many k (points q.before.before.before.before.before) _ (listed q.before.before.before.before.before),
+      few k (points q.before.before.before.before.before) _ (listed q.before.before.before.before.before) (s q.before.before.before.before.before).requires,
     )
 
 returns : tie.Need-returns

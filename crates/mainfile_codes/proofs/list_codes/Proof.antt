@@ -42,7 +42,7 @@ write-codes-requires : tie.Need-write_codes-requires
 write-codes-requires c κs =
     let e = c in
     let k = e in
-    ((s k.before).requires, omega (arith, needed k.before, e.if-out-needed.false))
+    ((s k.before.before).requires, omega (arith, needed k.before.before, e.if-out-needed.false))
 
 returns-2 : tie.Need-returns
 returns-2 c =

@@ -93,7 +93,7 @@ add-bytes : tie.Need-overflow_add-bytes invariant-loop decreases-loop
 add-bytes c =
     let t = turn c.before.before in omega (arith, (so_far t).short, small t, (counted c.before.before).short)
 
-add-from : tie.Need-overflow_add-from invariant-loop decreases-loop
+add-from : tie.Need-overflow_add-from-in-loop-from invariant-loop decreases-loop
 add-from c = omega (arith, small (turn c.before.before))
 
 add-k : tie.Need-overflow_add-k invariant-loop decreases-loop

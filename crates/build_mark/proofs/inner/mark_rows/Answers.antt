@@ -27,10 +27,10 @@ loop-i-preserved c =
     let rows = c.args.rows in
     let step = l.invariant.2 ∙ mark-step rows l.marks i (omega arith) in
     let next : c.if-row-ne0.marks ≡ mark_row (get_or rows i 0) l.marks =
-      elim c.if-row-ne0.branch [
-        then-row-ne0 t ↦ t.marks-is ∙ sym (mark-one l.marks (get_or rows i 0) t.if-row-ne0.true)
+    elim c.if-row-ne0.branch [
+      | then-row-ne0 t ↦ t.marks-is ∙ sym (mark-one l.marks (get_or rows i 0) t.if-row-ne0.true)
       | else-row-ne0 t ↦ t.marks-is ∙ sym (mark-none l.marks (get_or rows i 0) t.if-row-ne0.false)
-      ] in (
+    ] in (
       omega arith,
       ap length next ∙ (mark-length l.marks (get_or rows i 0) ∙ l.invariant.1),
       step ∙ ap (mark_rows (drop (i + 1) rows)) (sym next),

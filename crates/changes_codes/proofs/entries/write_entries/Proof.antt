@@ -64,7 +64,7 @@ cast-entry-at-2 c = omega (arith, c.shared_slice_known-in-loop-i-2-1.given (i c.
 entry-at-requires : tie.Need-entry_at-at-requires invariant-loop decreases-loop
 entry-at-requires c κs =
     let n = c in
-    going-room (this n.before.before) (behind n.before.before) (left n.before.before) (room n.before.before)
+    going-room (this n.before.before.before) (behind n.before.before.before) (left n.before.before.before) (room n.before.before.before)
 
 loop-again : tie.Need-loop-i-preserved invariant-loop decreases-loop
 loop-again c =

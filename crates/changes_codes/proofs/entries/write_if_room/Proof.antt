@@ -31,7 +31,7 @@ returns c =
 write-entries-requires : tie.Need-write_entries-requires
 write-entries-requires c κs =
     let s = c in
-    (s.requires.0, omega (arith, needed s.before.before.before.before, c.if-out-needed.false))
+    (s.requires.0, omega (arith, needed s.before.before.before.before.before, c.if-out-needed.false))
 
 returns-2 : tie.Need-returns
 returns-2 c =

@@ -81,7 +81,7 @@ loop-holds c =
 code-of-requires : tie.Need-code_of-requires invariant-loop decreases-loop
 code-of-requires c κs =
     let f = c in
-    rw (r f).point_record-rec.ensures (omega (arith, record-length 168 (points f) (l f).loop-next.next (omega (arith, inside f))))
+    rw (r f.before).point_record-rec.ensures (omega (arith, record-length 168 (points f.before) (l f.before).loop-next.next (omega (arith, inside f.before))))
 
 mul-codes : tie.Need-offset_bounds-codes-n invariant-loop decreases-loop
 mul-codes c = omega (arith, free c.before.before c.if-is_live.true, (l c.before.before).loop-next.invariant.0)

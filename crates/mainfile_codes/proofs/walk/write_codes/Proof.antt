@@ -89,7 +89,7 @@ sub-entry-at c = omega (arith, (on c).further)
 entry-at-requires : tie.Need-entry_at-at-requires invariant-loop decreases-loop
 entry-at-requires c κs =
     let e = c in
-    going-room (this e) (behind e) (left e) (room (turn e))
+    going-room (this e.before) (behind e.before) (left e.before) (room (turn e.before))
 
 loop-less : tie.Need-loop-i-smaller invariant-loop decreases-loop
 loop-less c =

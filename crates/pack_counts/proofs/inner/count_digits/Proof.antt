@@ -59,7 +59,7 @@ count-byte-requires c κs =
     let a = (start l.before.before).args in
     counted-below a.points.now a.start a.width a.n _ _ _ l.loop-i.invariant (few l.before.before)
 
-add_at : tie.Need-overflow_add-at invariant-loop decreases-loop
+add_at : tie.Need-overflow_add-at-in-loop-i invariant-loop decreases-loop
 add_at c = let l = c in omega (arith, inside l.before.before, (start l.before.before).well_formed.0)
 
 add-i : tie.Need-overflow_add-i invariant-loop decreases-loop

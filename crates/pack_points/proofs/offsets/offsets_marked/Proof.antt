@@ -87,7 +87,7 @@ returns c =
     ∙ each-stop (offsets_fine (pack l.before.before.before.before)) (point_width (edition (pack l.before.before.before.before))) (counted l.before.before.before.before).trailer_number-count.result l.loop-i.i l.loop-i.at
     (omega arith) (sym (judged g.before) ∙ c.if-not-next_marked.true))
 
-add_at : tie.Need-overflow_add-at invariant-loop decreases-loop
+add_at : tie.Need-overflow_add-at-in-loop-i invariant-loop decreases-loop
 add_at c =
     let n = c in
     let l = n in

@@ -12,8 +12,8 @@ use Rattle.pack_points.proofs.points.organisation_good.Goals.{then-given, else-g
 pub text_empty-named-requires : goal.text_empty-named-requires
 text_empty-named-requires c =
     elim c.if-given.branch [
-      then-given w ↦ omega (arith, w.at-is, c.offset_of-row.ensures.1)
-    | else-given w ↦ omega (arith, w.at-is)
+      | then-given w ↦ omega (arith, w.at-is, c.offset_of-row.ensures.1)
+      | else-given w ↦ omega (arith, w.at-is)
     ]
 
 pub returns : goal.returns
@@ -23,11 +23,11 @@ returns c =
     let pack = a.pack.now in
     -- the row that is looked at is the point's own, where it has one
     let own_row : given pack a.rest 7 ≡ true → c.if-given.at ≡ offset_of_point pack a.rest 7 =
-      λ e.
-      elim c.if-given.branch [
-        then-given w ↦ w.at-is ∙ c.offset_of-row.ensures.0
+    λ e.
+    elim c.if-given.branch [
+      | then-given w ↦ w.at-is ∙ c.offset_of-row.ensures.0
       | else-given w ↦ absurd (true≢false (sym e ∙ (sym c.is_given-given.ensures ∙ w.if-given.false)))
-      ] in
+    ] in
     rw (c.text_empty-named.ensures, c.number_within-keyed.ensures.0, c.requires.1, c.is_given-given.ensures)
     (organisation-test (given pack a.rest 7) (eqb (type_byte pack a.rest) 76) (eqb (organisation_key pack a.rest) 0)
     (not (is_empty (row_text (row_area pack) c.if-given.at 0)))

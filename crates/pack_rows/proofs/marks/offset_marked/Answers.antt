@@ -20,10 +20,10 @@ pub returns-then-rows-at : goal.returns-then-rows-at
 returns-then-rows-at c =
     let a = c.args in
     let place_is : c.if-absent.at ≡ cond (eqb a.o absent) 0 a.o =
-      elim c.if-absent.branch [
-        then-absent w ↦ rw w.if-absent.true w.at-is
+    elim c.if-absent.branch [
+      | then-absent w ↦ rw w.if-absent.true w.at-is
       | else-absent w ↦ rw (ne_eqb a.o absent w.if-absent.false) w.at-is
-      ] in
+    ] in
     λ n fine.
     out-of-rows a.rows.now n a.marks.now fine c.requires.1 a.kind a.o (rw place_is at c.if-rows-at.true)
 
@@ -31,15 +31,15 @@ pub returns : goal.returns
 returns c =
     let a = c.args in
     let place_is : c.if-absent.at ≡ cond (eqb a.o absent) 0 a.o =
-      elim c.if-absent.branch [
-        then-absent w ↦ rw w.if-absent.true w.at-is
+    elim c.if-absent.branch [
+      | then-absent w ↦ rw w.if-absent.true w.at-is
       | else-absent w ↦ rw (ne_eqb a.o absent w.if-absent.false) w.at-is
-      ] in
+    ] in
     let wanted-is : c.if-absent-2.wanted ≡ cond (eqb a.o absent) (get_or a.rows.now 0 0) a.kind =
-      elim c.if-absent-2.branch [
-        then-absent-2 w ↦ rw w.if-absent-2.true (w.wanted-is ∙ c.requires.0)
+    elim c.if-absent-2.branch [
+      | then-absent-2 w ↦ rw w.if-absent-2.true (w.wanted-is ∙ c.requires.0)
       | else-absent-2 w ↦ rw (ne_eqb a.o absent w.if-absent-2.false) w.wanted-is
-      ] in
+    ] in
     λ n fine.
     rw (c.is_marked.ensures, place_is, wanted-is)
     (in_rows a.rows.now n a.marks.now fine c.requires.1 a.kind a.o (rw place_is at c.if-rows-at.false))

@@ -90,24 +90,24 @@ spans-say : (s : Shelf) (file own : List ℕ) (p : DeliveryPoint) (rows : List �
     → RowSays file town (field_of s file (get_or rows 0 0) s.locality 30)
     → OwnSays own outward (text_in own p.postcode (p.postcode + 4))
     → SpansSay s file own p rows
-      record {
-        organisation = organisation;
-        department = department;
-        po_box = box;
-        sub_building = sub;
-        building = building;
-        number = p.number;
-        concatenation = p.concatenation;
-        dependent = dependent;
-        dependent_descriptor = tail;
-        thoroughfare = street;
-        descriptor = end;
-        double_locality = double;
-        dependent_locality = single;
-        town = town;
-        outward = outward;
-        inward = record { first = false; at = p.postcode + 4; len = 3 };
-      }
+    record {
+      organisation = organisation;
+      department = department;
+      po_box = box;
+      sub_building = sub;
+      building = building;
+      number = p.number;
+      concatenation = p.concatenation;
+      dependent = dependent;
+      dependent_descriptor = tail;
+      thoroughfare = street;
+      descriptor = end;
+      double_locality = double;
+      dependent_locality = single;
+      town = town;
+      outward = outward;
+      inward = record { first = false; at = p.postcode + 4; len = 3 };
+    }
 unfolding elements_by
 spans-say s file own p rows organisation department box sub building dependent tail street end double single town outward
     is-organisation is-department is-box is-sub is-building is-dependent is-tail is-street is-end is-double is-single is-town
