@@ -11,7 +11,7 @@ use Rattle.csv_label.proofs.list_of_rows.Tie as tie
 
 walk-requires : tie.Need-walk-requires
 walk-requires c κs =
-    let n = c.before.before in
+    let n = c in
     sym n.check_csv.ensures ∙ n.in-Value.is
 
 returns : tie.Need-returns-in-Value

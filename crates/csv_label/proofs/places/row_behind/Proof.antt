@@ -35,7 +35,7 @@ add-result c =
       arith,
       stop-high (csv c.before) l.loop-i.i c.loop-i-test.true
           (sym c.ends_row.ensures ∙ c.if-ends_row.true),
-      l.good.0.1,
+      l.well_formed.0.1,
     )
 
 returns : tie.Need-returns-then-ends_row invariant-loop decreases-loop

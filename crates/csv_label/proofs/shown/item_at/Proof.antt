@@ -58,9 +58,9 @@ part-label-at-start c = let h = within c in search rules
 headed-item-requires : tie.Need-headed_item-requires
 headed-item-requires c κs =
     let l = c in
-    let s = start (found l) in (
-      rw (line-is (found l)) (ap-short (line-is (found l)) (line (found l)).worded_line-line.ensures),
-      asked-small s.args.csv.now s.args.place s.args.row s.args.out.now s.requires (asked l),
+    let s = start (found l.before.before.before) in (
+      rw (line-is (found l.before.before.before)) (ap-short (line-is (found l.before.before.before)) (line (found l.before.before.before)).worded_line-line.ensures),
+      asked-small s.args.csv.now s.args.place s.args.row s.args.out.now s.requires (asked l.before.before.before),
     )
 
 returns : tie.Need-returns

@@ -87,7 +87,7 @@ loop-holds c =
 shown-behind-requires : tie.Need-shown_behind-requires invariant-loop decreases-loop
 shown-behind-requires c κs =
     let l = c in
-    ((going l).within, here l)
+    ((going l.before.before.before.before).within, here l.before.before)
 
 add_at : tie.Need-overflow_add-at invariant-loop decreases-loop
 add_at c =
@@ -98,7 +98,7 @@ add_at c =
       going-fits (going l) (fit l) (omega arith) (asked m.before.before.before) c.in-Value.is,
       m.shown_behind.auto.out,
       l.loop-done.invariant.1.1.1,
-      (start l).good.1.1.1.1.1.0.0,
+      (start l).well_formed.1.1.1.1.1.0.0,
     )
 
 returns : tie.Need-returns-in-Refused invariant-loop decreases-loop
@@ -118,7 +118,7 @@ add_row c =
     omega (
       arith,
       number-within (csv l) l.loop-done.row l.loop-done.place (there m.before.before.before.before n.in-Value.is) l.loop-done.invariant.1.0.1,
-      (start l).good.0.1,
+      (start l).well_formed.0.1,
     )
 
 loop-again : tie.Need-loop-done-preserved invariant-loop decreases-loop

@@ -46,7 +46,7 @@ module _ (c : tie.Else-byte_of-ne44) where
 
 add-field-end : tie.Need-overflow_add-first
 add-field-end c =
-    omega (arith, comma-within (csv (one c)) (first (one c)) (comma c), (start (one c)).good.0.1)
+    omega (arith, comma-within (csv (one c)) (first (one c)) (comma c), (start (one c)).well_formed.0.1)
 
 returns-2 : tie.Need-returns-then-byte_of-ne44-2
 returns-2 c =
@@ -74,7 +74,7 @@ module _ (c : tie.Else-byte_of-ne44-2) where
   two-on = next_field bytes (first (one two.before) + 1) two.field_end-second.result two.field_end-second.ensures 0 comma2
 
   fits : two.field_end-second.result + 1 < 18_446_744_073_709_551_616
-  fits = omega (arith, comma-within bytes two.field_end-second.result comma2, (start (one two.before)).good.0.1)
+  fits = omega (arith, comma-within bytes two.field_end-second.result comma2, (start (one two.before)).well_formed.0.1)
 
 add-field-end-2 : tie.Need-overflow_add-second
 add-field-end-2 c = omega (arith, fits c)

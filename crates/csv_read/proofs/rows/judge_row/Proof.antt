@@ -97,8 +97,8 @@ width-of-requires c κs = c.loop-n-test.true
 ended-row-requires : tie.Need-ended_row-requires invariant-loop decreases-loop
 ended-row-requires c κs =
     let w = c in
-    let j = judged w in (
-      below w,
+    let j = judged w.before.before in (
+      below w.before.before,
       omega (arith, (found j).field_end-end.ensures, end-within (csv j) (at-loop j).loop-n.start (reading j).within),
     )
 
@@ -123,7 +123,7 @@ module _ (c : tie.Else-byte_of-ne44 invariant-loop decreases-loop) where
 add_start : tie.Need-overflow_add-start invariant-loop decreases-loop
 add_start c =
     let j = judged (fitted c) in
-    omega (arith, comma-within (csv j) (end j) (comma c), (start j).good.0.1)
+    omega (arith, comma-within (csv j) (end j) (comma c), (start j).well_formed.0.1)
 
 loop-again : tie.Need-loop-n-preserved invariant-loop decreases-loop
 loop-again c =

@@ -36,7 +36,7 @@ add-t8 : tie.Need-overflow_add-result
 add-t8 c =
     let s = start c in
     let a = s.args in
-    omega (arith, c.field_end-end.ensures, end-within a.csv.now a.start s.requires.0, s.good.0.1)
+    omega (arith, c.field_end-end.ensures, end-within a.csv.now a.start s.requires.0, s.well_formed.0.1)
 
 returns : tie.Need-returns
 returns c =

@@ -28,7 +28,7 @@ module _ (c : tie.After-cut_field-first) where
   on = next_here start.requires.0 1 (omega arith) start.requires.1 c.cut_field-first.ensures.1
 
 cut-field-requires-2 : tie.Need-cut_field-second-requires
-cut-field-requires-2 c κs = cut-here (start c).requires.0 2 (omega arith) (on c)
+cut-field-requires-2 c κs = cut-here (start c.before).requires.0 2 (omega arith) (on c.before)
 
 module _ (c : tie.After-cut_field-second) where
   abbrev start2 : tie.Start
@@ -38,7 +38,7 @@ module _ (c : tie.After-cut_field-second) where
   on2 = next_here start2.requires.0 2 (omega arith) (on c.before.before) c.cut_field-second.ensures.1
 
 cut-field-requires-3 : tie.Need-cut_field-third-requires
-cut-field-requires-3 c κs = cut-here (start2 c).requires.0 3 (omega arith) (on2 c)
+cut-field-requires-3 c κs = cut-here (start2 c.before).requires.0 3 (omega arith) (on2 c.before)
 
 module _ (c : tie.After-cut_field-third) where
   abbrev start3 : tie.Start
@@ -48,7 +48,7 @@ module _ (c : tie.After-cut_field-third) where
   on3 = next_here start3.requires.0 3 (omega arith) (on2 c.before.before) c.cut_field-third.ensures.1
 
 cut-field-requires-4 : tie.Need-cut_field-fourth-requires
-cut-field-requires-4 c κs = cut-here (start3 c).requires.0 4 (omega arith) (on3 c)
+cut-field-requires-4 c κs = cut-here (start3 c.before).requires.0 4 (omega arith) (on3 c.before)
 
 module _ (c : tie.After-cut_field-fourth) where
   abbrev start4 : tie.Start
@@ -58,7 +58,7 @@ module _ (c : tie.After-cut_field-fourth) where
   on4 = next_here start4.requires.0 4 (omega arith) (on3 c.before.before) c.cut_field-fourth.ensures.1
 
 cut-field-requires-5 : tie.Need-cut_field-fifth-requires
-cut-field-requires-5 c κs = cut-here (start4 c).requires.0 5 (omega arith) (on4 c)
+cut-field-requires-5 c κs = cut-here (start4 c.before).requires.0 5 (omega arith) (on4 c.before)
 
 module _ (c : tie.After-cut_field-fifth) where
   abbrev start5 : tie.Start

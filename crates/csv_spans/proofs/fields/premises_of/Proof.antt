@@ -40,7 +40,7 @@ module _ (v : tie.After-value_of-number) where
 add-cut-field : tie.Need-overflow_add-end
 add-cut-field c =
     let s = start c in
-    omega (arith, (ended c).field_end-end.ensures, end-high s.requires.0 6 (omega arith) s.requires.1, s.good.0.1)
+    omega (arith, (ended c).field_end-end.ensures, end-high s.requires.0 6 (omega arith) s.requires.1, s.well_formed.0.1)
 
 cut-field-requires : tie.Need-cut_field-first-requires
 cut-field-requires c κs = cut-here (start c).requires.0 7 (omega arith) (begun c)
@@ -53,7 +53,7 @@ module _ (c : tie.After-cut_field-first) where
   on1 = next_here start1.requires.0 7 (omega arith) (begun c.before) c.cut_field-first.ensures.1
 
 cut-field-requires-2 : tie.Need-cut_field-second-requires
-cut-field-requires-2 c κs = cut-here (start1 c).requires.0 8 (omega arith) (on1 c)
+cut-field-requires-2 c κs = cut-here (start1 c.before).requires.0 8 (omega arith) (on1 c.before)
 
 module _ (c : tie.After-cut_field-second) where
   abbrev start2 : tie.Start
@@ -63,7 +63,7 @@ module _ (c : tie.After-cut_field-second) where
   on2 = next_here start2.requires.0 8 (omega arith) (on1 c.before.before) c.cut_field-second.ensures.1
 
 cut-field-requires-3 : tie.Need-cut_field-third-requires
-cut-field-requires-3 c κs = cut-here (start2 c).requires.0 9 (omega arith) (on2 c)
+cut-field-requires-3 c κs = cut-here (start2 c.before).requires.0 9 (omega arith) (on2 c.before)
 
 module _ (c : tie.After-cut_field-third) where
   abbrev start3 : tie.Start
@@ -73,7 +73,7 @@ module _ (c : tie.After-cut_field-third) where
   on3 = next_here start3.requires.0 9 (omega arith) (on2 c.before.before) c.cut_field-third.ensures.1
 
 cut-field-requires-4 : tie.Need-cut_field-fourth-requires
-cut-field-requires-4 c κs = cut-here (start3 c).requires.0 10 (omega arith) (on3 c)
+cut-field-requires-4 c κs = cut-here (start3 c.before).requires.0 10 (omega arith) (on3 c.before)
 
 module _ (c : tie.After-cut_field-fourth) where
   abbrev start4 : tie.Start
@@ -83,7 +83,7 @@ module _ (c : tie.After-cut_field-fourth) where
   on4 = next_here start4.requires.0 10 (omega arith) (on3 c.before.before) c.cut_field-fourth.ensures.1
 
 cut-field-requires-5 : tie.Need-cut_field-fifth-requires
-cut-field-requires-5 c κs = cut-here (start4 c).requires.0 11 (omega arith) (on4 c)
+cut-field-requires-5 c κs = cut-here (start4 c.before).requires.0 11 (omega arith) (on4 c.before)
 
 cast-t18 : tie.Need-overflow_cast-result
 cast-t18 c =

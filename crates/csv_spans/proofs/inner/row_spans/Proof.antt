@@ -36,7 +36,7 @@ places-of-requires : tie.Need-places_of-places-requires
 places-of-requires c κs = ((start c).requires, begun c)
 
 premises-of-requires : tie.Need-premises_of-premises-requires
-premises-of-requires c κs = ((start c).requires, c.places_of-places.ensures.next)
+premises-of-requires c κs = ((start c.before).requires, c.places_of-places.ensures.next)
 
 -- once the texts are read
 module _ (b : tie.After-building-1) where
@@ -53,7 +53,7 @@ outward-span-requires : tie.Need-outward_span-requires
 outward-span-requires c κs = sized c.before.before
 
 inward-span-requires : tie.Need-inward_span-requires
-inward-span-requires c κs = omega (arith, sized c)
+inward-span-requires c κs = omega (arith, sized c.before.before.before)
 
 returns : tie.Need-returns
 unfolding row_elements

@@ -19,31 +19,31 @@ none : (c : tie.Start) → Past c 0 c.args.at c.args.out.now
 none c = begun (places-made _ _ c.args.e) c.requires
 
 abbrev start : tie.After-postcode_at-i → tie.Start
-start c = c
+start c = c.before.before.before.before.before.before.before
 
 postcode : (c : tie.After-postcode_at-i) → Past (start c) 1 c.postcode_at-i.result c.postcode_at-i.new.out
 postcode c = step (none (start c)) c.postcode_at-i.ensures
 
 abbrev of-town : tie.After-field_at-j → tie.Start
-of-town c = start c.before.before.before.before
+of-town c = start c.before.before.before.before.before
 
 town : (c : tie.After-field_at-j) → Past (of-town c) 2 c.field_at-j.result c.field_at-j.new.out
 town c = step (postcode c.before.before.before.before.before) c.field_at-j.ensures
 
 abbrev of-dependent : tie.After-field_at-k → tie.Start
-of-dependent c = of-town c.before.before.before.before
+of-dependent c = of-town c.before.before.before.before.before
 
 dependent : (c : tie.After-field_at-k) → Past (of-dependent c) 3 c.field_at-k.result c.field_at-k.new.out
 dependent c = step (town c.before.before.before.before.before) c.field_at-k.ensures
 
 abbrev of-double : tie.After-field_at-l → tie.Start
-of-double c = of-dependent c.before.before.before.before
+of-double c = of-dependent c.before.before.before.before.before
 
 double : (c : tie.After-field_at-l) → Past (of-double c) 4 c.field_at-l.result c.field_at-l.new.out
 double c = step (dependent c.before.before.before.before.before) c.field_at-l.ensures
 
 abbrev of-street : tie.After-street_at-m → tie.Start
-of-street c = of-double c.before.before.before.before
+of-street c = of-double c.before.before.before.before.before.before
 
 street : (c : tie.After-street_at-m) → Past (of-street c) 5 c.street_at-m.result c.street_at-m.new.out
 street c = step (double c.before.before.before.before.before.before) c.street_at-m.ensures
@@ -56,7 +56,4 @@ returns c =
 pub places_at_spec : {M : Type 1} → statement M
 places_at_spec =
     tie.close
-    (tie.spec (λ c κs. room (none c.before.before.before.before.before.before)) (λ c κs. room (postcode c.before.before.before.before.before.before.before.before.before.before.before.before.before.before.before.before.before.before.before.before.before.before.before.before.before.before.before.before.before))
-    (λ c κs. room (town c.before.before.before.before.before.before.before.before.before.before.before.before.before.before.before.before.before.before.before.before.before.before.before.before)) (λ c κs. room (dependent c.before.before.before.before.before.before.before.before.before.before.before.before.before.before.before.before.before.before.before))
-    (λ c κs. room (double c.before.before.before.before.before.before.before.before.before.before.before.before.before.before)) (λ c κs. room (street c.before.before.before.before.before.before.before.before))
-    (search rules) returns)
+    (tie.spec (λ c κs. room (none c.before.before.before.before.before.before)) (λ c κs. room (postcode c.before.before.before.before)) (λ c κs. room (town c.before.before.before.before)) (λ c κs. room (dependent c.before.before.before.before)) (λ c κs. room (double c.before.before.before.before.before)) (λ c κs. room (street c.before.before.before.before.before)) (search rules) returns)

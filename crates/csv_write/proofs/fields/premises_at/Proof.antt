@@ -19,31 +19,31 @@ none : (c : tie.Start) → Past c 0 c.args.at c.args.out.now
 none c = begun (premises-made _ _ c.args.e) c.requires
 
 abbrev start : tie.After-number_field_at-i → tie.Start
-start c = c
+start c = c.before.before.before.before.before
 
 number : (c : tie.After-number_field_at-i) → Past (start c) 1 c.number_field_at-i.result c.number_field_at-i.new.out
 number c = step (none (start c)) c.number_field_at-i.ensures
 
 abbrev of-name : tie.After-field_at-j → tie.Start
-of-name c = start c.before.before.before.before
+of-name c = start c.before.before.before.before.before
 
 building : (c : tie.After-field_at-j) → Past (of-name c) 2 c.field_at-j.result c.field_at-j.new.out
 building c = step (number c.before.before.before.before.before) c.field_at-j.ensures
 
 abbrev of-sub : tie.After-field_at-k → tie.Start
-of-sub c = of-name c.before.before.before.before
+of-sub c = of-name c.before.before.before.before.before
 
 sub_building : (c : tie.After-field_at-k) → Past (of-sub c) 3 c.field_at-k.result c.field_at-k.new.out
 sub_building c = step (building c.before.before.before.before.before) c.field_at-k.ensures
 
 abbrev of-box : tie.After-field_at-l → tie.Start
-of-box c = of-sub c.before.before.before.before
+of-box c = of-sub c.before.before.before.before.before
 
 box : (c : tie.After-field_at-l) → Past (of-box c) 4 c.field_at-l.result c.field_at-l.new.out
 box c = step (sub_building c.before.before.before.before.before) c.field_at-l.ensures
 
 abbrev of-department : tie.After-field_at-m → tie.Start
-of-department c = of-box c.before.before.before.before
+of-department c = of-box c.before.before.before.before.before
 
 department : (c : tie.After-field_at-m)
     → Past (of-department c) 5 c.field_at-m.result c.field_at-m.new.out
@@ -57,7 +57,4 @@ returns c =
 pub premises_at_spec : {M : Type 1} → statement M
 premises_at_spec =
     tie.close
-    (tie.spec (λ c κs. room (none c.before.before.before.before)) (λ c κs. room (number c.before.before.before.before.before.before.before.before.before.before.before.before.before.before.before.before.before.before.before.before.before.before.before.before.before.before.before))
-    (λ c κs. room (building c.before.before.before.before.before.before.before.before.before.before.before.before.before.before.before.before.before.before.before.before.before.before)) (λ c κs. room (sub_building c.before.before.before.before.before.before.before.before.before.before.before.before.before.before.before.before.before))
-    (λ c κs. room (box c.before.before.before.before.before.before.before.before.before.before.before.before)) (λ c κs. room (department c.before.before.before.before.before.before.before))
-    (search rules) returns)
+    (tie.spec (λ c κs. room (none c.before.before.before.before)) (λ c κs. room (number c.before.before.before.before)) (λ c κs. room (building c.before.before.before.before)) (λ c κs. room (sub_building c.before.before.before.before)) (λ c κs. room (box c.before.before.before.before)) (λ c κs. room (department c.before.before.before.before)) (search rules) returns)

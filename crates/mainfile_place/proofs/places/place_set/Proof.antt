@@ -19,19 +19,19 @@ module _ (c : tie.Start) where
 
 -- the start, from behind each call
 abbrev from₁ : tie.After-place_kind-first → tie.Start
-from₁ c = c
+from₁ c = c.before.before.before.before.before.before.before.before.before.before.before.before.before.before.before.before.before
 
 abbrev first : tie.After-place_kind-second → tie.After-place_kind-first
-first c = c
+first c = c.before.before.before.before
 
 abbrev second : tie.After-place_kind-third → tie.After-place_kind-second
-second c = c
+second c = c.before.before.before.before.before
 
 abbrev third : tie.After-place_kind-fourth → tie.After-place_kind-third
-third c = c
+third c = c.before.before.before.before.before
 
 abbrev fourth : tie.After-place_kind-fifth → tie.After-place_kind-fourth
-fourth c = c
+fourth c = c.before.before.before.before.before
 
 abbrev from₂ : tie.After-place_kind-second → tie.Start
 from₂ c = from₁ (first c)
@@ -73,34 +73,34 @@ place-kind-requires c κs =
 place-kind-requires-2 : tie.Need-place_kind-second-requires
 place-kind-requires-2 c κs =
     let w = c.before.before.before in
-    let s = from₁ w in
-    ((s.requires.1.of_thoroughfares, (kind-few (files s.before.before.before.before.before.before.before.before.before.before.before.before.before.before.before.before.before) s.requires.0 2).1), omega (arith, (few₁ w.before.before.before.before.before.before.before.before.before.before.before.before.before.before.before.before).1))
+    let s = from₁ w.before.before.before.before.before.before.before.before.before.before.before.before.before.before.before.before in
+    ((s.requires.1.of_thoroughfares, (kind-few (files s) s.requires.0 2).1), omega (arith, (few₁ w.before.before.before.before.before.before.before.before.before.before.before.before.before.before.before.before).1))
 
 place-kind-requires-3 : tie.Need-place_kind-third-requires
 place-kind-requires-3 c κs =
     let w = c.before.before.before.before in
-    let s = from₂ w in
-    ((s.requires.1.of_descriptors, (kind-few (files s.before.before.before.before.before.before.before.before.before.before.before.before.before.before.before.before.before.before.before.before.before) s.requires.0 3).1), omega (arith, (few₁ (first w)).1, (few₂ w.before.before.before.before.before.before.before.before.before.before.before).1))
+    let s = from₂ w.before.before.before.before.before.before.before.before.before.before.before in
+    ((s.requires.1.of_descriptors, (kind-few (files s) s.requires.0 3).1), omega (arith, (few₁ (first w.before.before.before.before.before.before.before.before.before.before.before)).1, (few₂ w.before.before.before.before.before.before.before.before.before.before.before).1))
 
 place-kind-requires-4 : tie.Need-place_kind-fourth-requires
 place-kind-requires-4 c κs =
     let w = c.before.before.before.before in
-    let s = from₃ w in (
-      (s.requires.1.of_buildings, (kind-few (files s.before.before.before.before.before.before.before.before.before.before.before.before.before.before.before.before.before.before.before.before.before.before.before.before.before.before) s.requires.0 4).1),
-      omega (arith, (few₁ (first (second w))).1, (few₂ (second w)).1, (few₃ w.before.before.before.before.before.before).1),
+    let s = from₃ w.before.before.before.before.before.before in (
+      (s.requires.1.of_buildings, (kind-few (files s) s.requires.0 4).1),
+      omega (arith, (few₁ (first (second w.before.before.before.before.before.before))).1, (few₂ (second w.before.before.before.before.before.before)).1, (few₃ w.before.before.before.before.before.before).1),
     )
 
 place-kind-requires-5 : tie.Need-place_kind-fifth-requires
 place-kind-requires-5 c κs =
     let w = c.before.before.before.before in
-    let v = third w in
-    let s = from₄ w in (
-      (s.requires.1.of_sub_buildings, (kind-few (files s.before.before.before.before.before.before.before.before.before.before.before.before.before.before.before.before.before.before.before.before.before.before.before.before.before.before.before.before.before.before.before) s.requires.0 5).1),
-      omega (arith, (few₁ (first (second v))).1, (few₂ (second v)).1, (few₃ v.before.before.before.before.before).1, (few₄ w.before).1),
+    let v = third w.before in
+    let s = from₄ w.before in (
+      (s.requires.1.of_sub_buildings, (kind-few (files s) s.requires.0 5).1),
+      omega (arith, (few₁ (first (second v))).1, (few₂ (second v)).1, (few₃ v).1, (few₄ w.before).1),
     )
 
 add-two : tie.Need-overflow_add-two
-add-two c = let w = c.before.before.before in omega (arith, (few₁ (first w)).1, (few₂ w.before.before.before.before.before.before.before.before.before.before.before).1)
+add-two c = let w = c.before.before.before in omega (arith, (few₁ (first w.before.before.before.before.before.before.before.before.before.before.before)).1, (few₂ w.before.before.before.before.before.before.before.before.before.before.before).1)
 
 add-three : tie.Need-overflow_add-three
 add-three c =
@@ -111,7 +111,7 @@ add-four : tie.Need-overflow_add-four
 add-four c =
     let w = c.before.before.before in
     let v = third w in
-    omega (arith, (few₁ (first (second v))).1, (few₂ (second v)).1, (few₃ v.before.before.before.before.before).1, (few₄ w).1)
+    omega (arith, (few₁ (first (second v))).1, (few₂ (second v)).1, (few₃ v).1, (few₄ w).1)
 
 -- once all five are placed
 module _ (c : tie.After-place_kind-fifth) where
@@ -153,7 +153,7 @@ returns c =
     let v = fourth w in
     let s = from₅ w in
     let a = s.args in
-    let e = accepted-ended (files s.before.before.before.before.before.before.before.before.before.before.before.before.before.before.before.before.before.before.before.before.before.before.before.before.before.before.before.before.before.before.before.before.before.before.before.before) s.requires.0 in
+    let e = accepted-ended (files s) s.requires.0 in
     let p₁ = (t₁ w).place_kind-first in
     let p₂ = (t₂ w).place_kind-second in
     let p₃ = (t₃ w).place_kind-third in
@@ -169,7 +169,7 @@ returns c =
     let four = ap₂ ◌+◌ three p₄.ensures.1.0 in (
       omega (
         arith,
-        count-is (files s.before.before.before.before.before.before.before.before.before.before.before.before.before.before.before.before.before.before.before.before.before.before.before.before.before.before.before.before.before.before.before.before.before.before.before.before) l t d b u e,
+        count-is (files s) l t d b u e,
         p₁.ensures.0,
         p₂.ensures.0,
         p₃.ensures.0,
@@ -177,7 +177,7 @@ returns c =
         p₅.ensures.0,
       ),
       (
-        omega (arith, bytes-is (files s.before.before.before.before.before.before.before.before.before.before.before.before.before.before.before.before.before.before.before.before.before.before.before.before.before.before.before.before.before.before.before.before.before.before.before.before) l t d b u e, four, p₅.ensures.1.0),
+        omega (arith, bytes-is (files s) l t d b u e, four, p₅.ensures.1.0),
         record {
           room =
               record {
