@@ -76,14 +76,14 @@ module _ (o : tie.After-organisations_in-of_book) where
 
 place-rows-requires : tie.Need-place_rows-of_table-requires
 place-rows-requires c κs =
-    let t = c.before in
+    let t = c in
     let s = t.before.before.before.before.before.before.before.before in
     let small = table-small s.args.table.now s.requires.0.of_table in
     rw t.table_shelf.ensures (table_fits, (omega (arith, small, marked-long s.requires.1.1), omega (arith, small)))
 
 organisations-in-requires : tie.Need-organisations_in-of_book-requires
 organisations-in-requires c κs =
-    let t = c.before.before.before.before in
+    let t = c in
     t.requires.0.of_chosen
 
 mul-points : tie.Need-overflow_mul-points

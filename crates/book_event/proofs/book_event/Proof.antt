@@ -11,9 +11,9 @@ use Rattle.book_event.proofs.book_event.Tie as tie
 
 event-in-requires : tie.Need-event_in-requires
 event-in-requires c κs =
-    let behind-enum-told = c.before in
-    let behind-check-book = behind-enum-told.before.before in
-    let start = behind-check-book.before.before.before.before in
+    let behind-enum-told = c in
+    let behind-check-book = behind-enum-told in
+    let start = behind-check-book in
     let book = start.args.book.now in
     book-long book (judged-is book (sym behind-check-book.check_book.ensures ∙ behind-enum-told.in-Value.is))
 

@@ -10,8 +10,8 @@ use Rattle.book_event.proofs.event_in.Tie as tie
 
 event-from-requires : tie.Need-event_from-requires
 event-from-requires c κs =
-    let behind-wanted-at = c.before in
-    let start = behind-wanted-at.before.before.before.before.before.before.before in
+    let behind-wanted-at = c in
+    let start = behind-wanted-at in
     (start.requires, rw behind-wanted-at.wanted_at-place.ensures (wanted-place start.args.points.now start.args.view))
 
 returns : tie.Need-returns-in-Value

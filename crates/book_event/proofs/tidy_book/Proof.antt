@@ -10,9 +10,9 @@ use Rattle.book_event.proofs.tidy_book.Tie as tie
 
 tidy-requires : tie.Need-tidy-requires
 tidy-requires c κs =
-    let behind-enum-told = c.before in
-    let behind-check-book = behind-enum-told.before.before in
-    let start = behind-check-book.before.before.before in
+    let behind-enum-told = c in
+    let behind-check-book = behind-enum-told in
+    let start = behind-check-book in
     judged-is start.args.book.now (sym behind-check-book.check_book.ensures ∙ behind-enum-told.in-Value.is)
 
 returns : tie.Need-returns-in-Value

@@ -15,7 +15,7 @@ module _ (k : tie.After-check_source) where
 
 label-among-requires : tie.Need-label_among-requires
 label-among-requires c κs =
-    let t = c.before.before in
+    let t = c in
     let k = t.before.before in
     let a = (start k).args in
     let taken = sym k.check_source.ensures ∙ t.in-Value.is in

@@ -32,7 +32,7 @@ module _ (f : tie.After-fill_refs) where
 
 fill-refs-requires : tie.Need-fill_refs-requires
 fill-refs-requires c κs =
-    let t = c.before in
+    let t = c in
     let s = t.before.before.before.before.before in
     rw t.table_shelf.ensures
     (table_fits, fresh-long s.args.table.now s.requires.of_table 20000 (omega arith))
@@ -44,7 +44,7 @@ mark-views-requires c κs =
 
 write-if-room-requires : tie.Need-write_if_room-requires
 write-if-room-requires c κs =
-    let m = c.before.before.before.before.before.before in
+    let m = c in
     let f = m.before.before.before.before in
     let told = c.in-Fine.is in
     (known f, ((s f).requires, fresh-marked 20000 refl m.mark_views.ensures told))

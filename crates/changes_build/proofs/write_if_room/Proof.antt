@@ -81,7 +81,7 @@ module _ (w : tie.After-count_wanted-count) where
 
 place-rows-requires : tie.Need-place_rows-of_table-requires
 place-rows-requires c κs =
-    let t = c.before in
+    let t = c in
     let s = t.before.before.before.before.before.before.before in
     let small = table-small s.args.table.now s.requires.0.of_table in
     rw t.table_shelf.ensures (table_fits, (omega (arith, small, marked-long s.requires.1.1), omega (arith, small)))

@@ -12,9 +12,9 @@ use Rattle.changes_csv.proofs.row_of_view.Tie as tie
 
 row-at-requires : tie.Need-row_at-requires
 row-at-requires c κs =
-    let w = c.before in
-    let t = w.before.before in
-    let k = t.before.before in
+    let w = c in
+    let t = w in
+    let k = t in
     let a = k.args in
     let taken = sym k.check_pair.ensures ∙ t.in-Value.is in
     rw w.wanted_at-place.ensures

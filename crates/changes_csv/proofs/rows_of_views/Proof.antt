@@ -11,8 +11,8 @@ use Rattle.changes_csv.proofs.rows_of_views.Tie as tie
 
 run-rows-requires : tie.Need-run_rows-requires
 run-rows-requires c κs =
-    let t = c.before in
-    let k = t.before.before in
+    let t = c in
+    let k = t in
     let a = k.args in
     table-accepted a.table.now a.points.now (sym k.check_pair.ensures ∙ t.in-Value.is)
 

@@ -11,8 +11,8 @@ use Rattle.changes_items.proofs.list_of_views.Tie as tie
 
 list-places-requires : tie.Need-list_places-requires
 list-places-requires c κs =
-    let t = c.before.before in
-    let k = t.before.before in
+    let t = c in
+    let k = t in
     let a = k.args in
     table-accepted a.table.now a.points.now (sym k.check_pair.ensures ∙ t.in-Value.is)
 

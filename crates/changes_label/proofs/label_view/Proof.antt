@@ -11,9 +11,9 @@ use Rattle.changes_label.proofs.label_view.Tie as tie
 
 label-at-requires : tie.Need-label_at-requires
 label-at-requires c κs =
-    let w = c.before in
-    let t = w.before.before in
-    let k = t.before.before in
+    let w = c in
+    let t = w in
+    let k = t in
     let a = k.args in
     let taken = sym k.check_pair.ensures ∙ t.in-Value.is in
     rw w.wanted_at-place.ensures

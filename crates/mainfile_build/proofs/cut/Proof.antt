@@ -56,7 +56,7 @@ module _ (m : tie.After-mark_addresses) where
 
 write-if-room-requires : tie.Need-write_if_room-requires
 write-if-room-requires c κs =
-    let t = c.before.before.before.before.before.before in
+    let t = c in
     let m = t.before.before.before.before.before.before.before in
     let f = found m in
     let told = t.in-Fine.is in

@@ -10,8 +10,8 @@ use Rattle.pack_label.proofs.label_of_point.Tie as tie
 
 label-at-requires : tie.Need-label_at-requires
 label-at-requires c κs =
-    let n = c.before.before in
-    let o = n.before.before in
+    let n = c in
+    let o = n in
     let a = o.args in
     let value = sym o.open_pack.ensures ∙ n.in-Value.is in
     (opened-sized a.pack.now _ value, (opened-all a.pack.now _ value).counted)

@@ -9,8 +9,8 @@ use Rattle.pack_suffix.proofs.suffix_of_point.Tie as tie
 
 suffix-at-requires : tie.Need-suffix_at-requires
 suffix-at-requires c κs =
-    let counted = c.before in
-    let opened = counted.before.before in
+    let counted = c in
+    let opened = counted in
     let pack = opened.args.pack.now in
     let value = sym opened.open_pack.ensures ∙ counted.in-Value.is in
     (opened-sized pack _ value, (opened-all pack _ value).counted)

@@ -20,18 +20,18 @@ holder-of-requires c κs =
 
 slot-of-requires : tie.Need-slot_of-requires
 slot-of-requires c κs =
-    let behind-holder-of = c.before in
-    let behind-if1 = behind-holder-of.before in
-    let start = behind-if1.before.before.before in
+    let behind-holder-of = c in
+    let behind-if1 = behind-holder-of in
+    let start = behind-if1 in
     let old = start.args.old.now in
     let low : start.args.s + 1 ≤ count_of old = omega (arith, behind-if1.if-s-count.true, start.requires.2) in
     (book-long old start.requires.1, rw behind-holder-of.holder_of-from.ensures (held_below old start.requires.1 (start.args.s + 1) (omega arith) low))
 
 set-slot-requires : tie.Need-set_slot-requires
 set-slot-requires c κs =
-    let behind-holder-of = c.before.before in
-    let behind-if1 = behind-holder-of.before in
-    let start = behind-if1.before.before.before in
+    let behind-holder-of = c in
+    let behind-if1 = behind-holder-of in
+    let start = behind-if1 in
     let old = start.args.old.now in
     let low : start.args.s + 1 ≤ count_of old = omega (arith, behind-if1.if-s-count.true, start.requires.2) in
     let from = held_below old start.requires.1 (start.args.s + 1) (omega arith) low in (

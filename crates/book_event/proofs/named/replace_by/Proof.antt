@@ -15,8 +15,8 @@ use Rattle.book_event.proofs.named.replace_by.Tie as tie
 
 replace-requires : tie.Need-replace-requires
 replace-requires c κs =
-    let behind-point-record = c.before.before.before.before in
-    let start = behind-point-record.before.before.before in
+    let behind-point-record = c in
+    let start = behind-point-record in
     let there = view-there start.args.points.now start.args.place start.requires.1 in
     (start.requires.0, record { view_long = ap length behind-point-record.point_record-view.ensures ∙ there; follower_long = refl })
 

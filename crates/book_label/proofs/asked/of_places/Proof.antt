@@ -14,7 +14,7 @@ module _ (k : tie.After-check_source) where
 
 walk-requires : tie.Need-walk-requires
 walk-requires c κs =
-    let t = c.before.before in
+    let t = c in
     let k = t.before.before in
     let a = (start k).args in
     let taken = sym k.check_source.ensures ∙ t.in-Value.is in

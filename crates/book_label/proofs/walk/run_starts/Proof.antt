@@ -98,7 +98,7 @@ add_at c =
       going-fits l.loop-done.invariant.1.0 (fit (start (next m.before.before.before))) (omega arith) (asked m.before.before.before) c.in-Value.is,
       m.shown_behind.auto.out,
       l.loop-done.invariant.1.1,
-      (start (next m.before.before.before)).good.1.1.1.1.1.1.0.0,
+      (start (next m.before.before.before)).well_formed.1.1.1.1.1.1.0.0,
     )
 
 returns : tie.Need-returns-in-Refused invariant-loop decreases-loop
@@ -109,7 +109,7 @@ returns c =
 add-k : tie.Need-overflow_add-k invariant-loop decreases-loop
 add-k c =
     let m = c in
-    omega (arith, there m.before.before.before c.in-Value.is, (turn (next m.before.before.before)).loop-done.invariant.0, (start (next m.before.before.before)).good.1.1.0.1)
+    omega (arith, there m.before.before.before c.in-Value.is, (turn (next m.before.before.before)).loop-done.invariant.0, (start (next m.before.before.before)).well_formed.1.1.0.1)
 
 loop-again : tie.Need-loop-done-preserved invariant-loop decreases-loop
 loop-again c =

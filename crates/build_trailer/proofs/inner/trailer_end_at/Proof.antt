@@ -32,15 +32,15 @@ bytes-at-requires c κs =
 
 word-at-requires : tie.Need-word_at-j-requires
 word-at-requires c κs =
-    let at_code = c.before.before.before in
+    let at_code = c in
     let s = at_code.before.before.before.before in
     going-room (size s) (last s)
     (after-code (code s) s.args.bytes (counts s) s.requires at_code.bytes_at-i.ensures) s.requires
 
 counts-at-requires : tie.Need-counts_at-k-requires
 counts-at-requires c κs =
-    let at_length = c.before.before.before in
-    let at_code = at_length.before.before.before.before in
+    let at_length = c in
+    let at_code = at_length in
     let s = at_code.before.before.before.before in
     going-room (counts s) (newest ∷ [])
     (after-length (code s) s.args.bytes (counts s) s.requires at_code.bytes_at-i.ensures at_length.word_at-j.ensures)
@@ -48,9 +48,9 @@ counts-at-requires c κs =
 
 byte-at-requires : tie.Need-byte_at-requires
 byte-at-requires c κs =
-    let at-counts = c.before.before.before in
-    let at_length = at-counts.before.before.before.before in
-    let at_code = at_length.before.before.before.before in
+    let at-counts = c in
+    let at_length = at-counts in
+    let at_code = at_length in
     let s = at_code.before.before.before.before in
     going-left
     (after-counts (code s) s.args.bytes (counts s) s.requires at_code.bytes_at-i.ensures at_length.word_at-j.ensures

@@ -71,7 +71,7 @@ module _ (at_rows : tie.After-rows_at-i) where
 
 rows-at-requires : tie.Need-rows_at-i-requires
 rows-at-requires c κs =
-    let t = c.before in
+    let t = c in
     let s = t.before.before.before.before.before.before.before in
     let rows = used_rows (st s) (starts s) in
     let i = length rows in

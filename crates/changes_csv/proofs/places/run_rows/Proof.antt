@@ -82,7 +82,7 @@ add_at c =
       going-fits l.loop-done.invariant.1.0 (fit l) (omega arith) (asked m.before.before.before) c.in-Value.is,
       m.row_behind.auto.out,
       l.loop-done.invariant.1.1,
-      (start l).good.1.1.1.1.0.0,
+      (start l).well_formed.1.1.1.1.0.0,
     )
 
 returns : tie.Need-returns-in-Refused invariant-loop decreases-loop

@@ -66,7 +66,7 @@ returns c =
     offsets-placed (files s) a.l-bits.now a.t-bits.now a.d-bits.now a.b-bits.now
     a.s-bits.now a.l-blocks.now a.t-blocks.now a.d-blocks.now
     a.b-blocks.now a.s-blocks.now a.rows s.requires a.keys
-    s.good.1.1.1.1.1.1.1.1.1.1.1.1.1.1.1.0.1.0.1 first.offset_in-l.result
+    s.well_formed.1.1.1.1.1.1.1.1.1.1.1.1.1.1.1.0.1.0.1 first.offset_in-l.result
     second.offset_in-t.result third.offset_in-d.result fourth.offset_in-dependent.result fifth.offset_in-second.result
     sixth.offset_in-b.result c.offset_in-s.result
     (first.offset_in-l.ensures _ starts.of_localities)

@@ -72,19 +72,19 @@ place-kind-requires c κs =
 
 place-kind-requires-2 : tie.Need-place_kind-second-requires
 place-kind-requires-2 c κs =
-    let w = c.before.before.before in
+    let w = c in
     let s = from₁ w.before.before.before.before.before.before.before.before.before.before.before.before.before.before.before.before in
     ((s.requires.1.of_thoroughfares, (kind-few (files s) s.requires.0 2).1), omega (arith, (few₁ w.before.before.before.before.before.before.before.before.before.before.before.before.before.before.before.before).1))
 
 place-kind-requires-3 : tie.Need-place_kind-third-requires
 place-kind-requires-3 c κs =
-    let w = c.before.before.before.before in
+    let w = c in
     let s = from₂ w.before.before.before.before.before.before.before.before.before.before.before in
     ((s.requires.1.of_descriptors, (kind-few (files s) s.requires.0 3).1), omega (arith, (few₁ (first w.before.before.before.before.before.before.before.before.before.before.before)).1, (few₂ w.before.before.before.before.before.before.before.before.before.before.before).1))
 
 place-kind-requires-4 : tie.Need-place_kind-fourth-requires
 place-kind-requires-4 c κs =
-    let w = c.before.before.before.before in
+    let w = c in
     let s = from₃ w.before.before.before.before.before.before in (
       (s.requires.1.of_buildings, (kind-few (files s) s.requires.0 4).1),
       omega (arith, (few₁ (first (second w.before.before.before.before.before.before))).1, (few₂ (second w.before.before.before.before.before.before)).1, (few₃ w.before.before.before.before.before.before).1),
@@ -92,7 +92,7 @@ place-kind-requires-4 c κs =
 
 place-kind-requires-5 : tie.Need-place_kind-fifth-requires
 place-kind-requires-5 c κs =
-    let w = c.before.before.before.before in
+    let w = c in
     let v = third w.before in
     let s = from₄ w.before in (
       (s.requires.1.of_sub_buildings, (kind-few (files s) s.requires.0 5).1),
@@ -100,7 +100,7 @@ place-kind-requires-5 c κs =
     )
 
 add-two : tie.Need-overflow_add-two
-add-two c = let w = c.before.before.before in omega (arith, (few₁ (first w.before.before.before.before.before.before.before.before.before.before.before)).1, (few₂ w.before.before.before.before.before.before.before.before.before.before.before).1)
+add-two c = let w = c in omega (arith, (few₁ (first w.before.before.before.before.before.before.before.before.before.before.before)).1, (few₂ w.before.before.before.before.before.before.before.before.before.before.before).1)
 
 add-three : tie.Need-overflow_add-three
 add-three c =

@@ -26,8 +26,8 @@ module _ (k : tie.After-check_set) where
 
 walk-requires : tie.Need-walk-requires
 walk-requires c κs =
-    let all = c.before in
-    let t = all.before in
+    let all = c in
+    let t = all in
     let k = t.before.before in
     rw (all.all_in.ensures.0, all.all_in.ensures.1)
     (all-between (files k) (set-accepted (files k) (sym k.check_set.ensures ∙ t.in-Value.is)))

@@ -10,7 +10,7 @@ use Rattle.mainfile_texts.proofs.inner.field_into.Tie as tie
 
 text-into-requires : tie.Need-text_into-requires
 text-into-requires c κs =
-    let start = c.before.before.before.before.before in
+    let start = c in
     let a = start.args in
     let short = text_in-bound a.file.now a.from (a.from + a.width) in
     rw c.read_text.ensures (omega (arith, start.requires.0), omega (arith, start.requires.1))

@@ -14,7 +14,7 @@ use Rattle.mainfile_texts.proofs.inner.gather_own.Tie as tie
 
 text-into-requires : tie.Need-text_into-inward-requires
 text-into-requires c κs =
-    let start = c.before.before.before.before.before.before.before.before.before.before.before.before.before.before.before.before.before.before.before.before.before in
+    let start = c in
     let at = start.args.p.postcode in
     let short = part-bound start.args.addresses.now (at + 4) (at + 7) in
     let long =

@@ -38,7 +38,7 @@ module _ (l : tie.In-loop-i invariant-loop decreases-loop) where
         arith,
         start.requires.0,
         start.requires.1,
-        start.good.0,
+        start.well_formed.0,
         mul-le-mul_right start.args.n (let z : 2 ≤ start.args.width = omega (arith, start.requires.0) in z),
       )
 

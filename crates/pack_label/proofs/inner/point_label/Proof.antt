@@ -48,10 +48,10 @@ trailer-number-requires c κs =
     (trailed start.args.pack.now start.requires.0 _ c.layout_in-layout.ensures, lit≤ tt)
 
 mul_at : tie.Need-overflow_mul-at
-mul_at c = omega (arith, place c.before, here c.before, (start c.before).good.0.0)
+mul_at c = omega (arith, place c.before, here c.before, (start c.before).well_formed.0.0)
 
 add_at : tie.Need-overflow_add-at
-add_at c = omega (arith, place c.before, here c.before, (start c.before).good.0.0)
+add_at c = omega (arith, place c.before, here c.before, (start c.before).well_formed.0.0)
 
 slice-aggregate-rows : tie.Need-slice_bounds-rows-end
 slice-aggregate-rows c = sym (length-take-le _ _ (within c.before))

@@ -86,7 +86,7 @@ add_at : tie.Need-overflow_add-at-in-loop-i invariant-loop decreases-loop
 add_at c =
     let n = c in
     let l = n in
-    omega (arith, room l.before.before n.loop-i-test.true, (start l.before.before).requires.1.0.point)
+    omega (arith, room l.before.before.before.before.before n.loop-i-test.true, (start l.before.before.before.before.before).requires.1.0.point)
 
 loop-again : tie.Need-loop-i-preserved invariant-loop decreases-loop
 loop-again c =

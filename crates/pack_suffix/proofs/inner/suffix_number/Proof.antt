@@ -30,13 +30,13 @@ module _ (c : tie.After-trailer_number-start) where
   here = point-in pack start.requires.0 (k - 1) (point_place pack k) (omega (arith, start.requires.1.0, start.requires.1.1)) refl
 
 mul_at : tie.Need-overflow_mul-at
-mul_at c = omega (arith, place c.before, here c.before, (start c.before).good.0)
+mul_at c = omega (arith, place c.before, here c.before, (start c.before).well_formed.0)
 
 add_at : tie.Need-overflow_add-at
-add_at c = omega (arith, place c.before, here c.before, (start c.before).good.0)
+add_at c = omega (arith, place c.before, here c.before, (start c.before).well_formed.0)
 
 add-number-within : tie.Need-overflow_add-at-2
-add-number-within c = omega (arith, place c.before, here c.before, (start c.before).good.0)
+add-number-within c = omega (arith, place c.before, here c.before, (start c.before).well_formed.0)
 
 number-within-requires : tie.Need-number_within-requires
 number-within-requires c κs = (omega (arith, place c.before, here c.before), omega arith)

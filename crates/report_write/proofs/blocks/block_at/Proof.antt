@@ -15,13 +15,13 @@ use Rattle.report_write.proofs.blocks.block_at.Tie as tie
 
 line-at-requires : tie.Need-line_at-i-requires
 line-at-requires c κs =
-    let l = c.before in
+    let l = c in
     (l.requires.0, l.view_line.ensures.within)
 
 view-at-requires : tie.Need-view_at-requires
 view-at-requires c κs =
-    let t = c.before.before.before in
-    let w = t.before.before.before.before.before in
+    let t = c in
+    let w = t in
     let s = w.before.before.before.before.before in
     let place = wanted-place s.args.table.now s.args.points.now [] s.args.view s.requires.1 in
     (omega (arith, t.line_at-i.ensures.room), rw w.wanted_at-place.ensures place)
