@@ -19,9 +19,9 @@ module _ (t : tie.In-Value) where
 
 label-at-requires : tie.Need-label_at-requires
 label-at-requires c κs =
-    let p = c.before in
+    let p = c in
     let t = p.before in
-    let a = (start t).args in
+    let a = (start t.before).args in
     row_here a.csv.now (sym t.check_csv.ensures ∙ t.in-Value.is) a.row p.row_place.result p.row_place.ensures.0 p.row_place.ensures.1
 
 returns : tie.Need-returns-in-Value

@@ -69,13 +69,13 @@ returns c =
 place-among-requires : tie.Need-place_among-place-requires
 place-among-requires c κs =
     let t = c in
-    rw (c.stretch_in.ensures.0, c.stretch_in.ensures.1) (between-few (files (judged t.before.before)) _ _ (between t.before.before))
+    rw (c.stretch_in.ensures.0, c.stretch_in.ensures.1) (between-few (files (judged t.before.before.before)) _ _ (between t.before.before.before))
 
 label-at-requires : tie.Need-label_at-requires
 label-at-requires c κs =
     let p = c in
-    let k = judged (told p) in
-    rw (place_is p) (among-place (files k) _ _ (between (told p)) (start k).args.k)
+    let k = judged (told p.before) in
+    rw (place_is p.before) (among-place (files k) _ _ (between (told p.before)) (start k).args.k)
 
 returns-2 : tie.Need-returns-else-outward_fault-ne0
 returns-2 c =

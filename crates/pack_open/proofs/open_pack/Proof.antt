@@ -77,7 +77,7 @@ module _ (c : tie.After-all_rows_good) where
           small = rw (length-take-le _ _ (within at-start)) at-start.trailer_number-start.ensures.1;
           good = ap (λ rows. rows_good rows (row_count (Pack past)) 1 0) rows_are ∙ (sym rows-said ∙ e);
         };
-        size = as_long 16_384 at-fine.rows_fine-fine.new.marks at-fine.rows_fine-fine.kept.marks;
+        size = as_long 16_384 at-fine.rows_fine-fine.new.marks at-fine.rows_fine-fine.auto.marks;
         marked = marked;
       }
 
@@ -162,7 +162,7 @@ returns-4 c =
     ))
 
 trailer-number-requires-3 : tie.Need-trailer_number-requires
-trailer-number-requires-3 c κs = (there (past (of_rows c.before.before.before)), lit≤ tt)
+trailer-number-requires-3 c κs = (there (past (of_rows c.before.before)), lit≤ tt)
 
 returns-5 : tie.Need-returns
 unfolding opened

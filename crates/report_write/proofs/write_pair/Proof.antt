@@ -29,4 +29,4 @@ returns c =
 pub write_pair_spec : {M : Type 1} → statement M
 write_pair_spec =
     tie.close
-    (tie.spec (search rules) (search rules) (search rules) (search rules) (search rules) (search rules) (search rules) (search rules) (search rules) returns)
+    (tie.spec (search rules) (search rules) (search rules) (search rules) (search rules) (search rules) (search rules) (λ c κs. search rules) (search rules) returns)

@@ -84,4 +84,4 @@ returns-2 c =
 pub item_from_spec : {M : Type 1} → statement M
 item_from_spec =
     tie.close
-    (tie.spec returns (search rules) (search rules) (search rules) (search rules) (search rules) (search rules) (search rules) (search rules) (search rules) headed-item-requires (search rules) returns-2)
+    (tie.spec returns (λ c κs. c.requires.inside c.if-at-eq0.false) (λ c κs. search rules) (search rules) (λ c. sym (length-take-le _ _ c.worded_line-line.ensures.within)) (λ c κs. search rules) within (λ c. let h = within c in search rules) (search rules) (λ c κs. search rules) headed-item-requires (search rules) returns-2)

@@ -78,4 +78,4 @@ returns c =
 pub item_at_spec : {M : Type 1} → statement M
 item_at_spec =
     tie.close
-    (tie.spec (search rules) (search rules) slice-aggregate-heading (search rules) (search rules) part-label-at-start (search rules) (search rules) headed-item-requires (search rules) returns)
+    (tie.spec (search rules) (search rules) slice-aggregate-heading (search rules) within part-label-at-start (search rules) (λ c κs. search rules) headed-item-requires (search rules) returns)

@@ -87,7 +87,7 @@ loop-holds c =
 shown-behind-requires : tie.Need-shown_behind-requires invariant-loop decreases-loop
 shown-behind-requires c κs =
     let l = c in
-    ((going l.before.before.before.before).within, here l.before.before)
+    ((going l.before.before).within, here l.before.before)
 
 add_at : tie.Need-overflow_add-at invariant-loop decreases-loop
 add_at c =

@@ -22,9 +22,9 @@ byte-at-requires c κs =
 field-at-requires : tie.Need-field_at-requires
 field-at-requires c κs =
     let space = c in
-    let outward = space.before.before.before.before in
+    let outward = space in
     room
-    (step (step (at-outward outward.before.before.before.before.before.before.before.before) outward.text_at-i.ensures)
+    (step (step (at-outward outward.before.before.before.before.before.before.before.before.before.before.before.before) outward.text_at-i.ensures)
     space.byte_at-j.ensures)
 
 returns : tie.Need-returns

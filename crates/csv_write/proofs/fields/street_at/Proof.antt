@@ -21,9 +21,9 @@ tail-at-requires c κs =
 byte-at-requires : tie.Need-byte_at-requires
 byte-at-requires c κs =
     let beside = c in
-    let name = beside.before.before.before.before in
+    let name = beside in
     room
-    (step (step (at_name name.before.before.before.before.before.before.before.before) name.text_at-i.ensures) beside.tail_at-j.ensures)
+    (step (step (at_name name.before.before.before.before.before.before.before.before.before.before.before.before) name.text_at-i.ensures) beside.tail_at-j.ensures)
 
 returns : tie.Need-returns
 returns c =

@@ -22,9 +22,9 @@ premises-at-requires c κs =
 ending-at-requires : tie.Need-ending_at-requires
 ending-at-requires c κs =
     let premises = c in
-    let places = premises.before.before.before.before in
+    let places = premises in
     room
-    (step (step (at_places places.before.before.before.before.before.before.before.before) places.places_at-i.ensures)
+    (step (step (at_places places.before.before.before.before.before.before.before.before.before.before.before.before) places.places_at-i.ensures)
     premises.premises_at-j.ensures)
 
 returns : tie.Need-returns

@@ -64,9 +64,9 @@ module _ (judged : tie.After-refusal_in) where
 print-from-requires : tie.Need-print_from-requires
 print-from-requires c κs =
     let judged = c in
-    let s = start judged in
-    rw (read judged).delivery_at-p.ensures
-    (inside-at s.args.addresses.now s.args.organisations.now (place judged) (high judged)
+    let s = start judged.before.before in
+    rw (read judged.before.before).delivery_at-p.ensures
+    (inside-at s.args.addresses.now s.args.organisations.now (place judged.before.before) (high judged.before.before)
     (omega (arith, two_records _ _ s.requires.accepted.organisations)))
 
 returns-2 : tie.Need-returns-in-Fine

@@ -82,7 +82,7 @@ mark-address-requires : tie.Need-mark_address-requires invariant-loop decreases-
 mark-address-requires c κs =
     let t = c in
     let l = t in
-    let s = start_of l in (
+    let s = start_of l.before.before.before.before.before.before in (
       record {
         accepted = s.requires.0.accepted;
         bits =
@@ -137,13 +137,13 @@ loop-again c =
     let m = c in
     let t = m in
     let v = (l t.before.before.before.before.before.before.before.before.before.before.before.before.before.before.before.before.before).loop-i.invariant in
-    let k = m.mark_address.auto.1.1.1.1.1.1.1.1 in
+    let k = m.mark_address.auto in
     let told = c.in-Fine.is in (
-      k.0 ∙ v.0,
-      k.1.0 ∙ v.1,
-      k.1.1.0 ∙ v.2,
-      k.1.1.1.0 ∙ v.3,
-      k.1.1.1.1.0 ∙ v.4,
+      k.of_localities ∙ v.0,
+      k.of_thoroughfares ∙ v.1,
+      k.of_descriptors ∙ v.2,
+      k.of_buildings ∙ v.3,
+      k.of_sub_buildings ∙ v.4,
       marking-on (left t.before.before.before.before.before.before.before.before.before.before.before.before.before.before.before.before.before) (sym m.mark_address.ensures.said ∙ told) (m.mark_address.ensures.marks_rows told),
     )
 
@@ -158,7 +158,7 @@ returns-2 c =
 
 -- no array changes its length
 module _ (c : tie.After-with_view invariant-loop decreases-loop) where
-  abbrev w : tie.In-Bad-2 invariant-loop decreases-loop
+  abbrev w : tie.In-Bad invariant-loop decreases-loop
   w = c.before
 
   abbrev m : tie.After-mark_address invariant-loop decreases-loop

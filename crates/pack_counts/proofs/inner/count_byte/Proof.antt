@@ -48,7 +48,7 @@ count_byte_spec =
     sub-digit
     (λ c. search rules)
     (λ c. search rules)
-    inside
+    (λ c. inside c.before)
     add-counts
     (λ c. search rules)
     (λ c. inside c.before.before)

@@ -47,11 +47,11 @@ loop-holds c =
     let a = c.args in counted_none a.points.now a.start a.width a.n
 
 add-count-byte : tie.Need-overflow_add-at invariant-loop decreases-loop
-add-count-byte c = let l = c in omega (arith, inside l, (start l).requires.0, (start l).well_formed.0)
+add-count-byte c = let l = c in omega (arith, inside l.before, (start l.before).requires.0, (start l.before).well_formed.0)
 
 shared-slice-read-count-byte : tie.Need-bounds-points-at invariant-loop decreases-loop
 shared-slice-read-count-byte c =
-    let l = c in omega (arith, inside l.before, (start l.before).requires.0)
+    let l = c in omega (arith, inside l.before.before, (start l.before.before).requires.0)
 
 count-byte-requires : tie.Need-count_byte-requires invariant-loop decreases-loop
 count-byte-requires c κs =
@@ -60,7 +60,7 @@ count-byte-requires c κs =
     counted-below a.points.now a.start a.width a.n _ _ _ l.loop-i.invariant (few l.before.before)
 
 add_at : tie.Need-overflow_add-at-in-loop-i invariant-loop decreases-loop
-add_at c = let l = c in omega (arith, inside l.before.before, (start l.before.before).well_formed.0)
+add_at c = let l = c in omega (arith, inside l.before.before.before, (start l.before.before.before).well_formed.0)
 
 add-i : tie.Need-overflow_add-i invariant-loop decreases-loop
 add-i c = omega arith

@@ -37,18 +37,18 @@ returns c = no-counts (pack c.before) (sym (asked c.before) ∙ c.if-not-has_cou
 count-digits-requires : tie.Need-count_digits-counts-requires
 count-digits-requires c κs =
     let at-edition = c in
-    let s = start at-edition.before in
+    let s = start at-edition.before.before.before in
     let laid = s.requires.1 in (
-      omega (arith, laid.point, point-more (edition (pack at-edition.before))),
-      points-inside (pack at-edition.before) s.requires.0 c.trailer_number-start.ensures.0 laid.point
+      omega (arith, laid.point, point-more (edition (pack at-edition.before.before.before))),
+      points-inside (pack at-edition.before.before.before) s.requires.0 c.trailer_number-start.ensures.0 laid.point
           c.trailer_number-n.ensures.0,
     )
 
 counts-said-requires : tie.Need-counts_said-requires
 counts-said-requires c κs =
     let past = c in
-    let s = start past.before in
-    (trailed (pack past.before) s.requires.0 _ s.requires.1, some past)
+    let s = start past.before.before.before.before.before in
+    (trailed (pack past.before.before.before.before.before) s.requires.0 _ s.requires.1, some past.before.before.before.before)
 
 returns-2 : tie.Need-returns
 returns-2 c =
