@@ -7,11 +7,12 @@ Words are in snake case: a definition named likeThis is named like_this, whereve
 had dashes between its words. A lemma keeps the dashes between the names that it joins. Functions of src/, exported names,
 strings, inputs and outputs keep their names. Where two names of one file would fall together, the lemma gets its dash back,
 which it had before (BACK).
-It also renames module paths of nothing: modules and types are in camel case already.
+A file of BACK that is not there is left out, so that the script runs on an older commit too.
 """
 
 import collections
 import glob
+import os
 import re
 
 DECLARED = re.compile(
@@ -78,7 +79,7 @@ def main():
     proofs = files("specs/**/*.antt", "proofs/**/*.antt")
     words, dashed = renamed(proofs)
     for name, paths in BACK.items():
-        for path in paths:
+        for path in (it for it in paths if os.path.exists(it)):
             turned = re.sub(rf"(?<![\w'-]){name}(?![\w'-])", name.replace("_", "-"), text_of(path))
             with open(path, "w", encoding="utf-8") as it:
                 it.write(turned)

@@ -49,7 +49,7 @@ returns-2 c =
     let said = coded in
     let tested = said in
     trailer-tests (pack counted.before.before) (start counted.before.before).args.layout (start counted.before.before).requires tested.if-n-layout.false
-    tested.is_Known.ensures said.trailer_number-said.ensures.0
+    tested.is_known-known.ensures said.trailer_number-said.ensures.0
     (coded.outward_fault-fault.ensures ∙ ap outward_fault coded.outward_of.ensures)
     started.trailer_number-start.ensures.0 counted.trailer_number-count.ensures.0
 

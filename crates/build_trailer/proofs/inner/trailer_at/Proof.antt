@@ -41,13 +41,13 @@ word-at-requires-2 c κs = omega (arith, room c.before.before.before.before.befo
 word-at-requires-3 : tie.Need-word_at-k-requires
 word-at-requires-3 c κs =
     let at-second-word = c in
-    omega (arith, room at-second-word.before.before.before.before.before.before.before)
+    omega (arith, room at-second-word.before.before.before.before.before.before.before.before.before.before)
 
 trailer-end-at-requires : tie.Need-trailer_end_at-requires
 trailer-end-at-requires c κs =
     let at-third-word = c in
     let at-second-word = at-third-word in
-    omega (arith, room at-second-word.before.before.before.before.before.before.before)
+    omega (arith, room at-second-word.before.before.before.before.before.before.before.before.before.before.before.before.before.before)
 
 returns : tie.Need-returns
 returns c =

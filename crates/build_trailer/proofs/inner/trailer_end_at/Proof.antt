@@ -17,7 +17,7 @@ module _ (s : tie.Start) where
   code = s.args.code.now
 
   abbrev counts : List ℕ
-  counts = counts_bytes s.args.of-digits
+  counts = counts_bytes s.args.of_digits
 
   abbrev size : List ℕ
   size = bytes_of 4 s.args.bytes
@@ -34,16 +34,16 @@ word-at-requires : tie.Need-word_at-j-requires
 word-at-requires c κs =
     let at_code = c in
     let s = at_code.before.before.before.before in
-    going-room (size s) (last s)
-    (after-code (code s) s.args.bytes (counts s) s.requires at_code.bytes_at-i.ensures) s.requires
+    going-room (size s.before.before.before) (last s.before.before.before)
+    (after-code (code s.before.before.before) s.args.bytes (counts s.before.before.before) s.requires at_code.bytes_at-i.ensures) s.requires
 
 counts-at-requires : tie.Need-counts_at-k-requires
 counts-at-requires c κs =
     let at_length = c in
     let at_code = at_length in
     let s = at_code.before.before.before.before in
-    going-room (counts s) (newest ∷ [])
-    (after-length (code s) s.args.bytes (counts s) s.requires at_code.bytes_at-i.ensures at_length.word_at-j.ensures)
+    going-room (counts s.before.before.before.before.before.before.before) (newest ∷ [])
+    (after-length (code s.before.before.before.before.before.before.before) s.args.bytes (counts s.before.before.before.before.before.before.before) s.requires at_code.bytes_at-i.ensures at_length.word_at-j.ensures)
     s.requires
 
 byte-at-requires : tie.Need-byte_at-requires
@@ -53,7 +53,7 @@ byte-at-requires c κs =
     let at_code = at_length in
     let s = at_code.before.before.before.before in
     going-left
-    (after-counts (code s) s.args.bytes (counts s) s.requires at_code.bytes_at-i.ensures at_length.word_at-j.ensures
+    (after-counts (code s.before.before.before.before.before.before.before.before.before.before.before) s.args.bytes (counts s.before.before.before.before.before.before.before.before.before.before.before) s.requires at_code.bytes_at-i.ensures at_length.word_at-j.ensures
     at-counts.counts_at-k.ensures)
     s.requires
 

@@ -15,7 +15,7 @@ module _ (c : tie.Start) where
 
 abbrev start : tie.After-shared_slice_known-15-1 → tie.Start
 start c =
-    c
+    c.before.before.before.before.before.before.before.before.before.before.before.before.before.before.before
 
 offset-in-requires : tie.Need-offset_in-l-requires
 offset-in-requires c κs =

@@ -68,24 +68,24 @@ few₅ c = c.place_kind-fifth.ensures.1.1.1
 place-kind-requires : tie.Need-place_kind-first-requires
 place-kind-requires c κs =
     let s = c.before.before.before.before.before.before.before.before.before.before.before.before.before.before.before.before in
-    ((s.requires.1.of_localities, (kind-few (files s.before.before.before.before.before.before.before.before.before.before.before.before.before.before.before.before.before.before.before.before) s.requires.0 1).1), omega arith)
+    ((s.requires.1.of_localities, (kind-few (files s) s.requires.0 1).1), omega arith)
 
 place-kind-requires-2 : tie.Need-place_kind-second-requires
 place-kind-requires-2 c κs =
     let w = c in
-    let s = from₁ w.before.before.before.before.before.before.before.before.before.before.before.before.before.before.before.before in
+    let s = from₁ w.before.before.before in
     ((s.requires.1.of_thoroughfares, (kind-few (files s) s.requires.0 2).1), omega (arith, (few₁ w.before.before.before.before.before.before.before.before.before.before.before.before.before.before.before.before).1))
 
 place-kind-requires-3 : tie.Need-place_kind-third-requires
 place-kind-requires-3 c κs =
     let w = c in
-    let s = from₂ w.before.before.before.before.before.before.before.before.before.before.before in
+    let s = from₂ w.before.before.before.before in
     ((s.requires.1.of_descriptors, (kind-few (files s) s.requires.0 3).1), omega (arith, (few₁ (first w.before.before.before.before.before.before.before.before.before.before.before)).1, (few₂ w.before.before.before.before.before.before.before.before.before.before.before).1))
 
 place-kind-requires-4 : tie.Need-place_kind-fourth-requires
 place-kind-requires-4 c κs =
     let w = c in
-    let s = from₃ w.before.before.before.before.before.before in (
+    let s = from₃ w.before.before.before.before in (
       (s.requires.1.of_buildings, (kind-few (files s) s.requires.0 4).1),
       omega (arith, (few₁ (first (second w.before.before.before.before.before.before))).1, (few₂ (second w.before.before.before.before.before.before)).1, (few₃ w.before.before.before.before.before.before).1),
     )
@@ -93,14 +93,14 @@ place-kind-requires-4 c κs =
 place-kind-requires-5 : tie.Need-place_kind-fifth-requires
 place-kind-requires-5 c κs =
     let w = c in
-    let v = third w.before in
+    let v = third w.before.before.before.before in
     let s = from₄ w.before in (
       (s.requires.1.of_sub_buildings, (kind-few (files s) s.requires.0 5).1),
       omega (arith, (few₁ (first (second v))).1, (few₂ (second v)).1, (few₃ v).1, (few₄ w.before).1),
     )
 
 add-two : tie.Need-overflow_add-two
-add-two c = let w = c in omega (arith, (few₁ (first w.before.before.before.before.before.before.before.before.before.before.before)).1, (few₂ w.before.before.before.before.before.before.before.before.before.before.before).1)
+add-two c = let w = c in omega (arith, (few₁ (first w.before.before.before)).1, (few₂ w.before.before.before.before.before.before.before.before.before.before.before).1)
 
 add-three : tie.Need-overflow_add-three
 add-three c =
@@ -159,7 +159,7 @@ returns c =
     let p₃ = (t₃ w).place_kind-third in
     let p₄ = v.place_kind-fourth in
     let p₅ = w.place_kind-fifth in
-    let l = a.l-bits.now in
+    let l = a.l_bits.now in
     let t = a.t-bits.now in
     let d = a.d-bits.now in
     let b = a.b-bits.now in
@@ -197,13 +197,13 @@ returns c =
     )
 
 same_length : tie.Need-shape_of-l_blocks
-same_length c = (t₁ c.before.before.before.before.before.before.before.before).place_kind-first.kept.blocks
+same_length c = (t₁ c.before.before.before.before.before.before.before.before).place_kind-first.auto.blocks
 
 same-length-2 : tie.Need-shape_of-t_blocks
-same-length-2 c = (t₂ c.before.before.before.before.before.before.before.before).place_kind-second.kept.blocks
+same-length-2 c = (t₂ c.before.before.before.before.before.before.before.before).place_kind-second.auto.blocks
 
 same-length-3 : tie.Need-shape_of-d_blocks
-same-length-3 c = (t₃ c.before.before.before.before.before.before.before.before).place_kind-third.kept.blocks
+same-length-3 c = (t₃ c.before.before.before.before.before.before.before.before).place_kind-third.auto.blocks
 
 same-length-4 : tie.Need-shape_of-b_blocks
 same-length-4 c = (fourth c.before.before.before.before.before.before.before.before).place_kind-fourth.auto.blocks
