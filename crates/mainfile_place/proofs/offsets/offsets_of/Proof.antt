@@ -24,32 +24,32 @@ offset-in-requires c κs =
 
 offset-in-requires-2 : tie.Need-offset_in-t-requires
 offset-in-requires-2 c κs =
-    let s = start c in
+    let s = start c.before in
     ((s.requires.blocks.room.of_thoroughfares, (kind-few (files s) s.requires.accepted 2).1), s.requires.there.thoroughfare)
 
 offset-in-requires-3 : tie.Need-offset_in-d-requires
 offset-in-requires-3 c κs =
-    let s = start c in
+    let s = start c.before.before in
     ((s.requires.blocks.room.of_descriptors, (kind-few (files s) s.requires.accepted 3).1), s.requires.there.descriptor)
 
 offset-in-requires-4 : tie.Need-offset_in-dependent-requires
 offset-in-requires-4 c κs =
-    let s = start c in
+    let s = start c.before.before.before in
     ((s.requires.blocks.room.of_thoroughfares, (kind-few (files s) s.requires.accepted 2).1), s.requires.there.dependent)
 
 offset-in-requires-5 : tie.Need-offset_in-second-requires
 offset-in-requires-5 c κs =
-    let s = start c in
+    let s = start c.before.before.before.before in
     ((s.requires.blocks.room.of_descriptors, (kind-few (files s) s.requires.accepted 3).1), s.requires.there.second)
 
 offset-in-requires-6 : tie.Need-offset_in-b-requires
 offset-in-requires-6 c κs =
-    let s = start c in
+    let s = start c.before.before.before.before.before in
     ((s.requires.blocks.room.of_buildings, (kind-few (files s) s.requires.accepted 4).1), s.requires.there.building)
 
 offset-in-requires-7 : tie.Need-offset_in-s-requires
 offset-in-requires-7 c κs =
-    let s = start c in
+    let s = start c.before.before.before.before.before.before in
     ((s.requires.blocks.room.of_sub_buildings, (kind-few (files s) s.requires.accepted 5).1), s.requires.there.sub_building)
 
 returns : tie.Need-returns
@@ -63,8 +63,8 @@ returns c =
     let s = start first.before.before.before.before.before.before.before in
     let a = s.args in
     let starts = s.requires.blocks in
-    offsets-placed (files s) a.l-bits.now a.t-bits.now a.d-bits.now a.b-bits.now
-    a.s-bits.now a.l-blocks.now a.t-blocks.now a.d-blocks.now
+    offsets-placed (files s) a.l_bits.now a.t_bits.now a.d_bits.now a.b_bits.now
+    a.s_bits.now a.l_blocks.now a.t_blocks.now a.d_blocks.now
     a.b-blocks.now a.s-blocks.now a.rows s.requires a.keys
     s.well_formed.1.1.1.1.1.1.1.1.1.1.1.1.1.1.1.0.1.0.1 first.offset_in-l.result
     second.offset_in-t.result third.offset_in-d.result fourth.offset_in-dependent.result fifth.offset_in-second.result

@@ -74,33 +74,33 @@ place-kind-requires-2 : tie.Need-place_kind-second-requires
 place-kind-requires-2 c κs =
     let w = c in
     let s = from₁ w.before.before.before in
-    ((s.requires.1.of_thoroughfares, (kind-few (files s) s.requires.0 2).1), omega (arith, (few₁ w.before.before.before.before.before.before.before.before.before.before.before.before.before.before.before.before).1))
+    ((s.requires.1.of_thoroughfares, (kind-few (files s) s.requires.0 2).1), omega (arith, (few₁ w.before.before.before).1))
 
 place-kind-requires-3 : tie.Need-place_kind-third-requires
 place-kind-requires-3 c κs =
     let w = c in
     let s = from₂ w.before.before.before.before in
-    ((s.requires.1.of_descriptors, (kind-few (files s) s.requires.0 3).1), omega (arith, (few₁ (first w.before.before.before.before.before.before.before.before.before.before.before)).1, (few₂ w.before.before.before.before.before.before.before.before.before.before.before).1))
+    ((s.requires.1.of_descriptors, (kind-few (files s) s.requires.0 3).1), omega (arith, (few₁ (first w.before.before.before.before)).1, (few₂ w.before.before.before.before).1))
 
 place-kind-requires-4 : tie.Need-place_kind-fourth-requires
 place-kind-requires-4 c κs =
     let w = c in
     let s = from₃ w.before.before.before.before in (
       (s.requires.1.of_buildings, (kind-few (files s) s.requires.0 4).1),
-      omega (arith, (few₁ (first (second w.before.before.before.before.before.before))).1, (few₂ (second w.before.before.before.before.before.before)).1, (few₃ w.before.before.before.before.before.before).1),
+      omega (arith, (few₁ (first (second w.before.before.before.before))).1, (few₂ (second w.before.before.before.before)).1, (few₃ w.before.before.before.before).1),
     )
 
 place-kind-requires-5 : tie.Need-place_kind-fifth-requires
 place-kind-requires-5 c κs =
     let w = c in
     let v = third w.before.before.before.before in
-    let s = from₄ w.before in (
+    let s = from₄ w.before.before.before.before in (
       (s.requires.1.of_sub_buildings, (kind-few (files s) s.requires.0 5).1),
-      omega (arith, (few₁ (first (second v))).1, (few₂ (second v)).1, (few₃ v).1, (few₄ w.before).1),
+      omega (arith, (few₁ (first (second v))).1, (few₂ (second v)).1, (few₃ v).1, (few₄ w.before.before.before.before).1),
     )
 
 add-two : tie.Need-overflow_add-two
-add-two c = let w = c in omega (arith, (few₁ (first w.before.before.before)).1, (few₂ w.before.before.before.before.before.before.before.before.before.before.before).1)
+add-two c = let w = c in omega (arith, (few₁ (first w.before.before.before)).1, (few₂ w.before.before.before).1)
 
 add-three : tie.Need-overflow_add-three
 add-three c =
@@ -160,10 +160,10 @@ returns c =
     let p₄ = v.place_kind-fourth in
     let p₅ = w.place_kind-fifth in
     let l = a.l_bits.now in
-    let t = a.t-bits.now in
-    let d = a.d-bits.now in
-    let b = a.b-bits.now in
-    let u = a.s-bits.now in
+    let t = a.t_bits.now in
+    let d = a.d_bits.now in
+    let b = a.b_bits.now in
+    let u = a.s_bits.now in
     let two = ap₂ ◌+◌ p₁.ensures.1.0 p₂.ensures.1.0 in
     let three = ap₂ ◌+◌ two p₃.ensures.1.0 in
     let four = ap₂ ◌+◌ three p₄.ensures.1.0 in (
@@ -181,11 +181,11 @@ returns c =
         record {
           room =
               record {
-                of_localities = omega (arith, s.requires.1.of_localities, p₁.kept.1.1.1.0);
-                of_thoroughfares = omega (arith, s.requires.1.of_thoroughfares, p₂.kept.1.1.1.0);
-                of_descriptors = omega (arith, s.requires.1.of_descriptors, p₃.kept.1.1.1.0);
-                of_buildings = omega (arith, s.requires.1.of_buildings, p₄.kept.1.1.1.0);
-                of_sub_buildings = omega (arith, s.requires.1.of_sub_buildings, p₅.auto.1.1.1.0);
+                of_localities = omega (arith, s.requires.1.of_localities, p₁.auto.blocks);
+                of_thoroughfares = omega (arith, s.requires.1.of_thoroughfares, p₂.auto.blocks);
+                of_descriptors = omega (arith, s.requires.1.of_descriptors, p₃.auto.blocks);
+                of_buildings = omega (arith, s.requires.1.of_buildings, p₄.auto.blocks);
+                of_sub_buildings = omega (arith, s.requires.1.of_sub_buildings, p₅.auto.blocks);
               };
           of_localities = p₁.ensures.1.1.0;
           of_thoroughfares = blocks_from p₁.ensures.1.0 p₂.ensures.1.1.0;

@@ -101,28 +101,28 @@ rows-at-requires : tie.Need-rows_at-i-requires
 rows-at-requires c κs =
     let b = c in
     room_of 1 c.row_shelf.ensures b.args.localities.now b.args.of_localities.now
-    b.args.at _ (going-room (u₁ b.before.before.before.before.before.before.before.before.before.before.before.before.before) (u₂ b.before.before.before.before.before.before.before.before.before.before.before.before.before.before.before.before.before.before.before.before.before.before.before.before.before.before.before.before.before ++ (u₃ b.before.before.before.before.before.before.before.before.before.before.before.before.before.before.before.before.before.before.before.before.before.before.before.before.before.before.before.before.before ++ (u₄ b.before.before.before.before.before.before.before.before.before.before.before.before.before.before.before.before.before.before.before.before.before.before.before.before.before.before.before.before.before ++ u₅ b.before.before.before.before.before.before.before.before.before.before.before.before.before.before.before.before.before.before.before.before.before.before.before.before.before.before.before.before.before))) (begun b.before.before.before.before.before.before.before.before.before.before.before.before.before.before.before.before.before.before.before.before.before.before.before.before.before.before.before.before.before) b.requires.1)
+    b.args.at _ (going-room (u₁ b.before.before.before.before.before.before.before.before.before.before.before.before.before) (u₂ b.before.before.before.before.before.before.before.before.before.before.before.before.before ++ (u₃ b.before.before.before.before.before.before.before.before.before.before.before.before.before ++ (u₄ b.before.before.before.before.before.before.before.before.before.before.before.before.before ++ u₅ b.before.before.before.before.before.before.before.before.before.before.before.before.before))) (begun b.before.before.before.before.before.before.before.before.before.before.before.before.before) b.requires.1)
 
 rows-at-requires-2 : tie.Need-rows_at-j-requires
 rows-at-requires-2 c κs =
     let w = c in
     let b = b₁ w.before.before.before.before in
     room_of 2 c.row_shelf-2.ensures b.args.thoroughfares.now b.args.of_thoroughfares.now
-    w.rows_at-i.result _ (going-room (u₂ b) (u₃ b ++ (u₄ b ++ u₅ b)) (after₁ w.before.before.before.before.before.before.before.before.before.before.before.before.before.before.before) b.requires.1)
+    w.rows_at-i.result _ (going-room (u₂ b) (u₃ b ++ (u₄ b ++ u₅ b)) (after₁ w.before.before.before.before) b.requires.1)
 
 rows-at-requires-3 : tie.Need-rows_at-k-requires
 rows-at-requires-3 c κs =
     let w = c in
     let b = b₂ w.before.before.before.before in
     room_of 3 c.row_shelf-3.ensures b.args.descriptors.now b.args.of_descriptors.now
-    w.rows_at-j.result _ (going-room (u₃ b) (u₄ b ++ u₅ b) (after₂ w.before.before.before.before.before.before.before.before.before.before) b.requires.1)
+    w.rows_at-j.result _ (going-room (u₃ b) (u₄ b ++ u₅ b) (after₂ w.before.before.before.before) b.requires.1)
 
 rows-at-requires-4 : tie.Need-rows_at-l-requires
 rows-at-requires-4 c κs =
     let w = c in
     let b = b₃ w.before.before.before.before in
     room_of 4 c.row_shelf-4.ensures b.args.buildings.now b.args.of_buildings.now
-    w.rows_at-k.result _ (going-room (u₄ b) (u₅ b) (after₃ w.before.before.before.before.before) b.requires.1)
+    w.rows_at-k.result _ (going-room (u₄ b) (u₅ b) (after₃ w.before.before.before.before) b.requires.1)
 
 rows-at-requires-5 : tie.Need-rows_at-requires
 rows-at-requires-5 c κs =
@@ -141,7 +141,7 @@ same_length c =
     fifth.rows_at.auto.out
     ∙ (fourth.rows_at-l.auto.out
     ∙ (third.rows_at-k.auto.out
-    ∙ (second.rows_at-j.kept.out ∙ first.rows_at-i.kept.out)))
+    ∙ (second.rows_at-j.auto.out ∙ first.rows_at-i.auto.out)))
 
 returns : tie.Need-returns
 returns c =

@@ -39,7 +39,7 @@ walk-requires c κs =
     let t = s in
     let k = t in
     rw (s.stretch_in-s.ensures.0, s.stretch_in-s.ensures.1)
-    (code-between (files k.before.before) (set-accepted (files k.before.before) (sym k.check_set.ensures ∙ t.in-Value.is))
+    (code-between (files k.before.before.before.before) (set-accepted (files k.before.before.before.before) (sym k.check_set.ensures ∙ t.in-Value.is))
     (start k.before.before).args.code.now)
 
 returns-2 : tie.Need-returns-else-outward_fault-ne0

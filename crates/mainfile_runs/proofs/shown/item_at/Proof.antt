@@ -59,10 +59,10 @@ part-label-at-start c = let h = within c in search rules
 headed-item-requires : tie.Need-headed_item-requires
 headed-item-requires c κs =
     let l = c in
-    let s = start (found l) in
-    let written = (line (found l)).worded_line-line.ensures in (
+    let s = start (found l.before.before.before) in
+    let written = (line (found l.before.before.before)).worded_line-line.ensures in (
       rw written.is written.short,
-      asked-small (files (found l)) s.args.place s.args.out.now s.requires (asked l),
+      asked-small (files (found l.before.before.before)) s.args.place s.args.out.now s.requires (asked l.before.before.before),
     )
 
 returns : tie.Need-returns

@@ -83,7 +83,7 @@ loop-holds c =
 shown-behind-requires : tie.Need-shown_behind-requires invariant-loop decreases-loop
 shown-behind-requires c κs =
     let l = c in
-    (l.loop-done.invariant.1.0.within, rw l.loop-done.invariant.0 (address l))
+    (l.loop-done.invariant.1.0.within, rw l.loop-done.invariant.0 (address l.before.before))
 
 add_at : tie.Need-overflow_add-at invariant-loop decreases-loop
 add_at c =
