@@ -38,7 +38,7 @@ cut-requires c κs =
     let t = f in
     let k = t in
     record {
-      of_set = set-accepted (files k.before.before.before) (sym k.check_set.ensures ∙ t.in-Value.is);
+      of_set = set-accepted (files k.before.before.before.before) (sym k.check_set.ensures ∙ t.in-Value.is);
       of_code = rw f.outward_fault.ensures at c.if-outward_fault-ne0.false;
     }
 

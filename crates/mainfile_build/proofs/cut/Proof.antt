@@ -58,11 +58,11 @@ write-if-room-requires : tie.Need-write_if_room-requires
 write-if-room-requires c κs =
     let t = c in
     let m = t.before.before.before.before.before.before.before in
-    let f = found m in
+    let f = found m.before.before.before.before.before in
     let told = t.in-Fine.is in
     let zeros : List ℕ = replicate 31_250 0 in
     let none = set_marks (files f) zeros zeros zeros zeros zeros in (
-      fresh-marked (files f) (code f) zeros _ _ _ _ _ (start f).requires (fresh_unmarked 31_250) (sym (verdict-is m) ∙ told)
+      fresh-marked (files f) (code f) zeros _ _ _ _ _ (start f).requires (fresh_unmarked 31_250) (sym (verdict-is m.before.before.before.before.before) ∙ told)
           (m.mark_addresses.ensures.marks_all told
           ∙ sym (ap (λ (ds : List Packed). mark_all (set_stock (files f)) ds none) (packed-is f))),
       stretched f,

@@ -151,7 +151,7 @@ add-rows c =
 write-pack-requires : tie.Need-write_pack-requires
 write-pack-requires c κs =
     let o = c in
-    let f = k o.before.before.before.before.before in
+    let f = k o.before.before.before.before.before.before.before.before.before.before.before in
     let is = written (files f) (code f) (l f) (t f) (d f) (b f) (s f) (marked f) in (
       record { marks = marked f; blocks = (placed o.before.before.before.before.before).place_set-of_rows.ensures.1.1; stretch = stretched f },
       record {

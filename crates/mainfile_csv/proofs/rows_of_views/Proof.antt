@@ -31,7 +31,7 @@ walk-requires c κs =
     let t = all in
     let k = t.before.before in
     rw (all.all_in.ensures.0, all.all_in.ensures.1)
-    (all-between (files k) (set-accepted (files k) (sym k.check_set.ensures ∙ t.in-Value.is)))
+    (all-between (files k.before) (set-accepted (files k.before) (sym k.check_set.ensures ∙ t.in-Value.is)))
 
 returns : tie.Need-returns-in-Value
 returns c =

@@ -10,8 +10,8 @@ use Rattle.pack_sector.proofs.points_in_sector.Tie as tie
 
 sector-of-requires : tie.Need-sector_of-requires
 sector-of-requires c κs =
-    let counted = c.before in
-    let opened = counted.before.before in
+    let counted = c in
+    let opened = c in
     let pack = opened.args.pack.now in
     let value = sym opened.open_pack.ensures ∙ counted.in-Value.is in
     let all = opened-all pack _ value in

@@ -34,8 +34,8 @@ returns c =
 
 pub delivery_from_spec : {M : Type 1} → statement M
 delivery_from_spec = tie.close (tie.spec (search rules) (search rules) (search rules) (search rules) (search rules)
-    (λ c. let h = (within c.before.before.before.before.before).postcode in let k = (start c.before.before.before.before.before).good in search rules)
-    (λ c. let h = (within c.before.before.before.before.before).suffix in let k = (start c.before.before.before.before.before).good in search rules)
-    (λ c. let h = (within c.before.before.before.before.before).box in let k = (start c.before.before.before.before.before).good in search rules)
-    (λ c. let h = (within c.before.before.before.before.before).organisation in let k = (start c.before.before.before.before.before).good in search rules)
+    (λ c. let h = (within c.before.before).postcode in let k = (start c.before.before).well_formed in search rules)
+    (λ c. let h = (within c.before.before.before).suffix in let k = (start c.before.before.before).well_formed in search rules)
+    (λ c. let h = (within c.before.before.before.before).box in let k = (start c.before.before.before.before).well_formed in search rules)
+    (λ c. let h = (within c.before.before.before.before.before).organisation in let k = (start c.before.before.before.before.before).well_formed in search rules)
     returns)

@@ -131,22 +131,22 @@ offsets-at-requires : tie.Need-offsets_at-offsets-requires invariant-loop decrea
 offsets-at-requires c κs =
     let t = c in
     let l = t in
-    let f = start_of l.before.before in
+    let f = start_of l.before.before.before in
     (f.requires.0, (l.loop-i.invariant.1, t.loop-i-test.true))
 
 point-at-requires : tie.Need-point_at-end-requires invariant-loop decreases-loop
 point-at-requires c κs =
     let o = c in (
-      rw (d o).delivery_at-p.ensures (record { postcode = (inside o).postcode; suffix = (inside o).suffix; box = (inside o).box }),
-      room_as (l o).loop-i.out (l o).loop-i.end (same o)
-          (point-room (packed_at (own (f o)) (others (f o)) (i o)) (rest o) (f o).requires.1.1 (set_stock (files (f o)))
-          (own (f o)) (others (f o)) (starts (f o)) (l o).loop-i.row (left o)),
+      rw (d o.before.before).delivery_at-p.ensures (record { postcode = (inside o.before).postcode; suffix = (inside o.before).suffix; box = (inside o.before).box }),
+      room_as (l o.before).loop-i.out (l o.before).loop-i.end (same o.before)
+          (point-room (packed_at (own (f o.before)) (others (f o.before)) (i o.before)) (rest o.before) (f o.before).requires.1.1 (set_stock (files (f o.before)))
+          (own (f o.before)) (others (f o.before)) (starts (f o.before)) (l o.before).loop-i.row (left o.before)),
     )
 
 organisation-len-requires : tie.Need-organisation_len-row-requires invariant-loop decreases-loop
 organisation-len-requires c κs =
     let o = c in
-    rw (d o).delivery_at-p.ensures (inside o).organisation
+    rw (d o.before.before.before.before).delivery_at-p.ensures (inside o.before.before.before.before).organisation
 
 -- how long its organisation's row is
 len : (c : tie.After-organisation_len-row invariant-loop decreases-loop)

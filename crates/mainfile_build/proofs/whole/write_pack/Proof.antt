@@ -191,7 +191,7 @@ trailer-at-requires c κs =
         arith,
         going-left (points_left (p-organisations p)) (room k),
         stop-few (files k) (start k).requires.0,
-        (start k).good,
+        (start k).well_formed,
       ),
       (
         omega (arith, p.points_at-k.ensures.size, points-size k (rows_end (o-rows (p-organisations p)))),

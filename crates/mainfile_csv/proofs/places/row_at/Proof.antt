@@ -75,10 +75,10 @@ module _ (judged : tie.After-refusal_in) where
   verdict-is = judged.refusal_in.ensures ∙ ap₂ refusal_in read.delivery_at-p.ensures rows_are
 
 ending-of-requires : tie.Need-ending_of-requires
-ending-of-requires c κs = (inside c.before.before).suffix
+ending-of-requires c κs = (inside c.before).suffix
 
 write-from-requires : tie.Need-write_from-requires
-write-from-requires c κs = inside c.before.before.before.before
+write-from-requires c κs = inside c.before.before.before
 
 returns-2 : tie.Need-returns-in-Fine
 returns-2 c =

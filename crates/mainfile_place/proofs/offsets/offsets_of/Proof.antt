@@ -65,7 +65,7 @@ returns c =
     let starts = s.requires.blocks in
     offsets-placed (files s) a.l_bits.now a.t_bits.now a.d_bits.now a.b_bits.now
     a.s_bits.now a.l_blocks.now a.t_blocks.now a.d_blocks.now
-    a.b-blocks.now a.s-blocks.now a.rows s.requires a.keys
+    a.b_blocks.now a.s_blocks.now a.rows s.requires a.keys
     s.well_formed.1.1.1.1.1.1.1.1.1.1.1.1.1.1.1.0.1.0.1 first.offset_in-l.result
     second.offset_in-t.result third.offset_in-d.result fourth.offset_in-dependent.result fifth.offset_in-second.result
     sixth.offset_in-b.result c.offset_in-s.result

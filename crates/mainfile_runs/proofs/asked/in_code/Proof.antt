@@ -40,7 +40,7 @@ walk-requires c κs =
     let k = t in
     rw (s.stretch_in-s.ensures.0, s.stretch_in-s.ensures.1)
     (code-between (files k.before.before.before.before) (set-accepted (files k.before.before.before.before) (sym k.check_set.ensures ∙ t.in-Value.is))
-    (start k.before.before).args.code.now)
+    (start k.before.before.before.before).args.code.now)
 
 returns-2 : tie.Need-returns-else-outward_fault-ne0
 returns-2 c =

@@ -50,12 +50,12 @@ returns-2 c =
 suffix-number-requires : tie.Need-suffix_number-requires
 suffix-number-requires c κs =
     let at-point = c in
-    let s = start at-point.before.before.before.before in
+    let s = start at-point.before.before.before in
     let k = s.args.k in (
       s.requires.0,
       (
-        leb-true 1 k (and_left (leb 1 k) _ (there at-point.before.before.before.before)),
-        leb-true k (point_count s.args.pack.now) (and_right (leb 1 k) _ (there at-point.before.before.before.before)),
+        leb-true 1 k (and_left (leb 1 k) _ (there at-point.before.before.before)),
+        leb-true k (point_count s.args.pack.now) (and_right (leb 1 k) _ (there at-point.before.before.before)),
       ),
     )
 
