@@ -153,12 +153,12 @@ write-pack-requires c κs =
     let o = c in
     let f = k o.before.before.before.before.before.before.before.before.before.before.before in
     let is = written (files f) (code f) (l f) (t f) (d f) (b f) (s f) (marked f) in (
-      record { marks = marked f; blocks = (placed o.before.before.before.before.before).place_set-of_rows.ensures.1.1; stretch = stretched f },
+      record { marks = marked f; blocks = (placed o.before.before.before.before.before.before.before.before.before.before.before).place_set-of_rows.ensures.1.1; stretch = stretched f },
       record {
         of_rows =
-            omega (arith, rows-counted (files f) (code f) (l f) (t f) (d f) (b f) (s f) (marked f), rows_all o.before.before.before.before.before);
+            omega (arith, rows-counted (files f) (code f) (l f) (t f) (d f) (b f) (s f) (marked f), rows_all o.before.before.before.before.before.before.before.before.before.before.before);
         of_points = sym (stretch-long (files f) (marked f).judged.of_set (stretched f));
-        of_room = omega (arith, ap length is, whole o.before.before.before.before.before);
+        of_room = omega (arith, ap length is, whole o.before.before.before.before.before.before.before.before.before.before.before);
       },
     )
 

@@ -92,8 +92,8 @@ rows-by-requires c κs =
 mark-point-requires : tie.Need-mark_point-requires invariant-loop decreases-loop
 mark-point-requires c κs =
     let r = c in
-    found_below (table r) (s r).requires.0.of_table (length (l r).loop-at.marks) (asked_of (d r).delivery_at-p.result)
-    (omega (arith, (s r).requires.1, (l r).loop-at.invariant.0)) (t r).table_shelf-s.ensures r.rows_by-found.ensures
+    found_below (table r.before) (s r.before).requires.0.of_table (length (l r.before).loop-at.marks) (asked_of (d r.before).delivery_at-p.result)
+    (omega (arith, (s r.before).requires.1, (l r.before).loop-at.invariant.0)) (t r.before).table_shelf-s.ensures r.rows_by-found.ensures
 
 returns : tie.Need-returns-in-Bad invariant-loop decreases-loop
 returns c =

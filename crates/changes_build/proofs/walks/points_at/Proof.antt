@@ -111,18 +111,18 @@ module _ (k : tie.After-key_offsets-offsets invariant-loop decreases-loop) where
 point-at-requires : tie.Need-point_at-end-requires invariant-loop decreases-loop
 point-at-requires c κs =
     let k = c in
-    let i = (l k).loop-place.place in
-    let in-file = view-within (points k) i (high k) in (
-      rw (d k).delivery_at-p.ensures (record { postcode = in-file.postcode; suffix = in-file.suffix; box = in-file.box }),
-      room_as (l k).loop-place.out (l k).loop-place.end (same k)
-          (point-room (packed_at (points k) i) (rest k) (s k).requires.1.1 (table_stock (s k).args.table.now) (points k)
-          (points k) (starts k) (l k).loop-place.row (left k)),
+    let i = (l k.before).loop-place.place in
+    let in-file = view-within (points k.before) i (high k.before) in (
+      rw (d k.before).delivery_at-p.ensures (record { postcode = in-file.postcode; suffix = in-file.suffix; box = in-file.box }),
+      room_as (l k.before).loop-place.out (l k.before).loop-place.end (same k.before)
+          (point-room (packed_at (points k.before) i) (rest k.before) (s k.before).requires.1.1 (table_stock (s k.before).args.table.now) (points k.before)
+          (points k.before) (starts k.before) (l k.before).loop-place.row (left k.before)),
     )
 
 organisation-len-requires : tie.Need-organisation_len-row-requires invariant-loop decreases-loop
 organisation-len-requires c κs =
     let k = c in
-    rw (d k).delivery_at-p.ensures (view-within (points k) (l k).loop-place.place (high k)).organisation
+    rw (d k.before.before.before.before).delivery_at-p.ensures (view-within (points k.before.before.before.before) (l k.before.before.before.before).loop-place.place (high k.before.before.before.before)).organisation
 
 -- how long its organisation's row is
 len : (c : tie.After-organisation_len-row invariant-loop decreases-loop)

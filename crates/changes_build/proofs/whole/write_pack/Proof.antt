@@ -73,14 +73,14 @@ rows-at-requires : tie.Need-rows_at-i-requires
 rows-at-requires c κs =
     let t = c in
     let s = t.before.before.before.before.before.before.before in
-    let rows = used_rows (st s) (starts s) in
+    let rows = used_rows (st s.before) (starts s.before) in
     let i = length rows in
-    let j = i + length (organisation_rows (points s) (ds s)) in
+    let j = i + length (organisation_rows (points s.before) (ds s.before)) in
     rw t.table_shelf.ensures (
       table_fits,
-      going-room rows (organisation_rows (points s) (ds s) ++ behind s i j)
-          (pack-start (st s) (points s) (points s) (starts s) (ds s) (code s) s.args.rows s.args.count s.requires.1 i j
-          refl refl) (room s),
+      going-room rows (organisation_rows (points s.before) (ds s.before) ++ behind s.before i j)
+          (pack-start (st s.before) (points s.before) (points s.before) (starts s.before) (ds s.before) (code s.before) s.args.rows s.args.count s.requires.1 i j
+          refl refl) (room s.before),
     )
 
 organisations-at-requires : tie.Need-organisations_at-j-requires
@@ -153,7 +153,7 @@ trailer-at-requires c κs =
         s.requires.1.of_points,
         packed-length (points s) (wanted_in (code s) (points s)),
         count-bound (code s) (points s),
-        s.good,
+        s.well_formed,
       ),
       (
         omega (

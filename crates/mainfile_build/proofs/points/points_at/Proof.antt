@@ -137,7 +137,7 @@ offsets-at-requires c κs =
 point-at-requires : tie.Need-point_at-end-requires invariant-loop decreases-loop
 point-at-requires c κs =
     let o = c in (
-      rw (d o.before.before).delivery_at-p.ensures (record { postcode = (inside o.before).postcode; suffix = (inside o.before).suffix; box = (inside o.before).box }),
+      rw (d o.before).delivery_at-p.ensures (record { postcode = (inside o.before).postcode; suffix = (inside o.before).suffix; box = (inside o.before).box }),
       room_as (l o.before).loop-i.out (l o.before).loop-i.end (same o.before)
           (point-room (packed_at (own (f o.before)) (others (f o.before)) (i o.before)) (rest o.before) (f o.before).requires.1.1 (set_stock (files (f o.before)))
           (own (f o.before)) (others (f o.before)) (starts (f o.before)) (l o.before).loop-i.row (left o.before)),
