@@ -117,7 +117,7 @@ add-rows c =
 write-pack-requires : tie.Need-write_pack-requires
 write-pack-requires c κs =
     let w = c in
-    let is = written (ready w.before.before.before.before.before.before) (s w.before.before.before.before.before).requires.1.1 (placed w.before.before.before.before.before) in (
+    let is = written (ready w.before.before.before.before.before.before) (s w.before.before.before.before.before.before).requires.1.1 (placed w.before.before.before.before.before) in (
       (s w.before.before.before.before.before).requires.0,
       record {
         of_rows =

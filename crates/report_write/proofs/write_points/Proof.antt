@@ -18,7 +18,7 @@ returns c =
 write-pair-requires : tie.Need-write_pair-requires
 write-pair-requires c κs =
     let k = c in
-    let s = k.before.before.before.before.before.before.before.before.before in
+    let s = k.before.before.before.before.before.before.before in
     (accepted table_format s.args.table.now s.args.t s.requires, accepted point_format s.args.points.now _ (sym k.check_points.ensures ∙ c.in-Value.is))
 
 returns-2 : tie.Need-returns-in-Value

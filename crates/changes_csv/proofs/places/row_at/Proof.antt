@@ -76,10 +76,10 @@ rows-of-requires c κs = rw c.table_shelf-s.ensures table_fits
 spans-of-requires : tie.Need-spans_of-requires
 spans-of-requires c κs =
     let judged = c in
-    (rw (read judged).table_shelf-s.ensures table_fits, within judged)
+    (rw (read judged.before).table_shelf-s.ensures table_fits, within judged.before)
 
 ending-of-requires : tie.Need-ending_of-requires
-ending-of-requires c κs = (within c.before.before.before).suffix
+ending-of-requires c κs = (within c.before.before).suffix
 
 returns-2 : tie.Need-returns-in-Fine
 returns-2 c =

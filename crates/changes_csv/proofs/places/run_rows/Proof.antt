@@ -71,7 +71,7 @@ loop-holds c =
 row-behind-requires : tie.Need-row_behind-requires invariant-loop decreases-loop
 row-behind-requires c κs =
     let l = c in
-    (l.loop-done.invariant.1.0.within, rw l.loop-done.invariant.0 (view-place l))
+    (l.loop-done.invariant.1.0.within, rw l.loop-done.invariant.0 (view-place l.before.before))
 
 add_at : tie.Need-overflow_add-at invariant-loop decreases-loop
 add_at c =

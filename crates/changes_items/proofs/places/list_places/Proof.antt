@@ -68,7 +68,7 @@ module _ (m : tie.After-item_behind invariant-loop decreases-loop) where
       let p = points at-loop in
       m.item_behind.ensures
       ∙ ap (λ (o : Outcome Answer). said o.answer (take l.at l.out ++ o.memory))
-      (numbered-item t p l.place l.view rest l.inv.1.0
+      (numbered-item t p l.place l.view rest l.invariant.1.0
       ∙ ap (λ (place : ℕ). place_item t p place (line_at p (view_number p place) place) rest) l.inv.0)
 
 -- an item that was written is a view's
@@ -97,7 +97,7 @@ loop-holds c =
 item-behind-requires : tie.Need-item_behind-requires invariant-loop decreases-loop
 item-behind-requires c κs =
     let l = c in
-    (l.loop-done.invariant.1.1.0.within, rw l.loop-done.invariant.0 (view-place l))
+    (l.loop-done.invariant.1.1.0.within, rw l.loop-done.invariant.0 (view-place l.before.before))
 
 add_at : tie.Need-overflow_add-at invariant-loop decreases-loop
 add_at c =
@@ -125,8 +125,8 @@ place-behind-requires c κs =
 number-on-requires : tie.Need-number_on-view-requires invariant-loop decreases-loop
 number-on-requires c κs =
     let n = c in
-    let l = at-loop (written n) in
-    l.loop-done.invariant.1.0 (λ z. there n (sym l.loop-done.invariant.0 ∙ z))
+    let l = at-loop (written n.before) in
+    l.loop-done.invariant.1.0 (λ z. there n.before (sym l.loop-done.invariant.0 ∙ z))
 
 loop-again : tie.Need-loop-done-preserved invariant-loop decreases-loop
 loop-again c =
