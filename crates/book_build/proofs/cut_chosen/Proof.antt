@@ -46,7 +46,7 @@ write-if-room-requires c κs =
     let m = c in
     let f = m.before.before.before.before in
     let told = c.in-Fine.is in
-    (known f, ((s f).requires, fresh-marked 20000 refl m.mark_chosen.ensures told))
+    (known f.before.before.before.before.before, ((s f.before.before.before.before.before).requires, fresh-marked 20000 refl m.mark_chosen.ensures told))
 
 returns : tie.Need-returns-in-Fine
 returns c =

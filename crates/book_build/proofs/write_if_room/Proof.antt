@@ -116,18 +116,18 @@ add-rows c =
 write-pack-requires : tie.Need-write_pack-requires
 write-pack-requires c κs =
     let o = c in
-    let is = written (may o.before.before.before.before.before).packable (s o.before.before.before.before.before).requires.1.1 (placed o.before.before.before.before.before) in (
-      (s o.before.before.before.before.before).requires.0,
+    let is = written (may o.before.before.before.before.before.before).packable (s o.before.before.before.before.before.before).requires.1.1 (placed o.before.before.before.before.before.before) in (
+      (s o.before.before.before.before.before.before).requires.0,
       record {
         of_rows =
             omega (
               arith,
-              rows-counted (may o.before.before.before.before.before).packable (s o.before.before.before.before.before).requires.1.1 (placed o.before.before.before.before.before),
-              rows_of o.before.before.before.before.before,
+              rows-counted (may o.before.before.before.before.before.before).packable (s o.before.before.before.before.before.before).requires.1.1 (placed o.before.before.before.before.before.before),
+              rows_of o.before.before.before.before.before.before,
               o.organisations_in-of_book.ensures.0,
             );
-        of_points = points o.before.before.before.before.before;
-        of_room = omega (arith, ap length is, whole o.before.before.before.before.before);
+        of_points = points o.before.before.before.before.before.before;
+        of_room = omega (arith, ap length is, whole o.before.before.before.before.before.before);
       },
     )
 

@@ -29,7 +29,7 @@ label-among-requires : tie.Need-label_among-requires
 label-among-requires c κs =
     let t = c in
     let k = t in
-    let a = (start k.before.before.before).args in
+    let a = (start k.before.before.before.before).args in
     let taken = sym k.check_source.ensures ∙ t.in-Value.is in
     (book-good a.book.now a.table.now taken, table-accepted a.book.now a.table.now taken)
 

@@ -117,18 +117,18 @@ add-rows c =
 write-pack-requires : tie.Need-write_pack-requires
 write-pack-requires c κs =
     let w = c in
-    let is = written (ready w.before.before.before.before.before.before) (s w.before.before.before.before.before.before).requires.1.1 (placed w.before.before.before.before.before) in (
-      (s w.before.before.before.before.before).requires.0,
+    let is = written (ready w.before.before.before.before.before.before) (s w.before.before.before.before.before.before).requires.1.1 (placed w.before.before.before.before.before.before) in (
+      (s w.before.before.before.before.before.before).requires.0,
       record {
         of_rows =
             omega (
               arith,
-              rows-counted (ready w.before.before.before.before.before) (s w.before.before.before.before.before).requires.1.1 (placed w.before.before.before.before.before),
-              rows_of w.before.before.before.before.before,
-              (o w.before.before.before.before.before).organisations_in-of_points.ensures.0,
+              rows-counted (ready w.before.before.before.before.before.before) (s w.before.before.before.before.before.before).requires.1.1 (placed w.before.before.before.before.before.before),
+              rows_of w.before.before.before.before.before.before,
+              (o w.before.before.before.before.before.before).organisations_in-of_points.ensures.0,
             );
-        of_points = views w.before.before.before.before.before;
-        of_room = omega (arith, ap length is, whole w.before.before.before.before.before);
+        of_points = views w.before.before.before.before.before.before;
+        of_room = omega (arith, ap length is, whole w.before.before.before.before.before.before);
       },
     )
 

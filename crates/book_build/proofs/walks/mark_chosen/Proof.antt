@@ -91,13 +91,13 @@ module _ (r : tie.After-rows_by-found invariant-loop decreases-loop) where
 mark-point-requires : tie.Need-mark_point-requires invariant-loop decreases-loop
 mark-point-requires c κs =
     let r = c in
-    found_below (table r) (s r).requires.0.of_table (length (l r).loop-i.marks) (asked_of (d r).delivery_of-p.result)
-    (omega (arith, (s r).requires.1, (l r).loop-i.invariant.0)) (t r).table_shelf-s.ensures r.rows_by-found.ensures
+    found_below (table r.before) (s r.before).requires.0.of_table (length (l r.before).loop-i.marks) (asked_of (d r.before).delivery_of-p.result)
+    (omega (arith, (s r.before).requires.1, (l r.before).loop-i.invariant.0)) (t r.before).table_shelf-s.ensures r.rows_by-found.ensures
 
 place-of-requires : tie.Need-place_of-place-requires invariant-loop decreases-loop
 place-of-requires c κs =
     let r = c in
-    ((s r).requires.0.of_chosen, high r)
+    ((s r.before.before.before.before.before).requires.0.of_chosen, high r.before.before.before.before.before)
 
 returns : tie.Need-returns-in-Bad invariant-loop decreases-loop
 returns c =

@@ -65,8 +65,8 @@ organisation-at-requires : tie.Need-organisation_at-end-requires invariant-loop 
 organisation-at-requires c κs =
     let d = c in
     rw d.delivery_of-p.ensures (
-      (within-at (book d) (chosen d) (s d).requires.0.inside (l d).loop-i.i (high d)).organisation,
-      organisation-room (next d) (rest d) (s d).requires.1 (book d) (left d),
+      (within-at (book d.before) (chosen d.before) (s d.before).requires.0.inside (l d.before).loop-i.i (high d.before)).organisation,
+      organisation-room (next d.before) (rest d.before) (s d.before).requires.1 (book d.before) (left d.before),
     )
 
 -- there are few

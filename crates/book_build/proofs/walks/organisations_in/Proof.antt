@@ -53,7 +53,7 @@ module _ (d : tie.After-delivery_of-p invariant-loop decreases-loop) where
 organisation-len-requires : tie.Need-organisation_len-bytes-requires invariant-loop decreases-loop
 organisation-len-requires c κs =
     let d = c in
-    rw d.delivery_of-p.ensures (within-at (book d) (chosen d) (s d).requires.inside (l d).loop-i.i (high d)).organisation
+    rw d.delivery_of-p.ensures (within-at (book d.before) (chosen d.before) (s d.before).requires.inside (l d.before).loop-i.i (high d.before)).organisation
 
 -- there are few
 add-rows : tie.Need-overflow_add-rows invariant-loop decreases-loop

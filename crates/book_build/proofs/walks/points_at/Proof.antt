@@ -115,17 +115,17 @@ module _ (k : tie.After-key_offsets-offsets invariant-loop decreases-loop) where
 point-at-requires : tie.Need-point_at-end-requires invariant-loop decreases-loop
 point-at-requires c κs =
     let k = c in
-    let here = within k in (
-      rw (d k).delivery_of-p.ensures (record { postcode = here.postcode; suffix = here.suffix; box = here.box }),
-      room_as (l k).loop-i.out (l k).loop-i.end (same k)
-          (point-room (next k) (rest k) (s k).requires.1.1 (table_stock (table k)) (book k) (book k) (starts k) (l k).loop-i.row
-          (left k)),
+    let here = within k.before in (
+      rw (d k.before).delivery_of-p.ensures (record { postcode = here.postcode; suffix = here.suffix; box = here.box }),
+      room_as (l k.before).loop-i.out (l k.before).loop-i.end (same k.before)
+          (point-room (next k.before) (rest k.before) (s k.before).requires.1.1 (table_stock (table k.before)) (book k.before) (book k.before) (starts k.before) (l k.before).loop-i.row
+          (left k.before)),
     )
 
 organisation-len-requires : tie.Need-organisation_len-row-requires invariant-loop decreases-loop
 organisation-len-requires c κs =
     let k = c in
-    rw (d k).delivery_of-p.ensures (within k).organisation
+    rw (d k.before.before.before.before).delivery_of-p.ensures (within k.before.before.before.before).organisation
 
 -- how long its organisation's row is
 len : (c : tie.After-organisation_len-row invariant-loop decreases-loop)

@@ -75,14 +75,14 @@ rows-at-requires : tie.Need-rows_at-i-requires
 rows-at-requires c κs =
     let t = c in
     let s = t.before.before.before.before.before.before.before.before in
-    let rows = used_rows (st s) (starts s) in
+    let rows = used_rows (st s.before) (starts s.before) in
     let i = length rows in
-    let j = i + length (organisation_rows (book s) (ds s)) in
+    let j = i + length (organisation_rows (book s.before) (ds s.before)) in
     rw t.table_shelf.ensures (
       table_fits,
-      going-room rows (organisation_rows (book s) (ds s) ++ behind s i j)
-          (pack-start (st s) (book s) (book s) (starts s) (ds s) (code s) s.args.rows (length (chosen s)) s.requires.1 i j
-          refl refl) (room s),
+      going-room rows (organisation_rows (book s.before) (ds s.before) ++ behind s.before i j)
+          (pack-start (st s.before) (book s.before) (book s.before) (starts s.before) (ds s.before) (code s.before) s.args.rows (length (chosen s.before)) s.requires.1 i j
+          refl refl) (room s.before),
     )
 
 organisations-at-requires : tie.Need-organisations_at-j-requires
@@ -154,7 +154,7 @@ trailer-at-requires c κs =
         arith,
         going-left (points_left (organisations-before at-points)) (room s),
         s.requires.0.of_chosen.few,
-        s.good,
+        s.well_formed,
       ),
       (
         omega (

@@ -25,7 +25,7 @@ walk-requires : tie.Need-walk-requires
 walk-requires c κs =
     let t = c in
     let k = t in
-    let a = (start k.before.before.before).args in
+    let a = (start k.before.before.before.before).args in
     let taken = sym k.check_source.ensures ∙ t.in-Value.is in
     (book-good a.book.now a.table.now taken, table-accepted a.book.now a.table.now taken)
 

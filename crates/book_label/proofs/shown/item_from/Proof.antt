@@ -63,10 +63,10 @@ module _ (l : tie.After-label_from-answer) where
 headed-item-requires : tie.Need-headed_item-requires
 headed-item-requires c κs =
     let l = c in
-    let s = start (found l) in (
-      rw (written (found l)).worded_line-line.ensures.is (written (found l)).worded_line-line.ensures.short,
+    let s = start (found l.before.before.before) in (
+      rw (written (found l.before.before.before)).worded_line-line.ensures.is (written (found l.before.before.before)).worded_line-line.ensures.short,
       asked-small s.args.table.now s.args.book.now s.args.at s.args.out.now s.requires
-          (there (found l)).if-at-eq0.false (asked l),
+          (there (found l.before.before.before)).if-at-eq0.false (asked l.before.before.before),
     )
 
 returns-2 : tie.Need-returns

@@ -23,7 +23,7 @@ module _ (e : tie.Else-at-eq0) where
 label-there-requires : tie.Need-label_there-requires
 label-there-requires c κs =
     let e = c in
-    ((start e).requires.of_table, record-first (start e).args.book.now (start e).args.at (inside e))
+    ((start e.before.before).requires.of_table, record-first (start e.before.before).args.book.now (start e.before.before).args.at (inside e.before.before))
 
 returns-2 : tie.Need-returns
 returns-2 c =
@@ -36,8 +36,8 @@ pub label_from_spec : {M : Type 1} → statement M
 label_from_spec =
     tie.close
     (tie.spec returns
-    (λ c. let h = inside c.before.before.before.before.before in let k = (start c.before.before.before.before.before).well_formed in search rules)
-    (λ c. let h = inside c.before.before.before.before.before in search rules)
-    (λ c. let h = inside c.before.before.before.before.before in search rules)
-    (λ c. let h = inside c.before.before.before.before.before in search rules)
+    (λ c. let h = inside c in let k = (start c).well_formed in search rules)
+    (λ c. let h = inside c in search rules)
+    (λ c. let h = inside c in search rules)
+    (λ c. let h = inside c in search rules)
     label-there-requires (search rules) returns-2)

@@ -86,8 +86,8 @@ loop-holds c =
 shown-behind-requires : tie.Need-shown_behind-requires invariant-loop decreases-loop
 shown-behind-requires c κs =
     let f = c in
-    let a = (start f).args in
-    ((turn f).loop-done.invariant.1.0.within, subst (Standing a.table.now a.book.now) (sym (found f)) (standing (start f) (number f)))
+    let a = (start f.before).args in
+    ((turn f.before).loop-done.invariant.1.0.within, subst (Standing a.table.now a.book.now) (sym (found f.before)) (standing (start f.before) (number f.before)))
 
 add_at : tie.Need-overflow_add-at invariant-loop decreases-loop
 add_at c =

@@ -69,7 +69,7 @@ module _ (m : tie.After-item_behind invariant-loop decreases-loop) where
       m.item_behind.ensures
       ∙ ap (λ (o : Outcome Answer). said o.answer (take l.at l.out ++ o.memory))
       (numbered-item t p l.place l.view rest l.invariant.1.0
-      ∙ ap (λ (place : ℕ). place_item t p place (line_at p (view_number p place) place) rest) l.inv.0)
+      ∙ ap (λ (place : ℕ). place_item t p place (line_at p (view_number p place) place) rest) l.invariant.0)
 
 -- an item that was written is a view's
 module _ (n : tie.In-Value invariant-loop decreases-loop) where
@@ -145,7 +145,7 @@ loop-again c =
             (behind-place (code l) (points l) l.loop-done.place (λ z. some (p.place_behind-next.ensures ∙ z)))),
         (
           going_step l.loop-done.invariant.1.1.0 (fit l) (omega arith) (asked m) is,
-          m.item_behind.kept.out ∙ l.loop-done.invariant.1.1.1,
+          m.item_behind.auto.out ∙ l.loop-done.invariant.1.1.1,
         ),
       ),
     )

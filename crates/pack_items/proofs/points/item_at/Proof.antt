@@ -38,19 +38,19 @@ part-label-at-start c = let h = within c in search rules
 
 label-at-requires : tie.Need-label_at-answer-requires
 label-at-requires c κs =
-    let s = start c in
+    let s = start c.before in
     (opened-sized s.args.pack.now _ s.requires, (opened-all s.args.pack.now _ s.requires).counted)
 
 headed-item-requires : tie.Need-headed_item-requires
 headed-item-requires c κs =
     let label = c in
     let found = label in
-    let s = start found in
+    let s = start found.before.before.before.before.before in
     let a = s.args in
     let asked =
     rw (lent a.out.now found.room_before-room.result) at label.label_at-answer.ensures
-    ∙ ap (λ (n : ℕ). point_label a.pack.now a.k (drop n a.out.now)) (room found) in (
-      rw (line found).point_line-line.ensures.is (line found).point_line-line.ensures.short,
+    ∙ ap (λ (n : ℕ). point_label a.pack.now a.k (drop n a.out.now)) (room found.before.before.before.before.before) in (
+      rw (line found.before.before.before.before.before).point_line-line.ensures.is (line found.before.before.before.before.before).point_line-line.ensures.short,
       asked-small point_line a.pack.now a.k a.out.now s.requires asked,
     )
 
