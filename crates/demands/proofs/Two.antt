@@ -224,9 +224,9 @@ module _ (heading : Address → List ℕ) (look : Lookup) (views : List Address)
 
 -- under the source's own headings, files and code being accepted
 module _ (s : Source) {n : ℕ} (taken : s.judged ≡ Value n) where
-  pub views_listed : InTurn (ItemAsked s.heading s.look s.views) (views_list s)
+  pub views-listed : InTurn (ItemAsked s.heading s.look s.views) (views_list s)
   unfolding views_list views_listed view_item
-  views_listed =
+  views-listed =
       record {
         item = view_item (headings s.heading s.views) s;
         each = λ k out.
@@ -235,10 +235,10 @@ module _ (s : Source) {n : ℕ} (taken : s.judged ≡ Value n) where
         in_turn = λ first count out. afterwards-value Unasked out _ taken;
       }
 
-  pub code_listed : (code : List ℕ) → outward_fault code ≡ 0
+  pub code-listed : (code : List ℕ) → outward_fault code ≡ 0
       → InTurn (ItemAsked s.heading s.look (in_code code s.live)) (code_list s code)
   unfolding code_list code_listed code_item
-  code_listed code clean =
+  code-listed code clean =
       let views = in_code code s.live in
       record {
         item = code_item (headings s.heading views) s code;

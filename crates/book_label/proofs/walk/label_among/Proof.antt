@@ -49,5 +49,5 @@ label_among_spec =
     (λ c. let h = c.starts_in-found.ensures in omega (arith, h.few, h.long))
     (λ c. let h = c.starts_in-found.ensures in sym (length-take-le _ _ (omega (arith, h.few, h.long))))
     (λ c κs. search rules)
-    (λ c κs. standing c.before.before.before.before)
+    (λ c κs. standing c.before)
     (search rules) returns)
