@@ -109,7 +109,7 @@ uint64_t ttw_points(const uint8_t *points, size_t points_len);
  * trailer, in place, and leaves every other byte as it was; a file that is not two or more whole records stays as it is, and
  * one of more than 20,000 records is rewritten too. What is accepted then is what was accepted before spaces were refused,
  * with the same labels, and the refusals of what is not are those of before. Header and trailer alone are read, so that the
- * two of them, one behind the other, are rewritten as the file is (docs/calls/unspace.md, `in-parts`).
+ * two of them, one behind the other, are rewritten as the file is (docs/calls/unspace.md, `in_parts`).
  *
  *     uint64_t rewritten = TTW_VALUE(ttw_unspace_table(table, table_len));
  *     printf("%lu of 2 identifiers were spaces\n", (unsigned long)rewritten);
