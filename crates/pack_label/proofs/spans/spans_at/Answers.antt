@@ -84,24 +84,24 @@ spans-say : (rows pack : List ℕ) (at rest : ℕ) (organisation department box 
     → text_in2 rows pack outward ≡ (elements_from pack at rest).outward
     → text_in2 rows pack inward ≡ (elements_from pack at rest).inward
     → elements_in rows pack
-      record {
-        organisation = organisation;
-        department = department;
-        po_box = box;
-        sub_building = sub;
-        building = building;
-        number = number;
-        concatenation = concatenation;
-        dependent = dependent;
-        dependent_descriptor = tail;
-        thoroughfare = street;
-        descriptor = end;
-        double_locality = double;
-        dependent_locality = single;
-        town = town;
-        outward = outward;
-        inward = inward;
-      }
+    record {
+      organisation = organisation;
+      department = department;
+      po_box = box;
+      sub_building = sub;
+      building = building;
+      number = number;
+      concatenation = concatenation;
+      dependent = dependent;
+      dependent_descriptor = tail;
+      thoroughfare = street;
+      descriptor = end;
+      double_locality = double;
+      dependent_locality = single;
+      town = town;
+      outward = outward;
+      inward = inward;
+    }
     ≡ elements_from pack at rest
 spans-say rows pack at rest organisation department box sub building number concatenation dependent tail street end double single
     town outward inward is-organisation is-department is-box is-sub is-building is-number is-concatenation is-dependent
