@@ -1,4 +1,4 @@
-//! Tells the linker where `rt staticlib` leaves the proved libraries.
+//! Tells the linker where `scripts/archive` leaves the proved libraries.
 
 use std::path::PathBuf;
 

@@ -1,5 +1,5 @@
-//! Tells the linker where the proved libraries are: `rt staticlib` leaves them
-//! for x86-64, `scripts/library-arm` for AArch64.
+//! Tells the linker where the proved libraries are: `scripts/archive` leaves
+//! them for x86-64, `scripts/library-arm` for AArch64.
 
 use std::path::PathBuf;
 

@@ -14,8 +14,6 @@ pub fn printed(command: &mut Command) -> String {
 /// The compiler, which has its linker beside it.
 pub fn clang() -> PathBuf {
     let guide = printed(Command::new("rt").arg("doc"));
-    let machine = printed(Command::new("uname").arg("-m"));
-    let kit = Path::new(guide.trim()).ancestors().nth(2).expect("the kit");
-    let tools = kit.join("on").join(machine.trim()).join("toolchain/bin");
-    tools.join("clang")
+    let kit = Path::new(guide.trim()).parent().expect("the kit");
+    kit.join("toolchain/bin/clang")
 }

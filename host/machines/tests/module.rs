@@ -52,7 +52,7 @@ fn the_library_is_accepted() {
 }
 
 /// What is put into the module in place of something, and what is told of it.
-const CHANGES: [(&str, &str, &str); 12] = [
+const CHANGES: [(&str, &str, &str); 15] = [
     (
         "-S128\"",
         "-S64\"",
@@ -67,7 +67,18 @@ const CHANGES: [(&str, &str, &str); 12] = [
     ("[16 x i8]", "double", "the module says double"),
     ("[16 x i8]", "<2 x i64>", "the module says <, >, x"),
     ("[16 x i8]", "{ i64, i8 }", "the module says {, }"),
+    ("[16 x i8]", "{ ptr, i32 }", "the module says {, }"),
     ("[16 x i8]", "[2 x i64]", "the module says [N x i64]"),
+    (
+        "target triple",
+        "@static.99 = private unnamed_addr constant [1 x i16] [i16 7]\ntarget triple",
+        "the module says [N x i16]",
+    ),
+    (
+        "target triple",
+        "@static.99 = private unnamed_addr global [1 x i8] c\"a\"\ntarget triple",
+        "the module says global",
+    ),
     (
         "getelementptr i8,",
         "getelementptr i64,",

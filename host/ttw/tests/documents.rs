@@ -13,7 +13,7 @@ use ttw::words::{book_words, main_words, words};
 
 /// A folder in which a reader might stand: the repository's own places, `ttw`
 /// and the library installed. `rt` has proved everything before these tests
-/// run, and here does nothing.
+/// run, and here says its version and does nothing.
 fn desk() -> Folder {
     let folder = Folder::new();
     for name in [
@@ -32,7 +32,12 @@ fn desk() -> Folder {
     let mut install = Command::new(root().join("scripts/install"));
     install.args(["usr", TTW]).env_remove("DESTDIR");
     run(install.current_dir(&folder.0)).prints("");
-    let rt = folder.put("usr/bin/rt", b"#!/bin/sh\nexit 0\n");
+    let version = run(Command::new("rt").arg("version")).out;
+    let said = format!(
+        "#!/bin/sh\n[ \"$1\" != version ] || echo '{}'\n",
+        version.trim()
+    );
+    let rt = folder.put("usr/bin/rt", said.as_bytes());
     fs::set_permissions(rt, fs::Permissions::from_mode(0o755)).expect("a program");
     folder
 }

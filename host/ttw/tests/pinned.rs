@@ -62,7 +62,7 @@ fn the_logic_has_to_be_one_of_those_and_the_kit_may_be_another() {
     for kit in [
         "rattle-kit-5b logic 0123456789abcdef",
         &longer,
-        &right("rattle-kit-5b", &pinned),
+        &right("rattle-kit-5b", &format!("{pinned} {pinned}")),
         "rattle-kit-5b",
     ] {
         let told = format!("Rattle: here is {kit}, {wanted}");

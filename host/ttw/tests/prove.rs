@@ -1,6 +1,7 @@
 //! `scripts/prove`, which `make` asks for the library: it says what is happening
 //! before it begins, keeps the prover's words in a log, and does nothing where
-//! nothing has changed. Here `rt` is a short script that proves nothing.
+//! nothing has changed. Here `rt` and the kit's `rattle` are short scripts that
+//! prove nothing.
 
 mod support;
 
@@ -12,30 +13,66 @@ use support::{is_installed, root, run, Folder, Run};
 
 /// A repository of a library over two crates and a program over one of them.
 const CRATES: &str =
-    "# Lowest first.\nlow:\nmiddle: low\ntop: low middle\nshown: middle io\nbeside:\n";
+    "# Lowest first.\nlow:\nmiddle: low\ntop staticlib: low middle\nshown: middle io\nbeside:\n";
 
-/// Writes down what it is asked, says what a prover might, and leaves what it
-/// would make.
+/// Writes down what it is asked in a crate's folder, says what a prover might, and
+/// leaves what it would make.
 const RT: &str = r#"#!/bin/bash
-[ "$1" != version ] || { cat kit; exit; }
-echo "$* jobs $RT_JOBS" >>asked
-mkdir -p target/bin target/staticlib target/stamp
-verb=$1
-shift
-for name in "$@"; do
-    echo "fn $name::f: proved"
-    [ ! -e "fails-$name" ] || { echo "$name: error: no" >&2; exit 3; }
-    echo "rt: $name proved (1 s)"
-    touch "target/stamp/$name"
-    if [ "$verb" = staticlib ]; then cat crates/*/src/* >"target/staticlib/lib$name.a"; else echo program >"target/bin/$name"; fi
+desk=${0%/*}
+[ "$1" != version ] || { cat "$desk/kit"; exit; }
+[ "$1" != doc ] || { echo "$desk/tools/START-HERE.md"; exit; }
+name=${PWD##*/}
+if [ "$1" = run ]; then
+    echo "run $name" >>"$desk/asked"
+    echo program >"out/$name"
+    exit
+fi
+[ "$1 $2 $3" = 'all check --jobs' ] || exit 2
+echo "check $name jobs $4" >>"$desk/asked"
+for each in low middle "$name"; do
+    [ "$each" != "$name" ] || [ ! -e "$desk/slow" ] || sleep 2.5
+    echo "== $each"
+    echo "fn $each::f: proved"
+    [ ! -e "$desk/fails-$each" ] || { echo "$each: error: no" >&2; exit 3; }
+    mkdir -p "$desk/crates/$each/out/rlib"
+    touch "$desk/crates/$each/out/rlib/stamp"
 done
-[ ! -e slow ] || sleep 2.5
+echo "== summary"
 "#;
+
+/// Makes a library of all the code, and has the compiler compile a module on the
+/// way.
+const RATTLE: &str = r#"#!/bin/bash
+desk=${0%/tools/bin/rattle}
+while [ $# -gt 0 ]; do
+    case $1 in
+    --crate-name) name=$2 ;;
+    --jobs) jobs=$2 ;;
+    --toolchain) tools=$2 ;;
+    -o) made=$2 ;;
+    esac
+    shift
+done
+echo "build $name jobs $jobs" >>"$desk/asked"
+[ ! -e "$desk/fails-build" ] || exit 4
+echo module >module.bc
+"$tools/bin/clang" -c module.bc || exit
+rm module.bc
+cat "$desk"/crates/*/src/* >"$made"
+"#;
+
+/// A program of that name and text in the folder.
+fn program(folder: &Folder, name: &str, text: &str) {
+    let path = folder.put(name, text.as_bytes());
+    fs::set_permissions(path, fs::Permissions::from_mode(0o755)).expect("a program");
+}
 
 fn desk() -> Folder {
     let folder = Folder::new();
-    fs::create_dir(folder.0.join("scripts")).expect("a folder");
-    for name in ["scripts/prove", "scripts/jobs"] {
+    for name in ["scripts", "tools/bin", "tools/toolchain/bin"] {
+        fs::create_dir_all(folder.0.join(name)).expect("a folder");
+    }
+    for name in ["scripts/archive", "scripts/prove", "scripts/jobs"] {
         fs::copy(root().join(name), folder.0.join(name)).expect("a copy");
     }
     folder.put("crates.txt", CRATES.as_bytes());
@@ -45,8 +82,10 @@ fn desk() -> Folder {
         let file = if name == "shown" { "main.rt" } else { "lib.rt" };
         fs::write(code.join(file), name).expect("a file");
     }
-    let rt = folder.put("rt", RT.as_bytes());
-    fs::set_permissions(rt, fs::Permissions::from_mode(0o755)).expect("a program");
+    program(&folder, "rt", RT);
+    program(&folder, "tools/bin/rattle", RATTLE);
+    let compiler = "#!/bin/sh\n[ \"$*\" = '-c module.bc' ] && [ -e module.bc ]\n";
+    program(&folder, "tools/toolchain/bin/clang", compiler);
     folder.put("kit", b"kit 1 logic 0\n");
     folder
 }
@@ -69,7 +108,7 @@ fn asked(folder: &Folder) -> Vec<String> {
 fn made_anew(folder: &Folder) {
     let run = prove(folder, "scripts/prove top");
     assert_eq!((run.status, run.out.as_str()), (Some(0), ""), "{run:?}");
-    assert_eq!(asked(folder), ["check low middle", "staticlib top"]);
+    assert_eq!(asked(folder), ["check top", "build top"]);
 }
 
 /// Fails unless the run did nothing and said nothing.
@@ -104,8 +143,10 @@ fn the_first_line_says_what_and_how_long_and_the_prover_speaks_in_a_log() {
     );
     assert!(!run.told.contains("fn low::f"), "{told:?}");
     let log = String::from_utf8(folder.read("target/prove.log")).expect("text");
-    assert!(log.contains("fn low::f: proved\nrt: low proved (1 s)\n"));
-    assert_eq!(asked(&folder), ["check low middle shown", "staticlib top"]);
+    assert!(log.contains("== low\nfn low::f: proved\n"));
+    let expected = ["check top", "check shown", "build top", "run shown"];
+    assert_eq!(asked(&folder), expected);
+    assert_eq!(folder.read("target/bin/shown"), b"program\n");
 }
 
 #[test]
@@ -164,11 +205,11 @@ fn nothing_is_done_where_nothing_has_changed() {
     made_anew(&folder);
     silent(&folder, "top");
     assert_eq!(prove(&folder, "scripts/prove shown").status, Some(0));
-    assert_eq!(asked(&folder), ["check shown"]);
+    assert_eq!(asked(&folder), ["check shown", "run shown"]);
     silent(&folder, "top shown");
 }
 
-/// As after `make test`, which proves everything and leaves no note of it here.
+/// As where the notes of what is made are gone.
 #[test]
 fn nothing_is_said_where_all_is_proved_already() {
     let folder = desk();
@@ -177,9 +218,63 @@ fn nothing_is_said_where_all_is_proved_already() {
     let run = prove(&folder, "scripts/prove top");
     assert_eq!((run.status, run.told.as_str()), (Some(0), ""), "{run:?}");
     assert_eq!(asked(&folder).len(), 2);
-    let changed = "sleep 0.05; echo changed >crates/middle/src/lib.rt; scripts/prove top";
+    let changed = "echo changed >crates/middle/src/lib.rt; scripts/prove top";
     let run = prove(&folder, changed);
     assert!(run.told.starts_with("Proving 2 of 3 crates, "), "{run:?}");
+    let run = prove(
+        &folder,
+        "rm -r crates/low/out; : >target/made/top; scripts/prove top",
+    );
+    assert!(run.told.starts_with("Proving 3 of 3 crates, "), "{run:?}");
+}
+
+/// As at the end of the gate, where another has proved everything and made it.
+#[test]
+fn what_another_made_can_be_noted() {
+    let folder = desk();
+    made_anew(&folder);
+    let notes = |folder: &Folder| {
+        (
+            folder.read("target/made/top"),
+            folder.read("target/proved/low"),
+        )
+    };
+    let noted = notes(&folder);
+    prove(
+        &folder,
+        "rm -r target/made target/proved; scripts/prove --made top",
+    )
+    .prints("");
+    assert!(asked(&folder).is_empty());
+    assert_eq!(notes(&folder), noted);
+    silent(&folder, "top");
+    // Nothing that is not there.
+    prove(
+        &folder,
+        "rm target/module/top/module.bc; scripts/prove --made top",
+    )
+    .prints("");
+    made_anew(&folder);
+}
+
+#[test]
+fn the_module_of_a_library_is_kept_and_no_link_is_left() {
+    let folder = desk();
+    made_anew(&folder);
+    assert_eq!(
+        folder.names("target/module/top"),
+        ["arguments", "module.bc"]
+    );
+    assert_eq!(folder.read("target/module/top/module.bc"), b"module\n");
+    assert_eq!(
+        folder.read("target/module/top/arguments"),
+        b"-c\nmodule.bc\n"
+    );
+    assert_eq!(
+        folder.read("target/staticlib/libtop.a"),
+        folder.read("crates/top/out/libtop.a")
+    );
+    folder.shell("find . -type l").prints("");
 }
 
 /// rt takes its time to see that nothing has changed.
@@ -223,9 +318,9 @@ fn a_failure_names_the_log_and_shows_its_end() {
     let run = prove(&folder, "scripts/prove top");
     assert_eq!((run.status, run.out.as_str()), (Some(3), ""), "{run:?}");
     let end = "Not proved: rt ended with status 3. Its own words are in target/prove.log, which ends so:\n\
-         fn low::f: proved\nrt: low proved (1 s)\nfn middle::f: proved\nmiddle: error: no\n";
+         == low\nfn low::f: proved\n== middle\nfn middle::f: proved\nmiddle: error: no\n";
     assert!(run.told.ends_with(end), "{run:?}");
-    assert_eq!(asked(&folder), ["check low middle"]);
+    assert_eq!(asked(&folder), ["check top"]);
     fs::remove_file(folder.0.join("fails-middle")).expect("removed");
     made_anew(&folder);
     folder.put("fails-top", b"");
@@ -234,6 +329,11 @@ fn a_failure_names_the_log_and_shows_its_end() {
     assert_eq!(run.status, Some(3), "{run:?}");
     asked(&folder);
     fs::remove_file(folder.0.join("fails-top")).expect("removed");
+    folder.put("fails-build", b"");
+    let run = prove(&folder, "scripts/prove top");
+    assert_eq!(run.status, Some(4), "{run:?}");
+    asked(&folder);
+    fs::remove_file(folder.0.join("fails-build")).expect("removed");
     made_anew(&folder);
 }
 
@@ -255,13 +355,10 @@ fn jobs_are_decided_in_one_place() {
     assert_eq!(given, "7\n");
     let chosen: u32 = jobs("unset RT_JOBS;")[0].parse().expect("a number");
     let cores = std::thread::available_parallelism().map_or(1, usize::from);
-    assert!((1..=3 * cores as u32).contains(&chosen), "{chosen}");
-    for script in ["scripts/test", "scripts/prove"] {
+    assert!((1..=cores as u32).contains(&chosen), "{chosen}");
+    for script in ["scripts/archive", "scripts/prove"] {
         let text = text_of(script);
-        assert!(
-            text.contains("\nRT_JOBS=$(scripts/jobs)\nexport RT_JOBS\n"),
-            "{script}"
-        );
+        assert!(text.contains("\njobs=$(scripts/jobs)\n"), "{script}");
         assert!(!text.contains("MemAvailable"), "{script}");
     }
 }
@@ -300,5 +397,5 @@ fn a_kit_that_is_not_there_ends_it_before_anything_is_said() {
 #[test]
 fn no_name_is_wrong_usage() {
     let mut script = Command::new(root().join("scripts/prove"));
-    run(&mut script).only_tells(2, "usage: scripts/prove NAME..");
+    run(&mut script).only_tells(2, "usage: scripts/prove [--made] NAME..");
 }
