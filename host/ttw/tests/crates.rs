@@ -390,7 +390,7 @@ fn the_reading_order_has_what_the_calls_and_the_demands_use() {
 }
 
 /// What only those speak of that know a file of Changes: widths of its records, and its names.
-const OF_FILES: [&str; 16] = [
+const OF_FILES: [&str; 14] = [
     "168",
     "169",
     "Formats",
@@ -398,14 +398,12 @@ const OF_FILES: [&str; 16] = [
     "check_table",
     "file_check",
     "file_formats",
-    "pointFault",
-    "pointFormat",
     "point_fault",
+    "point_format",
     "point_record",
-    "tableFault",
-    "tableFormat",
-    "tableLookup",
     "table_fault",
+    "table_format",
+    "table_lookup",
     "table_record",
 ];
 
@@ -416,7 +414,7 @@ fn knows_a_file(word: &str) -> bool {
     kind.is_some_and(|kind| kind.starts_with(char::is_uppercase))
         || word.contains("file_record.specs.Names")
         || word
-            .split([':', '.', '·'])
+            .split([':', '.'])
             .any(|part| OF_FILES.contains(&part) || part.starts_with("changes_"))
 }
 

@@ -15,8 +15,9 @@ pub struct Crate {
 pub fn crates() -> Vec<Crate> {
     let text = fs::read_to_string(root().join("crates.txt")).expect("crates.txt");
     let lines = text.lines().filter(|line| !line.starts_with('#'));
+    // Behind the name of a library for C stands `staticlib`.
     let of = |(name, uses): (&str, &str)| Crate {
-        name: name.to_string(),
+        name: name_of(name).to_string(),
         uses: uses.split_whitespace().map(str::to_string).collect(),
     };
     lines
@@ -90,12 +91,31 @@ fn item_of(line: &str) -> Option<(Kind, &str)> {
         "extern" => Some((Kind::Exported, name_of(rest.strip_prefix("\"C\" fn ")?))),
         "mod" => Some((Kind::Module, name_of(rest))),
         "struct" | "enum" | "const" => Some((Kind::Other, name_of(rest))),
-        "use" => {
-            let whole = rest.trim_end_matches(';').trim_start_matches("crate::");
-            let name = whole.rsplit("::").next()?;
-            Some((Kind::Alias(whole.to_string()), name))
-        }
         _ => None,
+    }
+}
+
+/// The paths that a `use` names, which may end on a later line: `a::{b, c}` is two.
+fn paths_used(lines: &[&str]) -> Vec<String> {
+    let mut text = String::new();
+    for line in lines {
+        text += line.trim();
+        if line.ends_with(';') {
+            break;
+        }
+    }
+    let whole = text.trim_end_matches(';').trim_start_matches("pub ");
+    let Some(whole) = whole.strip_prefix("use ") else {
+        return Vec::new();
+    };
+    let whole = whole.trim_start_matches("crate::");
+    match whole.split_once('{') {
+        Some((before, names)) => {
+            let names = names.trim_end_matches('}').split(',').map(str::trim);
+            let names = names.filter(|name| !name.is_empty());
+            names.map(|name| format!("{before}{name}")).collect()
+        }
+        None => vec![whole.to_string()],
     }
 }
 
@@ -120,6 +140,13 @@ fn items_of(module: &str, text: &str) -> Vec<Item> {
                 .iter()
                 .find_map(|word| open.strip_prefix(word));
             owner = opened.map_or("", name_of);
+            items.extend(paths_used(&lines[at..]).into_iter().map(|used| Item {
+                module: module.to_string(),
+                name: used.rsplit("::").next().unwrap_or(&used).to_string(),
+                kind: Kind::Alias(used),
+                public: bare != open,
+                head: String::new(),
+            }));
         }
         let case = own.is_some() && bare.starts_with(char::is_uppercase);
         let item = item_of(open).or(case.then(|| (Kind::Other, name_of(bare))));
@@ -263,11 +290,11 @@ pub fn pages_of_specs() -> Vec<String> {
 
 /// The page of definitions that a line of a module uses, if it does.
 fn page_used(line: &str) -> Option<String> {
-    let line = line.strip_prefix("use Rattle·")?;
-    let end = line.find(|c: char| !c.is_alphanumeric() && !"_·.".contains(c));
+    let line = line.strip_prefix("pub ").unwrap_or(line);
+    let line = line.strip_prefix("use Rattle.")?;
+    let end = line.find(|c: char| !c.is_alphanumeric() && !"_.".contains(c));
     let (name, path) = line[..end.unwrap_or(line.len())].split_once(".specs.")?;
-    let name = name.split('·').next()?;
-    let parts: Vec<&str> = path.split('.').collect();
+    let parts: Vec<&str> = path.split('.').filter(|part| !part.is_empty()).collect();
     // What stands behind a module's name is a name in it.
     let mut pages = (1..=parts.len())
         .rev()
@@ -291,7 +318,7 @@ pub fn pages_reached(mut from: Vec<String>) -> BTreeSet<String> {
 pub fn words_of(file: &Path) -> Vec<(usize, String)> {
     let text = fs::read_to_string(file).expect("a file of a crate");
     let words = |(line, text): (usize, &str)| {
-        let words = text.split(|c: char| !c.is_alphanumeric() && !"_:.·".contains(c));
+        let words = text.split(|c: char| !c.is_alphanumeric() && !"_:.".contains(c));
         let words: Vec<_> = words.map(|word| (line + 1, word.to_string())).collect();
         words
     };
