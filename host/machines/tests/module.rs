@@ -90,8 +90,8 @@ const CHANGES: [(&str, &str, &str); 15] = [
         "the module says \"target-features\"=\"+avx\"",
     ),
     (
-        "declare void @llvm.trap()",
-        "declare i64 @strlen(ptr)\ndeclare void @llvm.trap()",
+        "\ndeclare ",
+        "\ndeclare i64 @strlen(ptr)\ndeclare ",
         "the module calls declare i64 @strlen(ptr)",
     ),
     (
