@@ -15,9 +15,8 @@ pub const NO_SUCH: u8 = 7;
 /// its detail is the bytes needed.
 pub const ROOM: u8 = 10;
 
-/// The refusal of a view that no row of CSV PAF can carry, and of a file with such
-/// a row.
-pub const UNCARRIED: u8 = 15;
+/// The refusal of a view that no row of CSV PAF can carry.
+const UNCARRIED: u8 = 15;
 
 /// Why a call was refused.
 #[derive(Clone, Copy, Debug, PartialEq, Eq)]
@@ -31,8 +30,7 @@ pub struct Refusal {
     /// the place in a book, where building a pack is refused because of one; the
     /// labels before, where a run stops.
     pub second: u64,
-    /// The record, row, rule, field, step or bytes needed, by the number. The row
-    /// of 15 the library does not tell.
+    /// The record, row, rule, field, step or bytes needed, by the number.
     pub detail: u64,
 }
 

@@ -10,7 +10,7 @@ use crate::source::Source;
 use crate::stop::{tell, Ended, Outcome, Stop};
 use std::io::{Read, Write};
 use std::path::{Path, PathBuf};
-use ttw::ask::{self, Refusal, NO_SUCH, ROOM, UNCARRIED};
+use ttw::ask::{self, Refusal, NO_SUCH, ROOM};
 use ttw::listing::MOST_TOLD;
 use ttw::words::words;
 
@@ -89,7 +89,7 @@ pub fn print_labels(given: &Arguments, csv: &Path) -> Outcome {
     }
     send_to(given.out.as_deref());
     let csv = read(csv)?;
-    ask::csv(&csv).map_err(|why| Stop::Refused(words(&with_row(why, &csv), "csv")))?;
+    ask::csv(&csv).map_err(|why| Stop::Refused(words(&why, "csv")))?;
     let name = |row| format!("row {row}");
     match (given.nth, given.count) {
         (Some(row), None) => print_one(words, &name(row), ask::csv_label(&csv, row)),
@@ -108,29 +108,6 @@ pub fn print_labels(given: &Arguments, csv: &Path) -> Outcome {
             )
         }
     }
-}
-
-/// Why a file is refused. 15 names no row, so that it is looked for.
-fn with_row(why: Refusal, csv: &[u8]) -> Refusal {
-    let detail = match why.number {
-        UNCARRIED => uncarried_row(csv).unwrap_or(why.detail),
-        _ => why.detail,
-    };
-    Refusal { detail, ..why }
-}
-
-/// The first row that is refused with 15, each being asked as a file of its own.
-fn uncarried_row(csv: &[u8]) -> Option<u64> {
-    let mut left = csv;
-    for row in 1.. {
-        let end = left.windows(ROW_END.len()).position(|two| two == ROW_END)?;
-        let (first, behind) = left.split_at(end + ROW_END.len());
-        if ask::csv(first).is_err_and(|why| why.number == UNCARRIED) {
-            return Some(row);
-        }
-        left = behind;
-    }
-    None
 }
 
 /// A CSV file, or what comes on standard input.

@@ -104,9 +104,6 @@ fn reason(refusal: &Refusal, files: &Files) -> String {
         12 => "not an outward code, such as AB1 or EC1N in capitals".to_string(),
         13 => "a pack of this edition has no suffix".to_string(),
         MALFORMED_ROW => format!("row {detail} is malformed {}", at_field(refusal.second)),
-        15 if detail > 0 => format!(
-            "row {detail} has a field that is longer than CSV PAF allows, or a double quote"
-        ),
         15 => "a field is longer than CSV PAF allows, or has a comma or a double quote".to_string(),
         16 => format!("record {detail} has spaces for its identifier: see ttw help unspace"),
         17 => "inserted, but the delivery point is present already".to_string(),

@@ -225,9 +225,9 @@ fn single_labels_and_runs_are_printed_as_they_stand() {
 fn a_refused_file_is_told_with_row_and_field() {
     let folder = Folder::new();
     let full = full_csv_row();
-    let too_long = "csv: row 2 has a field that is longer than CSV PAF allows, or a double quote \
+    let too_long = "csv: a field is longer than CSV PAF allows, or has a comma or a double quote \
         (refusal 15)";
-    let cases: [(CsvRow, &str); 5] = [
+    let cases: [(CsvRow, &str); 4] = [
         (
             full.with(7, b"1A"),
             "csv: row 2 is malformed at field 7, the building number (refusal 14)",
@@ -241,7 +241,6 @@ fn a_refused_file_is_told_with_row_and_field() {
             "csv: row 2 is malformed behind its last field (refusal 14)",
         ),
         (full.with(2, b"\"HOLT\""), too_long),
-        (full.with(7, b"00012"), too_long),
     ];
     for (row, told) in cases {
         folder.put("rows", &[WORKED.as_bytes(), &row.bytes()].concat());
@@ -339,15 +338,10 @@ fn a_long_file_is_judged_as_a_whole() {
     told(&[good.as_bytes(), b"\r\n"], &malformed(2_001));
     told(&[&quoted, good.as_bytes(), b"\r\n"], &malformed(2_002));
     told(&[&quoted, b"\r\n", good.as_bytes()], &malformed(2));
-    let uncarried = |row| {
-        format!(
-            "csv: row {row} has a field that is longer than CSV PAF allows, or a double quote \
-            (refusal 15)"
-        )
-    };
-    told(&[&quoted, good.as_bytes()], &uncarried(1));
-    told(&[good.as_bytes(), &quoted], &uncarried(2_001));
-    told(&[good.as_bytes(), &quoted, &quoted], &uncarried(2_001));
+    let carried =
+        "csv: a field is longer than CSV PAF allows, or has a comma or a double quote (refusal 15)";
+    told(&[&quoted, good.as_bytes()], carried);
+    told(&[good.as_bytes(), &quoted], carried);
 }
 
 /// Of each view of the samples but one the row prints the label of the files.

@@ -243,7 +243,7 @@ fn messages() -> Vec<String> {
         (words, refusal(14, 0, 7, 2), "csv"),
         (words, refusal(14, 0, 17, 2), "csv"),
         (words, refusal(15, 0, 0, 0), "view 12"),
-        (words, refusal(15, 0, 0, 7), "csv"),
+        (words, refusal(15, 0, 0, 0), "csv"),
         (words, refusal(16, 1, 0, 1), "files"),
         (words, refusal(16, 2, 0, 47), "files"),
         (book_words, refusal(17, 0, 0, 0), "view 3"),
