@@ -46,7 +46,7 @@ fn damaged_table_files_give_their_refusal_at_its_place() {
 
 #[test]
 fn damaged_point_files_give_their_refusal_at_its_place() {
-    for number in FILE_REFUSALS {
+    for number in FILE_REFUSALS.into_iter().chain([7]) {
         for place in Place::ALL {
             let mut reached = 0;
             for seed in 0..ROUNDS {
@@ -60,7 +60,7 @@ fn damaged_point_files_give_their_refusal_at_its_place() {
                     reached += 1;
                 }
             }
-            let possible = Place::of(number).contains(&place);
+            let possible = number != 7 && Place::of(number).contains(&place);
             assert_eq!(reached > 0, possible, "{number} {place:?}");
         }
     }
