@@ -1,2 +1,3 @@
+pub mod Organisations
 pub mod Says
 pub mod Meant

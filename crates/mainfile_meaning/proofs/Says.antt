@@ -25,61 +25,7 @@ use Rattle.mainfile_source.specs.Delivery.{start_at, joined_found, own_found, de
 use Rattle.mainfile_source.proofs.Joining.{organisation-found}
 use Rattle.mainfile_source.proofs.Places.{own-before}
 use Rattle.mainfile_meaning.specs.Elements.{Inside}
-
--- a field of at most eight digits
-eight : (rec : List ℕ) (from to : ℕ) → to - from ≤ 8 → value (part rec from to) < 100_000_000
-eight rec from to h = digits-below 8 (part rec from to) (omega arith) (omega (arith, part-bound rec from to))
-
--- ---- the organisation
-
-module _ (organisations rec : List ℕ) where
-  own-none : needs_row rec ≡ false → own_found organisations rec ≡ 0
-  unfolding own_found
-  own-none e = rw e
-
-  own-some : needs_row rec ≡ true → own_found organisations rec ≡ joined_found organisations rec
-  unfolding own_found
-  own-some e = rw e
-
-  -- the texts of a row that is there
-  row-part : (row from to x y : ℕ) → row < length organisations / 153 → to ≤ 153 → x ≡ row * 153 + from
-      → y ≡ row * 153 + to
-      → part organisations x y ≡ part (record_at 153 organisations row) from to
-  row-part row from to x y h k e f = rw (e, f) (sym (record-part 153 organisations row h from to k))
-
-  row-text : (row from to x y : ℕ) → row < length organisations / 153 → to ≤ 153 → x ≡ row * 153 + from
-      → y ≡ row * 153 + to
-      → text_in organisations x y ≡ text_in (record_at 153 organisations row) from to
-  unfolding text_in
-  row-text row from to x y h k e f = ap trim (row-part row from to x y h k e f)
-
-  module _ (t : Accepted Format.organisations organisations) where
-    joined_is : joined_found organisations rec ≡ joined_row organisations rec
-    unfolding joined_row
-    joined_is =
-        rw (
-          organisation-found organisations t 76 (value (part rec 7 15)) (eight rec 7 15 (omega arith)),
-          organisation-found organisations t 83 (value (part rec 69 77)) (eight rec 69 77 (omega arith)),
-        ) refl
-
-    organisation-said : (needs : Bool) (row : ℕ) → needs_row rec ≡ needs → own_found organisations rec ≡ row
-        → cond (not (eqb row 0))
-        (named (text_in organisations (row * 153 + 9) (row * 153 + 9 + 60))
-        (text_in organisations (row * 153 + 9 + 60) (row * 153 + 9 + 120)))
-        (cond (needs && eqb row 0) lacking none_needed)
-        ≡ cond needs (organisation_at organisations (joined_row organisations rec)) none_needed
-    organisation-said true zero e f = rw (sym joined_is ∙ (sym (own-some e) ∙ f)) refl
-    organisation-said true (suc q) e f =
-        let there : suc q < length organisations / 153 = omega (arith, f, own-before organisations rec) in
-        let row = suc q in
-        rw (
-          sym joined_is ∙ (sym (own-some e) ∙ f),
-          row-text row 9 69 (row * 153 + 9) (row * 153 + 9 + 60) there (omega arith) refl (omega arith),
-          row-text row 69 129 (row * 153 + 9 + 60) (row * 153 + 9 + 120) there (omega arith) (omega arith) (omega arith),
-        )
-        (simp (ne_eqb (suc q) 0 (λ z. omega arith)))
-    organisation-said false zero e f = refl
-    organisation-said false (suc q) e f = absurd (omega (arith, f, own-none e))
+use Rattle.mainfile_meaning.proofs.Organisations.{eight, organisation-said}
 
 -- ---- a record of the address file
 

@@ -16,6 +16,8 @@ use Rattle.source.specs.Address.{Organisation, none_needed, named, lacking, Addr
 use Rattle.source.specs.Resolve.{forbidden, lacks, missing_from, lacks_organisation, missing, elements_of, Resolved, elements, refused, resolve}
 use Rattle.source.specs.Delivery.{Says, organisation_in, rows_for, asked_of, forbidden_in, lacking_from, missing_in, refusal_in}
 use Rattle.shelf.specs.Stock.{Stock, look_in}
+pub use Rattle.source_meaning.proofs.Verdicts.{resolved_by}
+use Rattle.source_meaning.proofs.Verdicts.{by-verdict}
 
 -- a key that finds row r lacks it where it has no texts
 lacks-meant : (t : Bool) (r : ℕ) (texts : List (List ℕ))
@@ -34,18 +36,6 @@ lacking-said true true name department e = sym e
 lacking-said true false name department e = refl
 lacking-said false true name department e = refl
 lacking-said false false name department e = refl
-
--- what is resolved, by the verdict of the refusals
-abbrev pub resolved_by : Verdict → Elements → Resolved
-resolved_by Fine es = elements es
-resolved_by (Bad why) es = refused why
-
-by-verdict : (t u : Bool) (eight nine : Reason) (es : Elements)
-    → cond t (cond u (elements es) (refused nine)) (refused eight)
-    ≡ resolved_by (cond t (cond u Fine (Bad nine)) (Bad eight)) es
-by-verdict true true eight nine es = refl
-by-verdict true false eight nine es = refl
-by-verdict false u eight nine es = refl
 
 module _ (st : Stock) where
   from-meant : (n : ℕ) (kinds keys : List ℕ)
