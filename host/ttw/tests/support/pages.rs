@@ -11,13 +11,14 @@ fn documents_in(folder: &str) -> Vec<PathBuf> {
     paths.filter(|path| path.is_file()).collect()
 }
 
-/// The documents, README first.
+/// The documents, README first; but docs/PORT.md, which names what is no more.
 pub fn documents() -> Vec<PathBuf> {
     let mut documents = vec![root().join("README.md")];
     for folder in ["docs", "docs/calls", "docs/landings"] {
         documents.extend(documents_in(folder));
     }
     documents.push(root().join("CHANGELOG.md"));
+    documents.retain(|path| !path.ends_with("docs/PORT.md"));
     documents
 }
 
