@@ -64,11 +64,31 @@ const CHANGES: [(&str, &str, &str); 15] = [
         "the module is not for x86_64-unknown-linux-gnu",
     ),
     ("alloca [16 x i8]", "alloca i128", "the module says i128"),
-    ("alloca [16 x i8]", "alloca double", "the module says double"),
-    ("alloca [16 x i8]", "alloca <2 x i64>", "the module says <, >, x"),
-    ("alloca [16 x i8]", "alloca { i64, i8 }", "the module says {, }"),
-    ("alloca [16 x i8]", "alloca { ptr, i32 }", "the module says {, }"),
-    ("alloca [16 x i8]", "alloca [2 x i64]", "the module says [N x i64]"),
+    (
+        "alloca [16 x i8]",
+        "alloca double",
+        "the module says double",
+    ),
+    (
+        "alloca [16 x i8]",
+        "alloca <2 x i64>",
+        "the module says <, >, x",
+    ),
+    (
+        "alloca [16 x i8]",
+        "alloca { i64, i8 }",
+        "the module says {, }",
+    ),
+    (
+        "alloca [16 x i8]",
+        "alloca { ptr, i32 }",
+        "the module says {, }",
+    ),
+    (
+        "alloca [16 x i8]",
+        "alloca [2 x i64]",
+        "the module says [N x i64]",
+    ),
     (
         "target triple",
         "@static.99 = private unnamed_addr constant [1 x i16] [i16 7]\ntarget triple",
