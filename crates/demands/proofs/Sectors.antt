@@ -16,8 +16,7 @@ use Rattle.field_outward.specs.Inward.{inward_letter, inward_fault}
 use Rattle.field_outward.proofs.Long.{inward-long}
 use Rattle.field_outward.proofs.Codes.{inward-bytes}
 use Rattle.refusal.specs.Outcome.{after}
-use Rattle.refusal.specs.declared.Reason.TheVariants.{Later}
-use Rattle.refusal.specs.declared.LaterReason.TheVariants.{BadDigit}
+use Rattle.refusal.specs.declared.Reason.TheVariants.{BadDigit}
 use Rattle.refusal.specs.declared.Answer.{Answer}
 use Rattle.refusal.specs.declared.Answer.TheVariants.{Value, Refused}
 use Rattle.pack.specs.Names.{inward_at, postcode_width, point_width}
@@ -51,10 +50,10 @@ sector-asked pack d = by-opened (opened pack) refl
         let low = leb-true d 9 h in
         counted e low
         (λ third. read-is-counted pack (opened-all pack n e).counts (eq-eqb (edition pack) 3 third) d (omega arith))
-        (asked e ∙ ap (λ t. cond t (Value (in_sector d (point_digits pack))) (Refused 0 (Later BadDigit))) h)
+        (asked e ∙ ap (λ t. cond t (Value (in_sector d (point_digits pack))) (Refused 0 BadDigit)) h)
     by-digit e false h =
         no_digit e (leb-false d 9 h)
-        (asked e ∙ ap (λ t. cond t (Value (in_sector d (point_digits pack))) (Refused 0 (Later BadDigit))) h)
+        (asked e ∙ ap (λ t. cond t (Value (in_sector d (point_digits pack))) (Refused 0 BadDigit)) h)
 
     by-opened : (o : Answer) → opened pack ≡ o → SectorAsked pack d
     by-opened (Value n) e = by-digit e (leb d 9) refl

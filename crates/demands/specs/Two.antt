@@ -8,8 +8,7 @@ use Rattle.field.specs.Test.{within}
 use Rattle.field_outward.specs.Outward.{outward_fault}
 use Rattle.field_outward.specs.Inward.{suffix_fault}
 use Rattle.refusal.specs.declared.Reason.{Reason}
-use Rattle.refusal.specs.declared.Reason.TheVariants.{NoSuchNumber, Combination, MissingKey, Room, BadCode, NoSuffix, Later}
-use Rattle.refusal.specs.declared.LaterReason.TheVariants.{BadDigit}
+use Rattle.refusal.specs.declared.Reason.TheVariants.{NoSuchNumber, Combination, MissingKey, Room, BadCode, NoSuffix, BadDigit}
 use Rattle.refusal.specs.declared.Answer.{Answer}
 use Rattle.refusal.specs.declared.Answer.TheVariants.{Value, Refused}
 use Rattle.refusal.specs.Outcome.{Outcome, said}
@@ -146,7 +145,7 @@ pub data SectorAsked (pack : List ℕ) (digit : ℕ) : Type 0 where
       → pack_sector pack digit ≡ Refused file why
       → SectorAsked pack digit
   no_digit : {n : ℕ} → opened pack ≡ Value n → 9 < digit
-      → pack_sector pack digit ≡ Refused 0 (Later BadDigit)
+      → pack_sector pack digit ≡ Refused 0 BadDigit
       → SectorAsked pack digit
   counted : {n : ℕ} → opened pack ≡ Value n → digit ≤ 9
       → (edition pack ≡ 3 → count_said pack digit ≡ in_sector digit (point_digits pack))

@@ -17,18 +17,10 @@ use Rattle.refusal.proofs.Verdicts.{bad-fine, both-fine}
 use Rattle.refusal.specs.declared.Answer.TheVariants.{Value, Refused}
 use Rattle.refusal.specs.declared.Verdict.{Verdict}
 use Rattle.refusal.specs.declared.Verdict.TheVariants.{Fine, Bad}
-use Rattle.file.specs.Check.{Format, records, whole, at, rises, in_place, judged, scan, last, verdict, answered, checked}
+use Rattle.file.specs.Check.{Format, records, whole, at, rises, in_place, judged, scan, verdict, answered, checked}
 use Rattle.refusal.specs.Verdict.{or_else}
 use Rattle.file.specs.Accepted.{FineRecord, Accepted}
-use Rattle.file.proofs.Laws.{
-  judged-fine,
-  verdict-length,
-  verdict-retired-head,
-  verdict-header,
-  verdict-retired-end,
-  verdict-trailer,
-  verdict-scan,
-}
+use Rattle.file.proofs.Laws.{judged-fine, verdict-length, verdict-header, verdict-trailer, verdict-scan}
 
 -- of a scan that found nothing, each verdict is fine
 pub scan-fine : (judge : ℕ → Verdict) (k i : ℕ) → scan judge k i ≡ Fine → (j : ℕ) → i ≤ j → j < i + k → judge j ≡ Fine
@@ -66,32 +58,22 @@ fine-scan judge (suc k) i h =
 module _ (f : Format) (file : List ℕ) where
   verdict-accepted : verdict f file ≡ Fine → Accepted f file
   verdict-accepted e =
-      by_tests (whole f file) (f.retired (at f file 0)) (f.headed (at f file 0)) (f.retired (last f file))
-      (f.ended (records f file) (last f file)) refl refl refl refl refl
+      by_tests (whole f file) (f.headed (at f file 0))
+      (f.ended (records f file) (at f file (records f file - 1))) refl refl refl
     where
       scanned : scan (judged f file) (records f file - 2) 1 ≡ Fine → (i : ℕ) → 1 ≤ i → i < records f file - 1
           → FineRecord f file i
       scanned h i p q =
           judged-record f file i (scan-fine (judged f file) (records f file - 2) 1 h i p (omega arith))
 
-      by_tests : (t u v w x : Bool) → whole f file ≡ t → f.retired (at f file 0) ≡ u → f.headed (at f file 0) ≡ v
-          → f.retired (last f file) ≡ w
-          → f.ended (records f file) (last f file) ≡ x
+      by_tests : (t u v : Bool) → whole f file ≡ t → f.headed (at f file 0) ≡ u
+          → f.ended (records f file) (at f file (records f file - 1)) ≡ v
           → Accepted f file
-      by_tests true false true false true p q r s z =
-          record {
-            is_whole = p;
-            current_head = q;
-            headed = r;
-            current_end = s;
-            ended = z;
-            each = scanned (sym (verdict-scan f file p q r s z) ∙ e);
-          }
-      by_tests true false true false false p q r s z = absurd (bad-fine _ (sym (verdict-trailer f file p q r s z) ∙ e))
-      by_tests true false true true x p q r s z = absurd (bad-fine _ (sym (verdict-retired-end f file p q r s) ∙ e))
-      by_tests true false false w x p q r s z = absurd (bad-fine _ (sym (verdict-header f file p q r) ∙ e))
-      by_tests true true v w x p q r s z = absurd (bad-fine _ (sym (verdict-retired-head f file p q) ∙ e))
-      by_tests false u v w x p q r s z = absurd (bad-fine _ (sym (verdict-length f file p) ∙ e))
+      by_tests true true true p q r =
+          record { is_whole = p; headed = q; ended = r; each = scanned (sym (verdict-scan f file p q r) ∙ e) }
+      by_tests true true false p q r = absurd (bad-fine _ (sym (verdict-trailer f file p q r) ∙ e))
+      by_tests true false v p q r = absurd (bad-fine _ (sym (verdict-header f file p q) ∙ e))
+      by_tests false u v p q r = absurd (bad-fine _ (sym (verdict-length f file p) ∙ e))
 
   -- a file that is answered with a number is accepted
   pub accepted : (n : ℕ) → checked f file ≡ Value n → Accepted f file
@@ -105,4 +87,4 @@ module _ (f : Format) (file : List ℕ) where
   -- and an accepted file is so answered
   pub accepts : Accepted f file → checked f file ≡ Value (records f file)
   unfolding checked
-  accepts a = ap (answered f file) (verdict-scan f file a.is_whole a.current_head a.headed a.current_end a.ended ∙ fine-scan (judged f file) (records f file - 2) 1 (λ i p q. record-judged f file i (a.each i p (omega arith))))
+  accepts a = ap (answered f file) (verdict-scan f file a.is_whole a.headed a.ended ∙ fine-scan (judged f file) (records f file - 2) 1 (λ i p q. record-judged f file i (a.each i p (omega arith))))

@@ -11,10 +11,10 @@ use lib.ListN.{length}
 use Rattle.field.proofs.Tests.{and_left, and_right}
 use Rattle.refusal.specs.Refusal.{malformed_at}
 use Rattle.refusal.specs.declared.Reason.{Reason}
-use Rattle.refusal.specs.declared.Reason.TheVariants.{Length, Header, Trailer, NotAbove, Follower, Retired}
+use Rattle.refusal.specs.declared.Reason.TheVariants.{Length, Header, Trailer, NotAbove, Follower}
 use Rattle.refusal.specs.declared.Verdict.{Verdict}
 use Rattle.refusal.specs.declared.Verdict.TheVariants.{Fine, Bad}
-use Rattle.file.specs.Check.{Format, records, whole, at, rises, in_place, judged, scan, last, verdict}
+use Rattle.file.specs.Check.{Format, records, whole, at, rises, in_place, judged, scan, verdict}
 use Rattle.file.specs.Formats.{format_of}
 use Rattle.file.specs.declared.Kind.{Kind}
 use Rattle.file.specs.declared.Kind.TheVariants.{Table, Points, Main}
@@ -48,15 +48,6 @@ main-between Buildings before rec next = refl
 main-between SubBuildings before rec next = refl
 main-between Organisations before rec next = refl
 main-between Addresses before rec next = refl
-
-pub main-current : (file : MainKind) (rec : List ℕ) → (main_format file).retired rec ≡ false
-main-current Localities rec = refl
-main-current Thoroughfares rec = refl
-main-current Descriptors rec = refl
-main-current Buildings rec = refl
-main-current SubBuildings rec = refl
-main-current Organisations rec = refl
-main-current Addresses rec = refl
 
 -- no format has more records than a refusal can name
 pub limit-few : (kind : Kind) → (format_of kind).limit ≤ 1_000_000
@@ -132,27 +123,17 @@ module _ (f : Format) (file : List ℕ) where
   verdict-length e = simp e
 
   module _ (is_whole : whole f file ≡ true) where
-    pub verdict-retired-head : f.retired (at f file 0) ≡ true → verdict f file ≡ Bad (Retired 1)
+    pub verdict-header : f.headed (at f file 0) ≡ false → verdict f file ≡ Bad Header
     unfolding verdict
-    verdict-retired-head e = simp (is_whole, e)
+    verdict-header e = simp (is_whole, e)
 
-    module _ (current_head : f.retired (at f file 0) ≡ false) where
-      pub verdict-header : f.headed (at f file 0) ≡ false → verdict f file ≡ Bad Header
+    module _ (head : f.headed (at f file 0) ≡ true) where
+      pub verdict-trailer : f.ended (records f file) (at f file (records f file - 1)) ≡ false
+          → verdict f file ≡ Bad (Trailer (records f file))
       unfolding verdict
-      verdict-header e = simp (is_whole, current_head, e)
+      verdict-trailer e = simp (is_whole, head, e)
 
-      module _ (head : f.headed (at f file 0) ≡ true) where
-        pub verdict-retired-end : f.retired (last f file) ≡ true → verdict f file ≡ Bad (Retired (records f file))
-        unfolding verdict
-        verdict-retired-end e = simp (is_whole, current_head, head, e)
-
-        module _ (current_end : f.retired (last f file) ≡ false) where
-          pub verdict-trailer : f.ended (records f file) (last f file) ≡ false
-              → verdict f file ≡ Bad (Trailer (records f file))
-          unfolding verdict
-          verdict-trailer e = simp (is_whole, current_head, head, current_end, e)
-
-          pub verdict-scan : f.ended (records f file) (last f file) ≡ true
-              → verdict f file ≡ scan (judged f file) (records f file - 2) 1
-          unfolding verdict
-          verdict-scan e = simp (is_whole, current_head, head, current_end, e)
+      pub verdict-scan : f.ended (records f file) (at f file (records f file - 1)) ≡ true
+          → verdict f file ≡ scan (judged f file) (records f file - 2) 1
+      unfolding verdict
+      verdict-scan e = simp (is_whole, head, e)

@@ -1,8 +1,7 @@
--- When a file is accepted: "Order for a file: 1, 2, 3, then record by record 4, 5, 6", 16 directly before 2 and 3, and none
--- of them is given.
+-- When a file is accepted: "Order for a file: 1, 2, 3, then record by record 4, 5, 6", and none of them is given.
 -- Assumes nothing.
-use Rattle.std.specs.Prelude.{ℕ, ◌-◌, ◌≤◌, ◌<◌, ◌≡◌, true, false, List}
-use Rattle.file.specs.Check.{Format, records, whole, at, rises, in_place, last}
+use Rattle.std.specs.Prelude.{ℕ, ◌-◌, ◌≤◌, ◌<◌, ◌≡◌, true, List}
+use Rattle.file.specs.Check.{Format, records, whole, at, rises, in_place}
 
 -- what a record that is judged fine is
 pub record FineRecord (f : Format) (file : List ℕ) (i : ℕ) : Type 0 where
@@ -13,8 +12,6 @@ pub record FineRecord (f : Format) (file : List ℕ) (i : ℕ) : Type 0 where
 -- an accepted file
 pub record Accepted (f : Format) (file : List ℕ) : Type 0 where
   pub is_whole : whole f file ≡ true
-  pub current_head : f.retired (at f file 0) ≡ false
   pub headed : f.headed (at f file 0) ≡ true
-  pub current_end : f.retired (last f file) ≡ false
-  pub ended : f.ended (records f file) (last f file) ≡ true
+  pub ended : f.ended (records f file) (at f file (records f file - 1)) ≡ true
   pub each : (i : ℕ) → 1 ≤ i → i < records f file - 1 → FineRecord f file i

@@ -1,7 +1,6 @@
 -- When a file is accepted, and the first refusal where it is not: "Order for a file: 1, 2, 3, then record by record 4, 5,
--- 6"; "16, retired identifier, with that record's number: directly before 2 for the header, before 3 for the trailer"
--- (document 02, No. 9). Everything that differs from file to file is a part of its format. Records are counted from 0 here
--- and from 1 in a refusal.
+-- 6". Everything that differs from file to file is a part of its format. Records are counted from 0 here and from 1 in
+-- a refusal.
 -- Assumes nothing.
 use Rattle.std.specs.Prelude.{ℕ, zero, suc, ◌+◌, ◌-◌, ◌*◌, ◌/◌, Bool, cond, ◌&&◌, ◌||◌, List, leb, eqb, length}
 use Rattle.file_record.specs.Parts.{record_at}
@@ -9,7 +8,7 @@ use Rattle.file_compare.specs.Order.{above}
 use Rattle.refusal.specs.Refusal.{malformed_at}
 use Rattle.refusal.specs.Verdict.{or_else}
 use Rattle.refusal.specs.declared.Reason.{Reason}
-use Rattle.refusal.specs.declared.Reason.TheVariants.{Length, Header, Trailer, NotAbove, Follower, Retired}
+use Rattle.refusal.specs.declared.Reason.TheVariants.{Length, Header, Trailer, NotAbove, Follower}
 use Rattle.refusal.specs.declared.Answer.{Answer}
 use Rattle.refusal.specs.declared.Answer.TheVariants.{Value, Refused}
 use Rattle.refusal.specs.declared.Verdict.{Verdict}
@@ -22,8 +21,6 @@ pub record Format : Type 0 where
   pub width : ℕ
   -- the most records
   pub limit : ℕ
-  -- whether a header or trailer has an identifier that is retired
-  pub retired : List ℕ → Bool
   -- whether a record is the header
   pub headed : List ℕ → Bool
   -- whether a record is the trailer of so many records
@@ -76,22 +73,14 @@ scan judge zero i = Fine
 scan judge (suc k) i = or_else (judge i) (scan judge k (suc i))
 
 module _ (f : Format) (file : List ℕ) where
-  -- the trailer
-  abbrev pub last : List ℕ
-  last = at f file (records f file - 1)
-
   unfoldable pub verdict : Verdict
   verdict =
       cond (whole f file)
-      (cond (f.retired (at f file 0))
-      (Bad (Retired 1))
       (cond (f.headed (at f file 0))
-      (cond (f.retired last)
-      (Bad (Retired (records f file)))
-      (cond (f.ended (records f file) last)
+      (cond (f.ended (records f file) (at f file (records f file - 1)))
       (scan (judged f file) (records f file - 2) 1)
-      (Bad (Trailer (records f file)))))
-      (Bad Header)))
+      (Bad (Trailer (records f file))))
+      (Bad Header))
       (Bad Length)
 
   abbrev pub answered : Verdict → Answer

@@ -7,7 +7,7 @@ use Rattle.file_record.specs.Parts.{record_at}
 use Rattle.file_record.specs.Names.Table
 use Rattle.file_record.specs.Names.Point
 use Rattle.file_compare.specs.Order.{same}
-use Rattle.file_ends.specs.Ends.{retired, header_ok, trailer_ok}
+use Rattle.file_ends.specs.Ends.{header_ok, trailer_ok}
 use Rattle.file_fault.specs.Table.{table_fault}
 use Rattle.file_fault.specs.Point.{point_fault}
 use Rattle.file.specs.Check.{Format}
@@ -20,15 +20,13 @@ abbrev pub changes : ℕ → List ℕ
 changes digit = 67 ∷ 72 ∷ 65 ∷ 78 ∷ 71 ∷ 69 ∷ 83 ∷ digit ∷ []
 
 -- "Table file, 169 bytes a record. Header: identifier 9"; "Sequence in the table file is to be over the first 24 bytes
--- (type, key, date, time, letter), still strictly rising"; "In table and point files they [space identifiers] get a refusal
--- of their own"
+-- (type, key, date, time, letter), still strictly rising"
 abbrev pub table_format : Format
 table_format =
     record {
       file = 1;
       width = Table.width;
       limit = 20_000;
-      retired = retired Table.identifier;
       headed = header_ok Table.identifier (changes 49);
       ended = trailer_ok Table.identifier;
       sequence = λ rec. part rec 0 Table.text;
@@ -70,7 +68,6 @@ point_format =
       file = 2;
       width = Point.width;
       limit = 20_000;
-      retired = retired Point.identifier;
       headed = header_ok Point.identifier (changes 50);
       ended = trailer_ok Point.identifier;
       sequence = λ rec. part rec 0 Point.rest;

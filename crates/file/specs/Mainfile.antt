@@ -1,7 +1,7 @@
 -- The seven formats of a Mainfile set: "Files are extracts with at most 1,000,000 records each"; "Refusals: 1 to 5 under the
 -- new limit (5 by chapter 5's sequence), behind the file's number, 1 to 7 as listed".
 -- Assumes nothing.
-use Rattle.std.specs.Prelude.{ℕ, Bool, true, false, List, [], ◌∷◌, ◌++◌}
+use Rattle.std.specs.Prelude.{ℕ, Bool, true, List, [], ◌∷◌, ◌++◌}
 use Rattle.field.specs.Text.{part}
 use Rattle.mainfile_record.specs.Locality as MainLocality
 use Rattle.mainfile_record.specs.Text as MainText
@@ -28,10 +28,6 @@ main_limit = 1_000_000
 abbrev pub anywhere : List ℕ → List ℕ → List ℕ → Bool
 anywhere before rec next = true
 
--- a set keeps its spaces: No. 9 names table and point files alone
-abbrev pub never : List ℕ → Bool
-never rec = false
-
 -- files 1 to 6: a name in the header, what the sequence compares, and the test of a record
 abbrev pub main_file : (file width : ℕ) → (name : List ℕ) → (sequence : List ℕ → List ℕ) → (fault : List ℕ → ℕ) → Format
 main_file file width name sequence fault =
@@ -39,7 +35,6 @@ main_file file width name sequence fault =
       file = file;
       width = width;
       limit = main_limit;
-      retired = never;
       headed = main_header_ok name;
       ended = main_trailer_ok;
       sequence = sequence;
@@ -87,7 +82,6 @@ addresses =
       file = 7;
       width = MainAddress.width;
       limit = main_limit;
-      retired = never;
       headed = address_header_ok (65 ∷ 68 ∷ 68 ∷ 82 ∷ 69 ∷ 83 ∷ 83 ∷ 32 ∷ []);
       ended = address_trailer_ok;
       sequence =

@@ -3,9 +3,7 @@
 // A file is records end to end: a header, records, a trailer. An accepted file is answered with how many records it has,
 // header and trailer counted; any other with the file to blame and the first reason, in this order:
 //   1 Length     not 2 or more whole records, or more than its format allows
-//  16 Retired    record 1 has spaces for its identifier, in a table or point file
 //   2 Header     record 1 is no header of its format
-//  16 Retired    the same of the last record
 //   3 Trailer    the last record is no trailer of so many records
 // then, record by record,
 //   4 Malformed  the byte of the record's first fault
@@ -22,7 +20,7 @@ ghost use Rattle.file.specs.Mainfile.{main_format};
 
 use file::{Kind, MainKind};
 use file_formats::inner::{
-    fault_in, is_above, is_between, is_header, is_retired, is_standing, is_trailer, is_whole,
+    fault_in, is_above, is_between, is_header, is_standing, is_trailer, is_whole,
     numbers_of, record_in, records_in,
 };
 use file_record::Cursor;
@@ -83,7 +81,7 @@ fn scan_records(kind: Kind, file: &[u8], n: usize) -> Verdict
     Verdict::Fine
 }
 
-// The first refusal of a file: 1, 2, 3, each of 2 and 3 behind 16, then record by record.
+// The first refusal of a file: 1, 2, 3, then record by record.
 fn verdict_of(kind: Kind, file: &[u8]) -> Verdict
     ensures { result ≡ verdict (format_of kind) file.now }
 {
@@ -91,18 +89,10 @@ fn verdict_of(kind: Kind, file: &[u8]) -> Verdict
         return Verdict::Bad(Reason::Length);
     }
     let n = records_in(kind, file);
-    let first = record_in(kind, file, 0);
-    if is_retired(kind, first) {
-        return Verdict::Bad(Reason::Retired { record: 1 });
-    }
-    if !is_header(kind, first) {
+    if !is_header(kind, record_in(kind, file, 0)) {
         return Verdict::Bad(Reason::Header);
     }
-    let last = record_in(kind, file, n - 1);
-    if is_retired(kind, last) {
-        return Verdict::Bad(Reason::Retired { record: n });
-    }
-    if !is_trailer(kind, last, n) {
+    if !is_trailer(kind, record_in(kind, file, n - 1), n) {
         return Verdict::Bad(Reason::Trailer { record: n });
     }
     scan_records(kind, file, n)

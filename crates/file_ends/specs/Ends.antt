@@ -11,10 +11,6 @@ use Rattle.file_compare.specs.Order.{same}
 unfoldable pub identifier : ℕ → List ℕ → ℕ
 identifier proper s = cond (only proper s) 1 (cond (only 32 s) 2 0)
 
--- "an identifier of all spaces", w bytes: retired where the format says so (document 02, No. 9)
-unfoldable pub retired : ℕ → List ℕ → Bool
-retired w rec = only 32 (part rec 0 w)
-
 -- "Header: identifier .., file identifier 8"; the rest is not read
 unfoldable pub header_ok : ℕ → List ℕ → List ℕ → Bool
 header_ok w name rec = not (eqb (identifier 0 (part rec 0 w)) 0) && same (part rec w (w + 8)) name

@@ -2,7 +2,7 @@
 #![tactic(auto)]
 
 ghost use Rattle.std.specs.Prelude.{◌≡◌};
-ghost use Rattle.file_ends.specs.Ends.{identifier, retired, header_ok, trailer_ok};
+ghost use Rattle.file_ends.specs.Ends.{identifier, header_ok, trailer_ok};
 
 use file_compare::order_of;
 use file_record::part_of;
@@ -16,13 +16,6 @@ pub fn identifier_of(s: &[u8], proper: u8) -> usize
     } else {
         if field_test::all_are(s, b' ') { 2 } else { 0 }
     }
-}
-
-// Whether a header or trailer has spaces for its identifier of `width` bytes.
-pub fn is_retired(rec: &[u8], width: u8) -> bool
-    ensures { result ≡ retired width rec.now }
-{
-    field_test::all_are(part_of(rec, 0, width as usize), b' ')
 }
 
 // Whether a header has an identifier of `width` bytes and the file's name behind it.

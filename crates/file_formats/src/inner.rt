@@ -73,17 +73,6 @@ pub fn record_in(kind: Kind, file: &[u8], i: usize) -> &[u8]
     }
 }
 
-// Whether a header or trailer has an identifier that is retired.
-pub fn is_retired(kind: Kind, rec: &[u8]) -> bool
-    ensures { result ≡ (format_of kind).retired rec.now }
-{
-    match kind {
-        Kind::Table => file_ends::is_retired(rec, Table::IDENTIFIER),
-        Kind::Points => file_ends::is_retired(rec, Point::IDENTIFIER),
-        Kind::Main(main) => false,
-    }
-}
-
 pub fn is_header(kind: Kind, rec: &[u8]) -> bool
     ensures { result ≡ (format_of kind).headed rec.now }
 {

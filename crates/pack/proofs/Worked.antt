@@ -8,8 +8,7 @@ use Rattle.field.specs.Text.{trim, text_in, text_fault, numeric_like}
 use Rattle.file_compare.specs.Order.{order}
 use Rattle.field_outward.specs.Outward.{class, allowed, outward_fault}
 use Rattle.field_outward.specs.Inward.{inward_letter, inward_fault, suffix_fault}
-use Rattle.refusal.specs.declared.Reason.TheVariants.{BadPack, NoSuchNumber, NoSuffix, Later}
-use Rattle.refusal.specs.declared.LaterReason.TheVariants.{BadDigit}
+use Rattle.refusal.specs.declared.Reason.TheVariants.{BadPack, NoSuchNumber, NoSuffix, BadDigit}
 use Rattle.refusal.specs.declared.Answer.{Answer}
 use Rattle.refusal.specs.declared.Answer.TheVariants.{Value, Refused}
 use Rattle.refusal.specs.Packed.{word, packed}
@@ -98,7 +97,7 @@ suffix-1 = (refl, (refl, refl))
 abbrev asked : List ℕ → List Answer
 asked pack = sector_answer (point_digits pack) 8 ∷ sector_answer (point_digits pack) 9 ∷ sector_answer (point_digits pack) 10 ∷ []
 
-pub sectors : (asked worked ≡ Value 0 ∷ Value 1 ∷ Refused 0 (Later BadDigit) ∷ []) × (asked worked1 ≡ asked worked)
+pub sectors : (asked worked ≡ Value 0 ∷ Value 1 ∷ Refused 0 BadDigit ∷ []) × (asked worked1 ≡ asked worked)
 unfolding number_at sector_answer
 sectors = (refl, refl)
 

@@ -4,8 +4,7 @@
 use Rattle.std.specs.Prelude.{ℕ, ◌+◌, ◌*◌, ◌-◌, Bool, cond, ◌&&◌, List, [], eqb, leb, get_or}
 use Rattle.std.proofs.Math.Option.{Option, none, some}
 use Rattle.field.specs.Text.{text_in, part}
-use Rattle.refusal.specs.declared.Reason.TheVariants.{NoSuchNumber, NoSuffix, Later}
-use Rattle.refusal.specs.declared.LaterReason.TheVariants.{BadDigit}
+use Rattle.refusal.specs.declared.Reason.TheVariants.{NoSuchNumber, NoSuffix, BadDigit}
 use Rattle.refusal.specs.declared.Answer.{Answer}
 use Rattle.refusal.specs.declared.Answer.TheVariants.{Value, Refused}
 use Rattle.refusal.specs.Outcome.{Outcome, said, after, afterwards}
@@ -105,7 +104,7 @@ kth_suffix addresses k = suffix_of (kth addresses k)
 
 -- how many of these first bytes of inward codes are of a sector: "27, inward digit above 9"
 unfoldable pub sector_answer : List ℕ → ℕ → Answer
-sector_answer firsts digit = cond (leb digit 9) (Value (in_sector digit firsts)) (Refused 0 (Later BadDigit))
+sector_answer firsts digit = cond (leb digit 9) (Value (in_sector digit firsts)) (Refused 0 BadDigit)
 
 -- of all points of any bytes: "27 .., after 11"
 unfoldable pub pack_sector : List ℕ → ℕ → Answer

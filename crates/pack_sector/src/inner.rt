@@ -8,7 +8,7 @@ ghost use Rattle.pack_sector.specs.Opening.{Opening};
 use pack_counts::inner::{count_digits, count_said};
 use pack_read::inner::trailer_number;
 use pack_read::{PackTrailer, has_counts, layout_in};
-use refusal::{Answer, LaterReason, Reason};
+use refusal::{Answer, Reason};
 
 // From the trailer, where it has counts, else by a walk over the points.
 fn sector_count(pack: &[u8], count: usize, digit: usize) -> usize
@@ -33,7 +33,7 @@ pub fn sector_of(pack: &[u8], count: usize, digit: usize) -> Answer
     if 9 < digit {
         return Answer::Refused {
             file: 0,
-            reason: Reason::Later(LaterReason::BadDigit),
+            reason: Reason::BadDigit,
         };
     }
     Answer::Value(sector_count(pack, count, digit))

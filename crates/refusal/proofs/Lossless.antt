@@ -10,8 +10,8 @@ use borrow.Author.Tests.{leb-true}
 use lib.Dec.{leb}
 use lib.ListN.{get_or}
 use Rattle.refusal.specs.declared.Reason.{Reason}
-use Rattle.refusal.specs.declared.Reason.TheVariants.{Length, Header, Trailer, Malformed, NotAbove, Follower, NoSuchNumber, Combination, MissingKey, Room, BadPack, BadCode, NoSuffix, BadRow, Uncarried, Retired, Later}
-use Rattle.refusal.specs.declared.LaterReason.TheVariants.{InsertedTwice, NotPresent, Unpaired, NoFreeSlot, BadDigit, NotABook}
+use Rattle.refusal.specs.declared.Reason.TheVariants.{Length, Header, Trailer, Malformed, NotAbove, Follower, NoSuchNumber, Combination, MissingKey, Room, BadPack, BadCode, NoSuffix, BadRow, Uncarried, BadDigit, Later}
+use Rattle.refusal.specs.declared.LaterReason.TheVariants.{InsertedTwice, NotPresent, Unpaired, NoFreeSlot, NotABook}
 use Rattle.refusal.specs.declared.Answer.{Answer}
 use Rattle.refusal.specs.declared.Answer.TheVariants.{Value, Refused}
 use Rattle.refusal.specs.Refusal.{number, detail, second}
@@ -29,18 +29,18 @@ reason-of n d s =
     ∷ NoSuffix
     ∷ BadRow d s
     ∷ Uncarried
-    ∷ Retired d
+    ∷ BadDigit
     ∷ Later InsertedTwice
     ∷ Later NotPresent
     ∷ Later Unpaired
     ∷ Later NoFreeSlot
-    ∷ Later BadDigit
-    ∷ Later BadDigit
-    ∷ Later BadDigit
-    ∷ Later BadDigit
-    ∷ Later BadDigit
-    ∷ Later BadDigit
-    ∷ Later BadDigit
+    ∷ BadDigit
+    ∷ BadDigit
+    ∷ BadDigit
+    ∷ BadDigit
+    ∷ BadDigit
+    ∷ BadDigit
+    ∷ BadDigit
     ∷ [])
     n (Later NotABook)
 
@@ -65,12 +65,11 @@ known BadCode = (refl, refl, refl)
 known NoSuffix = (refl, refl, refl)
 known (BadRow d s) = (refl, refl, refl)
 known Uncarried = (refl, refl, refl)
-known (Retired d) = (refl, refl, refl)
+known BadDigit = (refl, refl, refl)
 known (Later InsertedTwice) = (refl, refl, refl)
 known (Later NotPresent) = (refl, refl, refl)
 known (Later Unpaired) = (refl, refl, refl)
 known (Later NoFreeSlot) = (refl, refl, refl)
-known (Later BadDigit) = (refl, refl, refl)
 known (Later NotABook) = (refl, refl, refl)
 
 pub number-above-0 : (r : Reason) → 0 < number r

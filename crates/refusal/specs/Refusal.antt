@@ -2,23 +2,21 @@
 -- Assumes nothing.
 use Rattle.std.specs.Prelude.{ℕ}
 use Rattle.refusal.specs.declared.Reason.{Reason}
-use Rattle.refusal.specs.declared.Reason.TheVariants.{Length, Header, Trailer, Malformed, NotAbove, Follower, NoSuchNumber, Combination, MissingKey, Room, BadPack, BadCode, NoSuffix, BadRow, Uncarried, Retired, Later}
+use Rattle.refusal.specs.declared.Reason.TheVariants.{Length, Header, Trailer, Malformed, NotAbove, Follower, NoSuchNumber, Combination, MissingKey, Room, BadPack, BadCode, NoSuffix, BadRow, Uncarried, BadDigit, Later}
 use Rattle.refusal.specs.declared.LaterReason.{LaterReason}
-use Rattle.refusal.specs.declared.LaterReason.TheVariants.{InsertedTwice, NotPresent, Unpaired, NoFreeSlot, BadDigit, NotABook}
+use Rattle.refusal.specs.declared.LaterReason.TheVariants.{InsertedTwice, NotPresent, Unpaired, NoFreeSlot, NotABook}
 
--- those from 17 on: "17 inserted twice; 18 not present; 19 B without its C, or a C named; 20 all slots in use; 28 not a book"
--- (document 02, No. 10); "27, inward digit above 9" (No. 7)
+-- "17 inserted twice; 18 not present; 19 B without its C, or a C named; 20 all slots in use; 28 not a book" (document 02,
+-- No. 10)
 abbrev pub later_number : LaterReason → ℕ
 later_number InsertedTwice = 17
 later_number NotPresent = 18
 later_number Unpaired = 19
 later_number NoFreeSlot = 20
-later_number BadDigit = 27
 later_number NotABook = 28
 
 -- column "no."; "13, no suffix in this edition" (document 02, No. 6); "14 row malformed, with row and field; 15 field longer
--- than the guide allows, or with a comma or quote its quoting can't carry" (No. 8); "16, retired identifier, with that
--- record's number" (No. 9)
+-- than the guide allows, or with a comma or quote its quoting can't carry" (No. 8); "27, inward digit above 9" (No. 7)
 abbrev pub number : Reason → ℕ
 number Length = 1
 number Header = 2
@@ -35,7 +33,7 @@ number BadCode = 12
 number NoSuffix = 13
 number (BadRow row field) = 14
 number Uncarried = 15
-number (Retired at) = 16
+number BadDigit = 27
 number (Later why) = later_number why
 
 -- column "detail"; "No detail named means 0"
@@ -55,7 +53,7 @@ detail BadCode = 0
 detail NoSuffix = 0
 detail (BadRow row field) = row
 detail Uncarried = 0
-detail (Retired at) = at
+detail BadDigit = 0
 detail (Later why) = 0
 
 -- "refusal 4 then carries record and byte of the record" (document 02, No. 1); "Building: .. the label's 8 or 9 of the first
@@ -76,7 +74,7 @@ second BadCode = 0
 second NoSuffix = 0
 second (BadRow row field) = field
 second Uncarried = 0
-second (Retired at) = 0
+second BadDigit = 0
 second (Later why) = 0
 
 -- refusal 4 of a record, with the byte of its first fault
@@ -100,5 +98,5 @@ with_view view BadCode = BadCode
 with_view view NoSuffix = NoSuffix
 with_view view (BadRow row field) = BadRow row field
 with_view view Uncarried = Uncarried
-with_view view (Retired at) = Retired at
+with_view view BadDigit = BadDigit
 with_view view (Later why) = Later why

@@ -6,15 +6,13 @@ ghost use Rattle.std.specs.Prelude.{◌≡◌};
 ghost use Rattle.refusal.specs.Refusal.{later_number, number, detail, second, malformed_at, with_view};
 ghost use Rattle.refusal.specs.Packed.{word, packed};
 
-// The refusals from 17 on, which have no details: a type of their own, since a match of more cases than `Reason` has is read
-// by no proof.
+// The refusals of an address book, which have no details.
 #[derive(Clone, Copy)]
 pub enum LaterReason {
     InsertedTwice,
     NotPresent,
     Unpaired,
     NoFreeSlot,
-    BadDigit,
     NotABook,
 }
 
@@ -37,7 +35,7 @@ pub enum Reason {
     NoSuffix,
     BadRow { row: usize, field: usize },
     Uncarried,
-    Retired { record: usize },
+    BadDigit,
     Later(LaterReason),
 }
 
@@ -56,7 +54,7 @@ pub enum Answer {
     Refused { file: usize, reason: Reason },
 }
 
-// Document 02's number of a refusal from 17 on.
+// Document 02's number of a refusal of an address book.
 fn later_number(why: LaterReason) -> usize
     ensures { result ≡ later_number why }
 {
@@ -65,7 +63,6 @@ fn later_number(why: LaterReason) -> usize
         LaterReason::NotPresent => 18,
         LaterReason::Unpaired => 19,
         LaterReason::NoFreeSlot => 20,
-        LaterReason::BadDigit => 27,
         LaterReason::NotABook => 28,
     }
 }
@@ -90,7 +87,7 @@ pub fn number_of(reason: Reason) -> usize
         Reason::NoSuffix => 13,
         Reason::BadRow { row: _, field: _ } => 14,
         Reason::Uncarried => 15,
-        Reason::Retired { record: _ } => 16,
+        Reason::BadDigit => 27,
         Reason::Later(why) => later_number(why),
     }
 }
@@ -115,7 +112,7 @@ pub fn detail_of(reason: Reason) -> usize
         Reason::NoSuffix => 0,
         Reason::BadRow { row, field: _ } => row,
         Reason::Uncarried => 0,
-        Reason::Retired { record } => record,
+        Reason::BadDigit => 0,
         Reason::Later(_) => 0,
     }
 }
@@ -141,7 +138,7 @@ pub fn second_of(reason: Reason) -> usize
         Reason::NoSuffix => 0,
         Reason::BadRow { row: _, field } => field,
         Reason::Uncarried => 0,
-        Reason::Retired { record: _ } => 0,
+        Reason::BadDigit => 0,
         Reason::Later(_) => 0,
     }
 }
@@ -199,7 +196,7 @@ pub fn with_view(reason: Reason, view: usize) -> Reason
         Reason::NoSuffix => Reason::NoSuffix,
         Reason::BadRow { row, field } => Reason::BadRow { row, field },
         Reason::Uncarried => Reason::Uncarried,
-        Reason::Retired { record } => Reason::Retired { record },
+        Reason::BadDigit => Reason::BadDigit,
         Reason::Later(why) => Reason::Later(why),
     }
 }

@@ -34,9 +34,6 @@ returns-11 c = ap (with_view c.args.view) (sym c.in-BadPack.is)
 returns-14 : tie.Need-returns-in-BadRow
 returns-14 c = ap (with_view c.args.view) (sym c.in-BadRow.is)
 
-returns-16 : tie.Need-returns-in-Retired
-returns-16 c = ap (with_view c.args.view) (sym c.in-Retired.is)
-
 returns-17 : tie.Need-returns-in-Later
 returns-17 c = ap (with_view c.args.view) (sym c.in-Later.is)
 
@@ -76,5 +73,5 @@ with_view_spec =
     (λ c. search rules)
     returns-14
     (λ c. search rules)
-    returns-16
+    (λ c. search rules)
     returns-17)
