@@ -1,5 +1,5 @@
 -- The outward codes of a point file: "the outward codes with live views, rising, each 4 bytes and its count in 4 bytes, most
--- significant first; value: how many codes; refusals 1 to 6, then 10" (16 among the file's own since No. 9).
+-- significant first; value: how many codes; refusals 1 to 6, then 10".
 -- Assumes nothing.
 use Rattle.std.specs.Prelude.{ℕ, cond, List, [], ◌∷◌, ◌++◌}
 use Rattle.file_record.specs.Parts.{record_at}
@@ -41,6 +41,6 @@ pair_bytes [] ns = []
 pair_bytes (c ∷ cs) [] = []
 pair_bytes (c ∷ cs) (n ∷ ns) = one_entry c n ++ pair_bytes cs ns
 
--- "refusals 1 to 6, then 10": the file's own first (16 among them since No. 9)
+-- "refusals 1 to 6, then 10": the file's own first
 unfoldable pub codes_outcome : (points out : List ℕ) → Outcome Answer
 codes_outcome points out = afterwards Refused (checked point_format points) out (entries_outcome (codes_in points) out)

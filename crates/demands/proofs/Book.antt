@@ -5,7 +5,7 @@ use mathlib.Core.Path.{◌≡◌, refl, ap, ◌∙◌}
 use mathlib.Core.Bool.{Bool, true, false, cond}
 use mathlib.Core.List.{List, [], ◌∷◌}
 use mathlib.Core.Option.{Option, none, some}
-use mathlib.Core.Logic.{inr}
+use mathlib.Core.Logic.{inl, inr}
 use native.Mathlib.Omega.{arith}
 use borrow.Author.Tests.{eqb-true, eqb-false, ltb-true}
 use lib.Dec.{eqb, ltb, lit<}
@@ -54,7 +54,8 @@ use Rattle.book_sound.proofs.Addresses.{book-fields}
 use Rattle.book_sound.proofs.Size.{book-count}
 use Rattle.book_sound.proofs.Sound.{book-sound}
 use Rattle.demands.specs.Three.{Packable}
-use Rattle.demands.specs.Apt.{WholeSays, Judging, Numbered, AptViews, Apt}
+use Rattle.demands.specs.Apart.{OfBook, AnswerIs}
+use Rattle.demands.specs.Apt.{WholeBy, Judging, Numbered, AptViews, AptBy}
 use Rattle.demands.specs.Book.{Named, event_in, event_of, present_called, present_with, History, BookKept, BookUnmoved}
 use Rattle.demands.proofs.Two.{all-bounded}
 use Rattle.pack_sound.proofs.Elements.{all-printed}
@@ -64,16 +65,21 @@ use Rattle.demands.proofs.Unused.{fields_fit, unmoved}
 
 -- ---- as a source
 
+-- what may refuse a call over no book may refuse one over a book
+wider : (a : Answer) → Judging a → AnswerIs (WholeBy OfBook) a
+wider (Value n) h = tt
+wider (Refused file why) h = record { apart = inl h.apart; fits = h.fits }
+
 -- "28 not a book"
-pub book-says : (book : List ℕ) → Judging (book_judged book)
+pub book-says : (book : List ℕ) → AnswerIs (WholeBy OfBook) (book_judged book)
 unfolding book_judged
 book-says book = by-test (is_book book)
   where
-    by-test : (t : Bool) → Judging (cond t (Value (count_of book)) (Refused 0 (Later NotABook)))
+    by-test : (t : Bool) → AnswerIs (WholeBy OfBook) (cond t (Value (count_of book)) (Refused 0 (Later NotABook)))
     by-test true = tt
     by-test false =
         record {
-          apart = inr (inr (inr refl));
+          apart = inr refl;
           fits = record { file_fits = lit< tt; second_fits = lit< tt; detail_fits = lit< tt };
         }
 
@@ -122,10 +128,12 @@ module _ (book table : List ℕ) where
   book-packable =
       record { sound = λ taken code clean fine. let (f, t) = book-taken taken in book-sound book table code f t clean fine }
 
-  pub book-apt : Apt (book_of book table)
+  pub book-apt : AptBy OfBook (book_of book table)
   book-apt =
       record {
-        judges = then_is WholeSays (book_judged book) (checked table_format table) (book-says book) (table-says table);
+        judges =
+            then_is (WholeBy OfBook) (book_judged book) (checked table_format table) (book-says book)
+            (wider (checked table_format table) (table-says table));
         views = λ e. let (f, t) = book-taken e in book-views book table f t;
         live = λ e. let (f, t) = book-taken e in book-views book table f t;
         headed = λ a h. place-line-short a.view h;

@@ -58,7 +58,7 @@ use Rattle.mainfile.specs.Main.{main_of}
 use Rattle.call.specs.Call.{Files, pair_files, set_files, lent_of, source_of}
 use Rattle.demands.specs.Two.{Printed, refused_as, InTurn}
 use Rattle.demands.specs.Apart.{OfLabel}
-use Rattle.demands.specs.Apt.{Apt}
+use Rattle.demands.specs.Apt.{AptBy}
 use Rattle.demands.specs.Csv.{
   row_for,
   RowAsked,
@@ -96,7 +96,7 @@ use Rattle.demands.specs.Csv.{
   WayBack,
 }
 use Rattle.demands.proofs.Two.{rule-line}
-use Rattle.demands.proofs.Says.{StopOf, OneOf, one_says, SeriesOf, SeriesSays, an-item-says, files-first, series-of}
+use Rattle.demands.proofs.Says.{StopOf, OneOf, one_says, SeriesOf, SeriesBy, an-item-says, files-first, series-of}
 
 -- ---- a row is written
 
@@ -259,11 +259,11 @@ module _ (s : Source) (bounded : RowsBounded s) {n : ℕ} (taken : s.judged ≡ 
           rw is (refl, of_label (lit≤ tt, lit≤ tt) refl (bounded n k a taken e p c))
       by-case (row_written q a e p c h is) = rw is (bounded n k a taken e p c, kth-within s.views k a e)
 
-pub rows-say : (s : Source) → Apt s → RowsBounded s → (first count : ℕ) (out : List ℕ)
-    → SeriesSays (StopOf OfRow) 1_048_575 (view_rows s first count out).answer
+pub rows-say : (Whole : Reason → Type 0) (s : Source) → AptBy Whole s → RowsBounded s → (first count : ℕ) (out : List ℕ)
+    → SeriesBy Whole (StopOf OfRow) 1_048_575 (view_rows s first count out).answer
 unfolding view_rows
-rows-say s apt bounded first count out =
-    files-first s apt (StopOf OfRow) (view_row s) first count out
+rows-say Whole s apt bounded first count out =
+    files-first Whole s apt (StopOf OfRow) (view_row s) first count out
     (λ n taken k o. one_says OfRow (length s.views) k (view_row s k o).answer (row-says s bounded taken k o))
 
 -- ---- a file is read

@@ -71,13 +71,13 @@ use Rattle.mainfile_views.proofs.Together.{range-high}
 use Rattle.call.specs.Call.{Lent, source_of, Files, lent_of, Call, of_table, of_points, of_views, of_letter, of_live, of_codes, of_main, of_main_live, of_main_codes, of_label, of_code_label, of_labels, of_code_labels, of_list, of_code_list, of_build, of_pack, of_pack_label, of_pack_labels, of_pack_list, of_pack_suffix, of_sector, of_unspace_table, of_unspace_points, of_csv_row, of_csv_rows, of_csv, of_csv_label, of_csv_labels, of_csv_list, of_book, of_book_live, of_book_event, of_book_tidy, one, run}
 use Rattle.demands.specs.Two.{ViewAsked, CodeAsked, files_refused, code_refused, taken, label_at, suffix_at, SuffixAsked, pack_refused, no_number, no_suffix, told, SectorAsked, no_digit, counted, Bounded}
 use Rattle.demands.specs.Three.{AllPrinted, FirstRefused, here, later, packed, whole, Building, files_refused, code_refused, view_refused, too_short, built}
-use Rattle.demands.specs.Apt.{WholeSays, Judging, Numbered, AptViews, Apt}
+use Rattle.demands.specs.Apt.{WholeBy, WholeSays, Judging, Numbered, AptViews, AptBy}
 use Rattle.demands.specs.Fits.{Exception, large_pack, large_list, large_file, large_rows, to_check, to_label, to_labels, to_items, to_open, to_run, to_list, to_sector, Typed, Tells, TellsAll}
 use Rattle.demands.proofs.Two.{view-asked, code-asked, points-bounded}
 use Rattle.demands.proofs.Suffixes.{suffix-small, suffix-asked}
 use Rattle.demands.proofs.Sectors.{sector-few, sector-asked}
 use Rattle.demands.proofs.Three.{building, all-fine}
-use Rattle.demands.proofs.Says.{StopOf, StopSays, OneOf, SeriesOf, SeriesSays, code-apt, table-says, points-says, code-says, opened-says, point-says, source-refused, view-says, code-label-says, views-say, codes-say, packs-say, list-says, code-list-says, pack-list-says}
+use Rattle.demands.proofs.Says.{StopOf, StopSays, OneOf, SeriesOf, SeriesBy, SeriesSays, code-apt, table-says, points-says, code-says, opened-says, point-says, source-refused, view-says, code-label-says, views-say, codes-say, packs-say, list-says, code-list-says, pack-list-says}
 use Rattle.file_record.specs.Names.Table
 use Rattle.file_record.specs.Names.Point
 use Rattle.unspace_file.specs.Unspaced.{spaces_at, whole_records, last_start, unspaced_count}
@@ -85,11 +85,11 @@ use Rattle.csv_paf.specs.Row.{view_row, view_rows}
 use Rattle.csv_paf.specs.File.{rows_of, csv_judged}
 use Rattle.csv_paf.specs.Ask.{row_word, forbidden_in, row_resolved, kth_of, csv_label, csv_labels, row_line}
 use Rattle.csv_label.proofs.RowLaws.{number-few, rows-within}
-use Rattle.demands.specs.Apart.{OfLabel}
+use Rattle.demands.specs.Apart.{OfLabel, OfWhole, WholeFor}
 use Rattle.demands.specs.Csv.{OfRow, OfCsvLabel, elements_for, CsvSays}
 use Rattle.demands.proofs.Csv.{row-says, rows-say, lent_rows, csv-fits, csv-says, csv-bounded, csv-label-says, csv-labels-say, csv-list-says, rule-few}
 use Rattle.demands.proofs.Book.{book-fits, present-fits, event-fits, tidy-fits}
-use Rattle.demands.proofs.Lent.{set_says, addresses-says, lent-apt}
+use Rattle.demands.proofs.Lent.{set_says, addresses-says, lent-apt, code-whole}
 
 -- ---- files and what a point file lists
 
@@ -231,22 +231,22 @@ one-fits Kind limit k (Refused file why) h =
       detail_fits = omega (arith, h.1.small);
     }
 
-module _ (s : Source) (says : Apt s) (out : List ℕ) where
+module _ (Whole : Reason → Type 0) (s : Source) (says : AptBy Whole s) (out : List ℕ) where
   view-fits : (view : ℕ) → Fits (view_label s view out).answer
   view-fits view = by-case (view-asked s out view)
     where
       by-case : ViewAsked s view out → Fits (view_label s view out).answer
-      by-case (files_refused e is) = rw is (source-refused s says e).fits
-      by-case (taken e p) = one-fits OfLabel _ view (view_label s view out).answer (view-says s says e view out)
+      by-case (files_refused e is) = rw is (source-refused Whole s says e).fits
+      by-case (taken e p) = one-fits OfLabel _ view (view_label s view out).answer (view-says Whole s says e view out)
 
   code_fits : (code : List ℕ) (k : ℕ) → Fits (code_label s code k out).answer
   code_fits code k = by-case (code-asked s out code k)
     where
       by-case : CodeAsked s code k out → Fits (code_label s code k out).answer
-      by-case (files_refused e is) = rw is (source-refused s says e).fits
+      by-case (files_refused e is) = rw is (source-refused Whole s says e).fits
       by-case (code_refused e fault is) = rw is code-says.fits
       by-case (taken e clean p) =
-          one-fits OfLabel _ k (code_label s code k out).answer (code-label-says s says e k out code clean)
+          one-fits OfLabel _ k (code_label s code k out).answer (code-label-says Whole s says e k out code clean)
 
 point-fits : (pack : List ℕ) (k : ℕ) (out : List ℕ) → Fits (pack_label pack k out).answer
 unfolding pack_label
@@ -300,7 +300,7 @@ first_fits look views why h (here {a = a} {why = w} e) = by-case (resolving look
     by-case (fine m n is) = let z : ◌≡◌ {A = ℕ} 0 1 = cc in absurd (omega arith)
 first_fits look views why h (later {more = more} p r) = first_fits look more why h.1 r
 
-module _ (s : Source) (apt : Apt s) (code out : List ℕ) where
+module _ (Whole : Reason → Type 0) (s : Source) (apt : AptBy Whole s) (code out : List ℕ) where
   build-fits : Fits (pack_built s code out).answer
   build-fits = by-case (building s code out)
     where
@@ -309,7 +309,7 @@ module _ (s : Source) (apt : Apt s) (code out : List ℕ) where
       small e clean ps = omega (arith, (apt.packable.sound e code clean (all-fine s.look (packed s code) ps)).small)
 
       by-case : Building s code out → Fits (pack_built s code out).answer
-      by-case (files_refused e is) = rw is (source-refused s apt e).fits
+      by-case (files_refused e is) = rw is (source-refused Whole s apt e).fits
       by-case (code_refused e fault is) = rw is code-says.fits
       by-case (view_refused e clean r is) =
           rw is (first_fits _ _ _ (code-apt s.look code s.live (apt.live e)).numbered r)
@@ -344,8 +344,8 @@ small_by Whole Kind smaller limit (Done labels bytes) h = h
 stop-small : (Kind : Reason → Type 0) (why : Reason) → StopOf Kind why → SmallStop why
 stop-small Kind why h = record { no-view = h.no-view; small = omega (arith, h.small) }
 
-run_small : (limit : ℕ) (s : Series) → SeriesSays StopSays limit s → SeriesSays SmallStop limit s
-run_small = small_by WholeSays StopSays (stop-small OfLabel)
+run_small : (Whole : Reason → Type 0) (limit : ℕ) (s : Series) → SeriesBy Whole StopSays limit s → SeriesBy Whole SmallStop limit s
+run_small Whole = small_by (WholeBy Whole) StopSays (stop-small OfLabel)
 
 series-tells : (Whole : ℕ → Reason → Type 0) → ((file : ℕ) (why : Reason) → Whole file why → FitsRefusal file why)
     → (call : Call) (limit : ℕ) (s : Series)
@@ -368,8 +368,9 @@ series-tells Whole whole call limit (Done labels bytes) h below few =
     record { fits = omega (arith, h); number = refl; all = λ none. refl }
 
 -- over a source that has no more than fit
-few-tells : (call : Call) (s : Series) → SeriesSays SmallStop 1_048_575 s → Tells call (run s)
-few-tells call s says = series-tells WholeSays (λ file why h. h.fits) call 1_048_575 s says (lit< tt) (λ none. lit< tt)
+few-tells : (Whole : Reason → Type 0) (call : Call) (s : Series) → SeriesBy Whole SmallStop 1_048_575 s → Tells call (run s)
+few-tells Whole call s says =
+    series-tells (WholeBy Whole) (λ file why h. h.fits) call 1_048_575 s says (lit< tt) (λ none. lit< tt)
 
 -- over a pack: where that is no exception, no more either
 pack-tells : (call : Call) (pack : List ℕ) → (1_048_575 < point_count pack → Exception call) → (s : Series)
@@ -398,7 +399,7 @@ resolved-short look a bounded = by-case (resolving look a)
     by-case (fine m n is) = rw is bounded.bytes
 
 -- apt views under the source's own headings
-module _ (s : Source) (apt : Apt s) (views : List Address) (good : AptViews s.look views) (k : ℕ) (a : Address)
+module _ (Whole : Reason → Type 0) (s : Source) (apt : AptBy Whole s) (views : List Address) (good : AptViews s.look views) (k : ℕ) (a : Address)
     (e : kth views k ≡ some a) where
   item-small : SmallStop (Room (length (headings s.heading views k ++ resolved_text (resolve s.look a))))
   item-small =
@@ -445,7 +446,7 @@ row_fits files view out = by-judged (source_of lent).judged refl
         one-fits OfRow (length (source_of lent).views) view (view_row (source_of lent) view out).answer
         (row-says (source_of lent) (lent_rows files) e view out)
     by-judged (Refused file why) e =
-        rw (afterwards-refused Refused out _ e) (source-refused (source_of lent) (lent-apt lent) e).fits
+        rw (afterwards-refused Refused out _ e) (source-refused (WholeFor lent) (source_of lent) (lent-apt lent) e).fits
 
 csv-label-fits : (csv : List ℕ) → length csv < 4_294_967_296 → (row : ℕ) (out : List ℕ) → Fits (csv_label csv row out).answer
 unfolding csv_label
@@ -519,34 +520,35 @@ tells (of_main_codes file) typed out =
     answer-tells _ _
     (codes-fit addresses file (MainCodes.codes_in file) out (addresses-says file) (main-entries-few file))
 tells (of_label lent view) typed out =
-    answer-tells _ _ (view-fits (source_of lent) (lent-apt lent) out view)
+    answer-tells _ _ (view-fits (WholeFor lent) (source_of lent) (lent-apt lent) out view)
 tells (of_code_label lent code k) typed out =
-    answer-tells _ _ (code_fits (source_of lent) (lent-apt lent) out code k)
+    answer-tells _ _ (code_fits (WholeFor lent) (source_of lent) (lent-apt lent) out code k)
 tells (of_labels lent first count) typed out =
-    few-tells _ _
-    (run_small 1_048_575 (views_run (source_of lent) first count out).answer
-    (views-say (source_of lent) (lent-apt lent) first count out))
+    few-tells (WholeFor lent) _ _
+    (run_small (WholeFor lent) 1_048_575 (views_run (source_of lent) first count out).answer
+    (views-say (WholeFor lent) (source_of lent) (lent-apt lent) first count out))
 tells (of_code_labels lent code first count) typed out =
-    few-tells _ _
-    (run_small 1_048_575 (code_run (source_of lent) code first count out).answer
-    (codes-say (source_of lent) (lent-apt lent) first count out code))
+    few-tells (WholeFor lent) _ _
+    (run_small (WholeFor lent) 1_048_575 (code_run (source_of lent) code first count out).answer
+    (codes-say (WholeFor lent) (source_of lent) (lent-apt lent) first count out (code-whole lent) code))
 tells (of_list lent first count) typed out =
     let s = source_of lent in
     let apt = lent-apt lent in
-    few-tells _ _
-    (list-says SmallStop none-small s apt (λ n e. item-small s apt s.views (apt.views e)) first count out)
+    few-tells (WholeFor lent) _ _
+    (list-says SmallStop none-small (WholeFor lent) s apt (λ n e. item-small (WholeFor lent) s apt s.views (apt.views e)) first
+    count out)
 tells (of_code_list lent code first count) typed out =
     let s = source_of lent in
     let apt = lent-apt lent in
-    few-tells _ _
-    (code-list-says SmallStop none-small s apt code
-    (λ n e. item-small s apt (packed s code) (code-apt s.look code s.live (apt.live e))) first count out)
-tells (of_build lent code) typed out = answer-tells _ _ (build-fits (source_of lent) (lent-apt lent) code out)
+    few-tells (WholeFor lent) _ _
+    (code-list-says SmallStop none-small (WholeFor lent) s apt (code-whole lent) code
+    (λ n e. item-small (WholeFor lent) s apt (packed s code) (code-apt s.look code s.live (apt.live e))) first count out)
+tells (of_build lent code) typed out = answer-tells _ _ (build-fits (WholeFor lent) (source_of lent) (lent-apt lent) code out)
 tells (of_pack pack) typed out = answer-tells _ _ (opened-fits pack (typed.pack_bytes pack to_open))
 tells (of_pack_label pack k) typed out = answer-tells _ _ (point-fits pack k out)
 tells (of_pack_labels pack first count) typed out =
     pack-tells _ pack large_pack _ (typed.pack_bytes pack to_run)
-    (run_small (point_count pack) (pack_run pack first count out).answer (packs-say pack first count out))
+    (run_small OfWhole (point_count pack) (pack_run pack first count out).answer (packs-say pack first count out))
 tells (of_pack_list pack first count) typed out =
     pack-tells _ pack large_list _ (typed.pack_bytes pack to_list)
     (pack-list-says SmallStop none-small pack (point-small pack (typed.pack_bytes pack to_list)) first count out)
@@ -561,10 +563,11 @@ tells of_unspace_table typed out = answer-tells _ _ (two-at-most Table.width Tab
 tells of_unspace_points typed out = answer-tells _ _ (two-at-most Point.width Point.identifier out)
 tells (of_csv_row files view) typed out = answer-tells _ _ (row_fits files view out)
 tells (of_csv_rows files first count) typed out =
-    few-tells _ _
-    (small_by WholeSays (StopOf OfRow) (stop-small OfRow) 1_048_575
+    few-tells (WholeFor (lent_of files)) _ _
+    (small_by (WholeBy (WholeFor (lent_of files))) (StopOf OfRow) (stop-small OfRow) 1_048_575
     (view_rows (source_of (lent_of files)) first count out).answer
-    (rows-say (source_of (lent_of files)) (lent-apt (lent_of files)) (lent_rows files) first count out))
+    (rows-say (WholeFor (lent_of files)) (source_of (lent_of files)) (lent-apt (lent_of files)) (lent_rows files) first count
+    out))
 tells (of_csv csv) typed out = answer-tells _ _ (csv-fits csv (typed.csv_short csv to_check))
 tells (of_csv_label csv row) typed out = answer-tells _ _ (csv-label-fits csv (typed.csv_short csv to_label) row out)
 tells (of_csv_labels csv first count) typed out =

@@ -4,9 +4,11 @@ use Prim.Native.Nat.{ℕ, suc, ◌≤◌, ◌<◌}
 use mathlib.Core.Path.{◌≡◌}
 use mathlib.Core.Bool.{Bool, true, false, cond}
 use mathlib.Core.List.{List, [], ◌∷◌}
+use mathlib.Core.Logic.{inl, inr}
 use native.Mathlib.Omega.{arith}
 use lib.Dec.{lit≤, lit<}
 use lib.ListN.{length, take, length-append}
+use Rattle.refusal.specs.declared.Reason.TheVariants.{BadCode}
 use Rattle.refusal.specs.declared.Answer.TheVariants.{Value}
 use Rattle.source.specs.Address.{Lookup, Address}
 use Rattle.source.specs.Resolve.{elements_of}
@@ -39,7 +41,8 @@ use Rattle.mainfile_sound.proofs.Lengths.{views-few as addresses-few, views-numb
 use Rattle.call.specs.Call.{Lent, pair, set, a_book, source_of}
 use Rattle.demands.specs.Two.{Bounded, NoneSmall}
 use Rattle.demands.specs.Three.{Carries}
-use Rattle.demands.specs.Apt.{WholeSays, Judging, Numbered, AptViews, Apt}
+use Rattle.demands.specs.Apart.{WholeFor}
+use Rattle.demands.specs.Apt.{WholeSays, Judging, Numbered, AptViews, AptBy, Apt}
 use Rattle.demands.proofs.Two.{all_then, views-bounded, set-bounded}
 use Rattle.demands.proofs.Three.{carries}
 use Rattle.demands.proofs.Capitals.{views-capital, set-capital}
@@ -147,10 +150,16 @@ set-apt s =
 
 -- ---- whatever is lent
 
-pub lent-apt : (lent : Lent) → Apt (source_of lent)
+pub lent-apt : (lent : Lent) → AptBy (WholeFor lent) (source_of lent)
 lent-apt (pair table points) = pair-apt table points
 lent-apt (set s) = set-apt s
 lent-apt (a_book book table) = book-apt book table
+
+-- 12 is among those that may refuse it
+pub code-whole : (lent : Lent) → WholeFor lent BadCode
+code-whole (pair table points) = inr (lit≤ tt, lit≤ tt)
+code-whole (set s) = inr (lit≤ tt, lit≤ tt)
+code-whole (a_book book table) = inl (inr (lit≤ tt, lit≤ tt))
 
 -- so demand 3 holds of it
 pub lent-carries : (lent : Lent) (code out : List ℕ) (n : ℕ) → (pack_built (source_of lent) code out).answer ≡ Value n

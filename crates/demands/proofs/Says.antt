@@ -14,7 +14,7 @@ use Rattle.field.proofs.Tests.{and_left, and_right}
 use Rattle.field_outward.specs.Outward.{outward_fault}
 use Rattle.refusal.specs.Refusal.{number, detail, second, malformed_at}
 use Rattle.refusal.specs.declared.Reason.{Reason}
-use Rattle.refusal.specs.declared.Reason.TheVariants.{Length, Header, Trailer, NotAbove, Follower, NoSuchNumber, Room, BadPack, BadCode, Retired}
+use Rattle.refusal.specs.declared.Reason.TheVariants.{Length, Header, Trailer, NotAbove, Follower, NoSuchNumber, Room, BadPack, BadCode}
 use Rattle.refusal.specs.declared.Answer.{Answer}
 use Rattle.refusal.specs.declared.Answer.TheVariants.{Value, Refused}
 use Rattle.refusal.specs.declared.Verdict.{Verdict}
@@ -26,7 +26,7 @@ use Rattle.refusal.proofs.Outcomes.{afterwards-value, afterwards-refused}
 use Rattle.source.specs.Address.{Lookup, Address}
 use Rattle.source.specs.Resolve.{Resolved, elements_of, elements, resolve}
 use Rattle.source.proofs.Cases.{three-rules, eight-fields}
-use Rattle.file.specs.Check.{Format, records, whole, at, rises, in_place, judged, scan, last, verdict, answered, checked}
+use Rattle.file.specs.Check.{Format, records, whole, at, rises, in_place, judged, scan, verdict, answered, checked}
 use Rattle.file.specs.Formats.{table_format, point_format}
 use Rattle.file.proofs.Laws.{at-least-two, within-limit}
 use Rattle.file_fault.proofs.Bounds.{table-bound, point-bound}
@@ -51,9 +51,9 @@ use Rattle.pack.specs.Points.{elements_at, point_place, is_point, pack_label, po
 use Rattle.pack_runs.specs.Runs.{pack_run}
 use Rattle.pack_items.specs.Lists.{pack_listed, pack_list}
 use Rattle.pack_open.proofs.Opened.{opened-all}
-use Rattle.demands.specs.Apart.{OfLabel, AnswerIs}
+use Rattle.demands.specs.Apart.{OfLabel, OfWhole, AnswerIs}
 use Rattle.demands.specs.Two.{Printing, no_number, forbidden_mix, key_missing, no_room, printed, label_at, PointAsked, pack_refused, Bounded, AllBounded, NoneSmall}
-use Rattle.demands.specs.Apt.{WholeSays, Judging, Numbered, AptViews, Apt}
+use Rattle.demands.specs.Apt.{WholeBy, WholeSays, Judging, Numbered, AptViews, AptBy}
 use Rattle.demands.proofs.Two.{printing, point-asked, points-bounded}
 
 -- ---- refusals
@@ -81,8 +81,11 @@ SeriesOf Whole Kind limit (Unasked file why) = Whole file why
 SeriesOf Whole Kind limit (Stopped labels bytes why) = (labels ≤ limit) × Kind why
 SeriesOf Whole Kind limit (Done labels bytes) = labels ≤ limit
 
+abbrev pub SeriesBy : (Whole Kind : Reason → Type 0) → (limit : ℕ) → Series → Type 0
+SeriesBy Whole = SeriesOf (WholeBy Whole)
+
 abbrev pub SeriesSays : (Kind : Reason → Type 0) → (limit : ℕ) → Series → Type 0
-SeriesSays = SeriesOf WholeSays
+SeriesSays = SeriesBy OfWhole
 
 -- ---- files
 
@@ -94,7 +97,6 @@ pub record Refusals (f : Format) (file : List ℕ) (Kind : Reason → Type 0) : 
   pub malformed : (i : ℕ) → i < f.limit → Kind (malformed_at (i + 1) (f.fault (at f file i)))
   pub not-above : (i : ℕ) → i < f.limit → Kind (NotAbove (i + 1))
   pub misplaced : (i : ℕ) → i < f.limit → in_place f file i ≡ false → Kind (Follower (i + 1))
-  pub retired : (rec : List ℕ) → f.retired rec ≡ true → (n : ℕ) → n ≤ f.limit → Kind (Retired n)
 
 -- so the one that it gives is
 module _ (Kind : ℕ → Reason → Type 0) (f : Format) (file : List ℕ) (refusals : Refusals f file (Kind f.file)) where
@@ -128,26 +130,20 @@ module _ (Kind : ℕ → Reason → Type 0) (f : Format) (file : List ℕ) (refu
   unfolding checked verdict
   checked-is =
       by-verdict (verdict f file)
-      (by_tests (whole f file) (f.retired (at f file 0)) (f.headed (at f file 0)) (f.retired (last f file))
-      (f.ended (records f file) (last f file)) refl refl refl)
+      (by_tests (whole f file) (f.headed (at f file 0)) (f.ended (records f file) (at f file (records f file - 1))) refl)
     where
-      by_tests : (t u v w x : Bool) → whole f file ≡ t → f.retired (at f file 0) ≡ u → f.retired (last f file) ≡ w
+      by_tests : (t u v : Bool) → whole f file ≡ t
           → BadIs
           (cond t
-          (cond u (Bad (Retired 1))
-          (cond v
-          (cond w (Bad (Retired (records f file)))
-          (cond x (scan (judged f file) (records f file - 2) 1) (Bad (Trailer (records f file)))))
-          (Bad Header)))
+          (cond u
+          (cond v (scan (judged f file) (records f file - 2) 1) (Bad (Trailer (records f file))))
+          (Bad Header))
           (Bad Length))
-      by_tests true true v w x e q r =
-          refusals.retired (at f file 0) q 1 (omega (arith, at-least-two f file e, within-limit f file e))
-      by_tests true false true true x e q r = refusals.retired (last f file) r (records f file) (within-limit f file e)
-      by_tests true false true false true e q r =
+      by_tests true true true e =
           scan-is (records f file - 2) 1 (omega (arith, at-least-two f file e, within-limit f file e))
-      by_tests true false true false false e q r = refusals.trailer (records f file) (within-limit f file e)
-      by_tests true false false w x e q r = refusals.header
-      by_tests false u v w x e q r = refusals.short
+      by_tests true true false e = refusals.trailer (records f file) (within-limit f file e)
+      by_tests true false v e = refusals.header
+      by_tests false u v e = refusals.short
 
       by-verdict : (v : Verdict) → BadIs v → AnswerIs Kind (answered f file v)
       by-verdict Fine h = tt
@@ -177,11 +173,6 @@ module _ (f : Format) (blamed : f.file < 16) (few : f.limit ≤ 1_000_000) (near
             (omega (arith, h, few));
         not-above = λ i h. bad (NotAbove (i + 1)) (lit≤ tt) (lit< tt) (omega (arith, h, few));
         misplaced = λ i h e. bad (Follower (i + 1)) (lit≤ tt) (lit< tt) (omega (arith, h, few));
-        retired = λ rec e n h.
-            record {
-              apart = inr (inr (inl refl));
-              fits = record { file_fits = blamed; second_fits = lit< tt; detail_fits = omega (arith, h, few) };
-            };
       })
 
 pub table-says : (table : List ℕ) → Judging (checked table_format table)
@@ -191,9 +182,12 @@ pub points-says : (points : List ℕ) → Judging (checked point_format points)
 points-says points = checked-says point_format (lit< tt) (lit≤ tt) point-bound points
 
 -- "12: outward code malformed"
+pub code-by : (Whole : Reason → Type 0) → Whole BadCode → WholeBy Whole 0 BadCode
+code-by Whole malformed =
+    record { apart = malformed; fits = record { file_fits = lit< tt; second_fits = lit< tt; detail_fits = lit< tt } }
+
 pub code-says : WholeSays 0 BadCode
-code-says =
-    record { apart = inr (inl (lit≤ tt, lit≤ tt)); fits = record { file_fits = lit< tt; second_fits = lit< tt; detail_fits = lit< tt } }
+code-says = code-by OfWhole (inr (lit≤ tt, lit≤ tt))
 
 -- ---- packs
 
@@ -204,7 +198,7 @@ opened-says pack = by_tests (trailer_good pack) (all_rows_good pack) (all_points
     step : (n : ℕ) → n ≤ 4 → WholeSays 0 (BadPack n)
     step n h =
         record {
-          apart = inr (inl (lit≤ tt, lit≤ tt));
+          apart = inr (lit≤ tt, lit≤ tt);
           fits = record { file_fits = lit< tt; second_fits = lit< tt; detail_fits = omega arith };
         }
 
@@ -332,8 +326,8 @@ code-apt look code views h =
       few = omega (arith, code-few code views, h.few);
     }
 
-module _ (s : Source) (says : Apt s) where
-  pub source-refused : {file : ℕ} {why : Reason} → s.judged ≡ Refused file why → WholeSays file why
+module _ (Whole : Reason → Type 0) (s : Source) (says : AptBy Whole s) where
+  pub source-refused : {file : ℕ} {why : Reason} → s.judged ≡ Refused file why → WholeBy Whole file why
   source-refused e = rw e at says.judges
 
   module _ {n : ℕ} (taken : s.judged ≡ Value n) (k : ℕ) (out : List ℕ) where
@@ -360,81 +354,81 @@ module _ (s : Source) (says : Apt s) where
     next = run_from ask first count out
 
     pub files-first : ((n : ℕ) → s.judged ≡ Value n → (k : ℕ) (o : List ℕ) → LabelSays Kind (length s.views) k (ask k o).answer)
-        → SeriesSays Kind 1_048_575 (afterwards Unasked s.judged out next).answer
+        → SeriesBy Whole Kind 1_048_575 (afterwards Unasked s.judged out next).answer
     files-first each = by-judged s.judged refl
       where
-        by-judged : (j : Answer) → s.judged ≡ j → SeriesSays Kind 1_048_575 (afterwards Unasked s.judged out next).answer
+        by-judged : (j : Answer) → s.judged ≡ j → SeriesBy Whole Kind 1_048_575 (afterwards Unasked s.judged out next).answer
         by-judged (Value n) e =
             rw (afterwards-value Unasked out next e)
             (more-say Kind (length s.views) 1_048_575 next.answer (says.views e).few
-            (series-of WholeSays Kind ask (length s.views) (each n e) first count out))
+            (series-of (WholeBy Whole) Kind ask (length s.views) (each n e) first count out))
         by-judged (Refused file why) e = rw (afterwards-refused Unasked out next e) (source-refused e)
 
-    module _ (code : List ℕ) where
+    module _ (malformed : Whole BadCode) (code : List ℕ) where
       abbrev coded : List Address
       coded = in_code code s.live
 
       code-next : ((n : ℕ) → s.judged ≡ Value n → outward_fault code ≡ 0 → (k : ℕ) (o : List ℕ)
           → LabelSays Kind (length coded) k (ask k o).answer)
-          → SeriesSays Kind 1_048_575 (by_code Unasked s code out next).answer
+          → SeriesBy Whole Kind 1_048_575 (by_code Unasked s code out next).answer
       code-next each = by-judged s.judged refl
         where
           by-code : (n : ℕ) → s.judged ≡ Value n → (t : Bool) → eqb (outward_fault code) 0 ≡ t
-              → SeriesSays Kind 1_048_575 (by_code Unasked s code out next).answer
+              → SeriesBy Whole Kind 1_048_575 (by_code Unasked s code out next).answer
           by-code n e true c =
               let clean = eqb-true (outward_fault code) 0 c in
               rw (by-good-code Unasked code out next s e clean)
               (more-say Kind (length coded) 1_048_575 next.answer
               (code-apt s.look code s.live (says.live e)).few
-              (series-of WholeSays Kind ask (length coded) (each n e clean) first count out))
+              (series-of (WholeBy Whole) Kind ask (length coded) (each n e clean) first count out))
           by-code n e false c =
-              rw (by-bad-code Unasked code out next s e (eqb-false (outward_fault code) 0 c)) code-says
+              rw (by-bad-code Unasked code out next s e (eqb-false (outward_fault code) 0 c)) (code-by Whole malformed)
 
-          by-judged : (j : Answer) → s.judged ≡ j → SeriesSays Kind 1_048_575 (by_code Unasked s code out next).answer
+          by-judged : (j : Answer) → s.judged ≡ j → SeriesBy Whole Kind 1_048_575 (by_code Unasked s code out next).answer
           by-judged (Value n) e = by-code n e (eqb (outward_fault code) 0) refl
           by-judged (Refused file why) e = rw (by-refused Unasked code out next s e) (source-refused e)
 
   module _ (first count : ℕ) (out : List ℕ) where
-    pub views-say : SeriesSays StopSays 1_048_575 (views_run s first count out).answer
+    pub views-say : SeriesBy Whole StopSays 1_048_575 (views_run s first count out).answer
     unfolding views_run
     views-say =
         files-first StopSays (view_label s) first count out
         (λ n e k o. one_says OfLabel (length s.views) k (view_label s k o).answer (view-says e k o))
 
-    pub codes-say : (code : List ℕ) → SeriesSays StopSays 1_048_575 (code_run s code first count out).answer
+    pub codes-say : Whole BadCode → (code : List ℕ) → SeriesBy Whole StopSays 1_048_575 (code_run s code first count out).answer
     unfolding code_run
-    codes-say code =
-        code-next StopSays (code_label s code) first count out code
+    codes-say malformed code =
+        code-next StopSays (code_label s code) first count out malformed code
         (λ n e clean k o.
         one_says OfLabel (length (in_code code s.live)) k (code_label s code k o).answer (code-label-says e k o code clean))
 
 -- under the source's own headings, where a kind has 7, and 10 with the bytes of an item
-module _ (Kind : Reason → Type 0) (none_left : Kind NoSuchNumber) (s : Source) (says : Apt s) where
+module _ (Kind : Reason → Type 0) (none_left : Kind NoSuchNumber) (Whole : Reason → Type 0) (s : Source) (says : AptBy Whole s) where
   abbrev Roomy : List Address → Type 0
   Roomy views =
       (k : ℕ) (a : Address) → kth views k ≡ some a
       → Kind (Room (length (headings s.heading views k ++ resolved_text (resolve s.look a))))
 
   pub list-says : ((n : ℕ) → s.judged ≡ Value n → Roomy s.views) → (first count : ℕ) (out : List ℕ)
-      → SeriesSays Kind 1_048_575 (views_list s first count out).answer
+      → SeriesBy Whole Kind 1_048_575 (views_list s first count out).answer
   unfolding views_list views_listed view_item
   list-says room first count out =
       let heading = headings s.heading s.views in
-      files-first s says Kind (view_item heading s) first count out
+      files-first Whole s says Kind (view_item heading s) first count out
       (λ n e k o.
       rw (afterwards-value Refused o (kth_item heading s.look s.views k o) e)
       (kth-item-says Kind none_left heading s.look s.views (room n e) k o))
 
-  module _ (code : List ℕ) where
+  module _ (malformed : Whole BadCode) (code : List ℕ) where
     abbrev listed : List Address
     listed = in_code code s.live
 
     pub code-list-says : ((n : ℕ) → s.judged ≡ Value n → Roomy listed) → (first count : ℕ) (out : List ℕ)
-        → SeriesSays Kind 1_048_575 (code_list s code first count out).answer
+        → SeriesBy Whole Kind 1_048_575 (code_list s code first count out).answer
     unfolding code_list code_listed code_item
     code-list-says room first count out =
         let heading = headings s.heading listed in
-        code-next s says Kind (code_item heading s code) first count out code
+        code-next Whole s says Kind (code_item heading s code) first count out malformed code
         (λ n e clean k o.
         rw (by-good-code Refused code o (kth_item heading s.look listed k o) s e clean)
         (kth-item-says Kind none_left heading s.look listed (room n e) k o))

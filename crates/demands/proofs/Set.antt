@@ -28,7 +28,7 @@ use Rattle.file.specs.declared.MainKind.TheVariants.{
   Organisations,
   Addresses,
 }
-use Rattle.file.proofs.Laws.{main-between, main-current}
+use Rattle.file.proofs.Laws.{main-between}
 use Rattle.file.specs.Accepted.{Accepted}
 use Rattle.file.proofs.Accepted.{accepts}
 use Rattle.ask.specs.Labels.{kth}
@@ -79,7 +79,6 @@ file-blamed kind file low high =
       malformed = λ i h. (low, (high, lit≤ tt));
       not-above = λ i h. (low, (high, lit≤ tt));
       misplaced = λ i h e. absurd (true≢false (sym (main-between kind _ _ _) ∙ e));
-      retired = λ rec e n h. absurd (true≢false (sym e ∙ main-current kind rec));
     })
 
 from-length : (s : Set) (k n : ℕ) → length (addresses_from s k n) ≡ k

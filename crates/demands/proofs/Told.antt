@@ -18,10 +18,10 @@ use Rattle.run.specs.declared.Series.{Series}
 use Rattle.run.specs.declared.Series.TheVariants.{Unasked, Stopped, Done}
 use Rattle.run.specs.Packed.{packed_series, series_bytes}
 use Rattle.call.specs.Call.{Call, Saying, one, run, outcome_of}
-use Rattle.demands.specs.Apart.{OfLabel, OfWhole, OfItem, SeriesApart, Apart}
+use Rattle.demands.specs.Apart.{OfLabel, OfWhole, OfBook, OfItem, SeriesApart, BookApart}
 use Rattle.demands.specs.Fits.{FitsSeries, told_series, as_told, Exception, Typed, Tells, SameTold}
 use Rattle.demands.specs.Csv.{OfRow, OfCsvLabel, OfCsv, RunApart, ForCsv, rows_written, rows_printed, rows_listed, Alike}
-use Rattle.demands.proofs.Apart.{told-apart, csv-apart}
+use Rattle.demands.proofs.Apart.{book-apart, csv-apart}
 use Rattle.demands.proofs.Fits.{tells}
 
 -- what is told of a stop fits a word
@@ -42,18 +42,19 @@ Disjoint Whole Stop = (why other : Reason) → Stop why → Whole other → numb
 label-disjoint : Disjoint OfWhole OfLabel
 label-disjoint why other label whole same =
     ⊎_elim (λ (h : number other ≤ 6). omega (arith, label.0, same))
-    (⊎_elim (λ (h : (11 ≤ number other) × (number other ≤ 12)). omega (arith, label.1, h.0, same))
-    (⊎_elim (λ (h : number other ≡ 16). omega (arith, label.1, h, same))
-    (λ (h : number other ≡ 28). omega (arith, label.1, h, same)))) whole
+    (λ (h : (11 ≤ number other) × (number other ≤ 12)). omega (arith, label.1, h.0, same)) whole
+
+book-disjoint : Disjoint OfBook OfLabel
+book-disjoint why other label whole same =
+    ⊎_elim (λ (h : OfWhole other). label-disjoint why other label h same)
+    (λ (h : number other ≡ 28). omega (arith, label.1, h, same)) whole
 
 row-disjoint : Disjoint OfWhole OfRow
 row-disjoint why other stop whole same =
     ⊎_elim (λ (label : OfLabel why). label-disjoint why other label whole same)
     (λ (h : number why ≡ 15).
     ⊎_elim (λ (low : number other ≤ 6). omega (arith, h, same))
-    (⊎_elim (λ (low : (11 ≤ number other) × (number other ≤ 12)). omega (arith, low.1, h, same))
-    (⊎_elim (λ (low : number other ≡ 16). omega (arith, low, h, same))
-    (λ (low : number other ≡ 28). omega (arith, low, h, same)))) whole)
+    (λ (low : (11 ≤ number other) × (number other ≤ 12)). omega (arith, low.1, h, same)) whole)
     stop
 
 csv-disjoint : Disjoint OfCsv OfCsvLabel
@@ -148,14 +149,14 @@ runs-told Whole Stop disjoint before call other s t p q x y e =
       told-bytes before s ∙ (e.1 ∙ sym (told-bytes before t)),
     ))
 
-sayings-told : (before : ℕ) (call other : Call) (a b : Saying) → Tells call a → Tells other b → Apart a → Apart b
+sayings-told : (before : ℕ) (call other : Call) (a b : Saying) → Tells call a → Tells other b → BookApart a → BookApart b
     → SameTold before a b
     → as_told a ≡ as_told b
 sayings-told before call other (one a) (one b) p q x y e = ap one (loses-nothing a b p.fits q.fits e)
 sayings-told before call other (one a) (run t) p q x y e = absurd e
 sayings-told before call other (run s) (one b) p q x y e = absurd e
 sayings-told before call other (run s) (run t) p q x y e =
-    runs-told OfWhole OfLabel label-disjoint before call other s t p q x y e
+    runs-told OfBook OfLabel book-disjoint before call other s t p q x y e
 
 csv-told : (Whole Stop : Reason → Type 0) → Disjoint Whole Stop → (before : ℕ) (call other : Call) (a b : Saying)
     → Tells call a
@@ -176,7 +177,7 @@ module _ (call other : Call) (c : Typed call) (d : Typed other) (out another : L
     pub same-told : as_told (outcome_of call out).answer ≡ as_told (outcome_of other another).answer
     same-told =
         sayings-told before call other (outcome_of call out).answer (outcome_of other another).answer
-        (tells call c out) (tells other d another) (told-apart call plain out) (told-apart other plain' another) e
+        (tells call c out) (tells other d another) (book-apart call plain out) (book-apart other plain' another) e
 
     -- and so is what they say
     pub same-said : (Exception call → ⊥) → (Exception other → ⊥)

@@ -8,15 +8,24 @@ use Rattle.refusal.specs.declared.Answer.{Answer}
 use Rattle.refusal.specs.declared.Answer.TheVariants.{Value, Refused}
 use Rattle.run.specs.declared.Series.{Series}
 use Rattle.run.specs.declared.Series.TheVariants.{Unasked, Stopped, Done}
-use Rattle.call.specs.Call.{Lent, Call, of_list, of_code_list, of_pack_list, Saying, one, run}
+use Rattle.call.specs.Call.{Lent, pair, set, a_book, Call, of_labels, of_code_labels, of_list, of_code_list, of_pack_list, Saying, one, run}
 
 -- a label's own refusal, and one of the whole
 abbrev pub OfLabel : Reason → Type 0
 OfLabel why = (7 ≤ number why) × (number why ≤ 10)
 
 abbrev pub OfWhole : Reason → Type 0
-OfWhole why =
-    (number why ≤ 6) ⊎ (((11 ≤ number why) × (number why ≤ 12)) ⊎ ((number why ≡ 16) ⊎ (number why ≡ 28)))
+OfWhole why = (number why ≤ 6) ⊎ ((11 ≤ number why) × (number why ≤ 12))
+
+-- where a book is lent, also "28 not a book" (document 02, No. 10)
+abbrev pub OfBook : Reason → Type 0
+OfBook why = OfWhole why ⊎ (number why ≡ 28)
+
+-- so what refuses the whole depends on what is lent
+abbrev pub WholeFor : Lent → Reason → Type 0
+WholeFor (pair table points) = OfWhole
+WholeFor (set s) = OfWhole
+WholeFor (a_book book table) = OfBook
 
 -- a refusal of a set: "1 to 5 under the new limit .., behind the file's number, 1 to 7 as listed .. 6 doesn't occur"
 abbrev pub OfSet : (file : ℕ) → Reason → Type 0
@@ -47,6 +56,24 @@ abbrev pub Apart : Saying → Type 0
 Apart (one answer) = Unit {0}
 Apart (run series) = ToldApart series
 
+-- the same of any call, a book lent or not
+abbrev pub SayingApart : (Whole Stop : Reason → Type 0) → Saying → Type 0
+SayingApart Whole Stop (one answer) = Unit {0}
+SayingApart Whole Stop (run series) = SeriesApart Whole Stop series
+
+abbrev pub BookApart : Saying → Type 0
+BookApart = SayingApart OfBook OfLabel
+
+-- a run or a listing over a book
+pub data IsBook : Lent → Type 0 where
+  book_lent : {book table : List ℕ} → IsBook (a_book book table)
+
+pub data ForBook : Call → Type 0 where
+  book_run : {lent : Lent} {first count : ℕ} → IsBook lent → ForBook (of_labels lent first count)
+  book_code_run : {lent : Lent} {code : List ℕ} {first count : ℕ} → IsBook lent → ForBook (of_code_labels lent code first count)
+  book_list : {lent : Lent} {first count : ℕ} → IsBook lent → ForBook (of_list lent first count)
+  book_code_list : {lent : Lent} {code : List ℕ} {first count : ℕ} → IsBook lent → ForBook (of_code_list lent code first count)
+
 -- a listing
 pub data IsList : Call → Type 0 where
   views_listed : {lent : Lent} {first count : ℕ} → IsList (of_list lent first count)
@@ -57,3 +84,7 @@ pub data IsList : Call → Type 0 where
 abbrev pub ListStops : Saying → Type 0
 ListStops (one answer) = Unit {0}
 ListStops (run series) = StopsBy OfItem series
+
+-- of any call, a book lent or not
+abbrev pub BookListStops : Saying → Type 0
+BookListStops = SayingApart OfBook OfItem

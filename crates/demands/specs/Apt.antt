@@ -13,10 +13,13 @@ use Rattle.demands.specs.Two.{AllBounded, ViewsCapital}
 use Rattle.demands.specs.Three.{Packable}
 use Rattle.demands.specs.Apart.{OfWhole, AnswerIs}
 
--- a refusal of the whole: a file's, a pack's, that of a code
-pub record WholeSays (file : ℕ) (why : Reason) : Type 0 where
-  pub apart : OfWhole why
+-- a refusal of the whole, of those that may refuse it: a file's, a pack's, that of a code; a book's where one is lent
+pub record WholeBy (Whole : Reason → Type 0) (file : ℕ) (why : Reason) : Type 0 where
+  pub apart : Whole why
   pub fits : FitsRefusal file why
+
+abbrev pub WholeSays : ℕ → Reason → Type 0
+WholeSays = WholeBy OfWhole
 
 -- what judges the whole says one of these, or a value
 abbrev pub Judging : Answer → Type 0
@@ -35,9 +38,13 @@ pub record AptViews (look : Lookup) (views : List Address) : Type 0 where
 
 -- its own refusals are of the whole; where it is accepted its views are apt, and so are the live ones; the line before one in
 -- a listing is short; and a pack can be cut from it
-pub record Apt (s : Source) : Type 0 where
-  pub judges : Judging s.judged
+pub record AptBy (Whole : Reason → Type 0) (s : Source) : Type 0 where
+  pub judges : AnswerIs (WholeBy Whole) s.judged
   pub views : {n : ℕ} → s.judged ≡ Value n → AptViews s.look s.views
   pub live : {n : ℕ} → s.judged ≡ Value n → AptViews s.look s.live
   pub headed : (a : Address) → Numbered a → length (s.heading a) ≤ 80
   pub packable : Packable s
+
+-- where no book is lent
+abbrev pub Apt : Source → Type 0
+Apt = AptBy OfWhole

@@ -1,5 +1,4 @@
--- Archived files (document 02, No. 9): "The new reader accepts its output exactly when the old reader accepted its input, with
--- the same labels".
+-- Archived files (document 02, No. 9): a rewritten file is accepted exactly when it was before, with the same labels.
 -- Assumes nothing.
 use Rattle.std.specs.Prelude.{◌≡◌, List, ℕ, ◌≤◌}
 use Rattle.file_record.specs.Names.Table

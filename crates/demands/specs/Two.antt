@@ -204,8 +204,7 @@ pub record InTurn (Asked : ℕ → List ℕ → Outcome Answer → Type 0) (list
 -- ---- the list of codes
 
 -- "the outward codes with live views, rising, each 4 bytes and its count in 4 bytes, most significant first; value: how
--- many codes; refusals 1 to 6, then 10" (16 among the file's own since No. 9): of a file, the entries of its codes, and what
--- these tell of it
+-- many codes; refusals 1 to 6, then 10": of a file, the entries of its codes, and what these tell of it
 pub data CodesAsked (f : Format) (file : List ℕ) (Telling : List Entry → Type 0) (es : List Entry) (out : List ℕ) (o : Outcome Answer) : Type 0 where
   file_refused : {blamed : ℕ} {why : Reason} → checked f file ≡ Refused blamed why
       → o ≡ said (Refused blamed why) out

@@ -20,8 +20,8 @@ ghost use Rattle.file.specs.Mainfile.{main_format};
 
 use file::{Kind, MainKind};
 use file_formats::inner::{
-    fault_in, is_above, is_between, is_header, is_standing, is_trailer, is_whole,
-    numbers_of, record_in, records_in,
+    fault_in, is_above, is_between, is_header, is_standing, is_trailer, is_whole, numbers_of,
+    record_in, records_in,
 };
 use file_record::Cursor;
 use refusal::{Answer, Reason, Verdict};

@@ -11,7 +11,7 @@ use lib.Dec.{eqb, ltb}
 use lib.ListN.{length, length-append}
 use lib.Seq.{take_all}
 use Rattle.refusal.specs.declared.Reason.{Reason}
-use Rattle.refusal.specs.declared.Reason.TheVariants.{Length, Header, Trailer, Malformed, NotAbove, Follower, NoSuchNumber, Combination, MissingKey, Room, BadPack, BadCode, Retired}
+use Rattle.refusal.specs.declared.Reason.TheVariants.{Length, Header, Trailer, Malformed, NotAbove, Follower, NoSuchNumber, Combination, MissingKey, Room, BadPack, BadCode}
 use Rattle.refusal.specs.declared.Answer.{Answer}
 use Rattle.refusal.specs.declared.Answer.TheVariants.{Value, Refused}
 use Rattle.refusal.proofs.Lossless.{number-to-28}
@@ -19,7 +19,7 @@ use Rattle.refusal.specs.Refusal.{number, detail, second}
 use Rattle.refusal.specs.declared.Verdict.{Verdict}
 use Rattle.refusal.specs.declared.Verdict.TheVariants.{Fine, Bad}
 use Rattle.file_fault.proofs.Bounds.{table-bound, point-bound}
-use Rattle.file.specs.Check.{Format, records, whole as whole-records, at, rises, in_place, judged, scan, last, verdict, answered, checked}
+use Rattle.file.specs.Check.{Format, records, whole as whole-records, at, rises, in_place, judged, scan, verdict, answered, checked}
 use Rattle.refusal.specs.Verdict.{or_else}
 use Rattle.file.specs.Formats.{table_format, point_format}
 use Rattle.file.specs.Accepted.{Accepted}
@@ -55,17 +55,12 @@ below-three n true true false x y z h k l = h
 below-three n true false v x y z h k l = k
 below-three n false u v x y z h k l = l
 
-below-ends : (n : ℕ) (t r u s v : Bool) (w : Verdict) (last : ℕ) → Below n w → last ≤ n → 1 ≤ n
-    → Below n
-    (cond t
-    (cond r (Bad (Retired 1)) (cond u (cond s (Bad (Retired last)) (cond v w (Bad (Trailer last)))) (Bad Header)))
-    (Bad Length))
-below-ends n true true u s v w last h k l = (l, omega arith)
-below-ends n true false true true v w last h k l = (k, omega arith)
-below-ends n true false true false true w last h k l = h
-below-ends n true false true false false w last h k l = (k, omega arith)
-below-ends n true false false s v w last h k l = (l, omega arith)
-below-ends n false r u s v w last h k l = (omega arith, omega arith)
+below-ends : (n : ℕ) (t u v : Bool) (w : Verdict) (last : ℕ) → Below n w → last ≤ n → 1 ≤ n
+    → Below n (cond t (cond u (cond v w (Bad (Trailer last))) (Bad Header)) (Bad Length))
+below-ends n true true true w last h k l = h
+below-ends n true true false w last h k l = (k, omega arith)
+below-ends n true false v w last h k l = (l, omega arith)
+below-ends n false u v w last h k l = (omega arith, omega arith)
 
 below-else : (n : ℕ) (a b : Verdict) → Below n a → Below n b → Below n (or_else a b)
 below-else n Fine b h k = k
@@ -93,8 +88,8 @@ module _ (f : Format) (near : (rec : List ℕ) → f.fault rec ≤ 170) (file : 
   verdict-below : records f file ≤ n → 1 ≤ n → Below n (verdict f file)
   unfolding verdict
   verdict-below h k =
-      below-ends n (whole-records f file) (f.retired (at f file 0)) (f.headed (at f file 0)) (f.retired (last f file))
-      (f.ended (records f file) (last f file))
+      below-ends n (whole-records f file) (f.headed (at f file 0))
+      (f.ended (records f file) (at f file (records f file - 1)))
       (scan (judged f file) (records f file - 2) 1)
       (records f file)
       (scan-below (records f file - 2) 1 (omega arith))

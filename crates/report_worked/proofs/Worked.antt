@@ -6,7 +6,7 @@ use mathlib.Core.List.{List, [], ◌∷◌, ◌++◌}
 use lib.ListN.{take, replicate, set}
 use Rattle.field.specs.Digits.{digits_fault, digit_value, value}
 use Rattle.field.specs.Text.{text_fault, filled_fault, text_in, numeric_like}
-use Rattle.file_ends.specs.Ends.{identifier, retired, header_ok, trailer_ok}
+use Rattle.file_ends.specs.Ends.{identifier, header_ok, trailer_ok}
 use Rattle.file_record.specs.Parts.{record_at}
 use Rattle.field_outward.specs.Inward.{inward_letter, inward_fault, suffix_fault}
 use Rattle.field_outward.specs.Outward.{class, allowed, outward_fault}
@@ -125,7 +125,7 @@ refused-line = 114 ∷ 101 ∷ 102 ∷ 117 ∷ 115 ∷ 101 ∷ 100 ∷ 32 ∷ 57
 
 -- what a run is computed from: to unfold this is to unfold all that its line names
 unfoldable pub run-computes : Unit {0}
-unfolding digits_fault digit_value value text_fault filled_fault text_in numeric_like identifier retired header_ok trailer_ok record_at inward_letter inward_fault suffix_fault class allowed outward_fault one_of key_fault point_fault double_fault table_fault judged verdict checked needed follows placed wanted wanted_in wanted_count wanted_at ref_at texts_at last_row in_force row_of look_in forbidden missing elements_of resolve address_of label_of number_text lines_of decimal view_line byte_text refused_text view_text block pair_text points_text report_of
+unfolding digits_fault digit_value value text_fault filled_fault text_in numeric_like identifier header_ok trailer_ok record_at inward_letter inward_fault suffix_fault class allowed outward_fault one_of key_fault point_fault double_fault table_fault judged verdict checked needed follows placed wanted wanted_in wanted_count wanted_at ref_at texts_at last_row in_force row_of look_in forbidden missing elements_of resolve address_of label_of number_text lines_of decimal view_line byte_text refused_text view_text block pair_text points_text report_of
 run-computes = tt
 
 pub one-run : report_of table points

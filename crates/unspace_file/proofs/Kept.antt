@@ -15,7 +15,7 @@ use Rattle.field.specs.Text.{part}
 use Rattle.field.proofs.Tests.{and_left}
 use Rattle.field.proofs.Texts.{part-bound}
 use Rattle.file_record.proofs.Records.{part_length}
-use Rattle.unspace_file.specs.Unspaced.{filled, spaces_at, rewritten, whole_records, last_start, unspaced, Outside}
+use Rattle.unspace_file.specs.Unspaced.{filled, spaces_at, rewritten, whole_records, last_start, unspaced, unspaced_count, Outside}
 use Rattle.unspace_file.proofs.Laws.{
   same-part,
   filled_within,
@@ -27,6 +27,8 @@ use Rattle.unspace_file.proofs.Laws.{
   spaces-behind,
   unspaced-whole,
   unspaced-broken,
+  count-whole,
+  count-broken,
   two-wide,
 }
 
@@ -154,3 +156,19 @@ unspaced-again width w some narrow file = by-test (whole_records width w file) r
         ∙ (ap (rewritten w (length (unspaced width w file) - width) 255) (rewritten-other w 0 0 (unspaced width w file) (head-current width w file narrow e some))
         ∙ rewritten-other w (length (unspaced width w file) - width) 255 (unspaced width w file) (rw as_long (end-current width w file narrow e some)))
     by-test false e = unspaced-broken width w (unspaced width w file) (rw as_long e)
+
+-- and no identifier of spaces is left
+pub unspaced-clean : (width w : ℕ) → 1 ≤ w → w ≤ width → (file : List ℕ)
+    → unspaced_count width w (unspaced width w file) ≡ 0
+unspaced-clean width w some narrow file = by-test (whole_records width w file) refl
+  where
+    as_long : length (unspaced width w file) ≡ length file
+    as_long = length-unspaced width w file
+
+    by-test : (t : Bool) → whole_records width w file ≡ t → unspaced_count width w (unspaced width w file) ≡ 0
+    by-test true e =
+        let head = head-current width w file narrow e some in
+        let end : spaces_at w (last_start width w (unspaced width w file)) (unspaced width w file) ≡ false
+        = rw as_long (end-current width w file narrow e some) in
+        count-whole width w (unspaced width w file) (rw as_long e) ∙ rw (head, end) refl
+    by-test false e = count-broken width w (unspaced width w file) (rw as_long e)

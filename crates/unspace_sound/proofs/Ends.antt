@@ -1,4 +1,4 @@
--- Header and trailer of a rewritten file: never retired, and well formed exactly where they were.
+-- Header and trailer of a rewritten file: well formed exactly where they were.
 -- Assumes nothing.
 use Prim.Native.Nat.{ℕ, suc, ◌+◌, ◌-◌, ◌*◌, ◌/◌, ◌≤◌, ◌<◌}
 use mathlib.Core.Path.{◌≡◌, refl, sym, ap, ap₂, ◌∙◌}
@@ -14,39 +14,34 @@ use Rattle.field.specs.Text.{part}
 use Rattle.field.proofs.Tests.{and_right}
 use Rattle.file_record.specs.Parts.{record_at}
 use Rattle.file_record.proofs.Records.{record-length, record-part, part_length}
-use Rattle.file_ends.specs.Ends.{identifier, retired, header_ok, trailer_ok}
+use Rattle.file_ends.specs.Ends.{identifier, header_ok, trailer_ok}
 use Rattle.unspace_file.specs.Unspaced.{spaces_at, whole_records, last_start, unspaced}
 use Rattle.unspace_file.proofs.Laws.{same-part}
-use Rattle.unspace_file.proofs.Kept.{not-spaces, head-spaces, head-other, end-spaces, end-other}
+use Rattle.unspace_file.proofs.Kept.{head-spaces, head-other, end-spaces, end-other}
 use Rattle.unspace_file.proofs.Records.{as_many, record-like, record-long, at_last}
+
+-- "an identifier of all spaces", w bytes
+unfoldable pub spaced : ℕ → List ℕ → Bool
+spaced w rec = only 32 (part rec 0 w)
 
 -- a record whose identifier of w bytes was rewritten with b where it was spaces, and no other byte
 pub record Renewed (w b : ℕ) (old new : List ℕ) : Type 0 where
   pub wide : w ≤ length new
   pub long : length new ≡ length old
-  pub spaces : retired w old ≡ true → only b (part new 0 w) ≡ true
-  pub other : retired w old ≡ false → part new 0 w ≡ part old 0 w
+  pub spaces : spaced w old ≡ true → only b (part new 0 w) ≡ true
+  pub other : spaced w old ≡ false → part new 0 w ≡ part old 0 w
   pub behind : (j : ℕ) → w ≤ j → get_or new j 0 ≡ get_or old j 0
 
 module _ (w b : ℕ) (some : 1 ≤ w) (proper : eqb b 32 ≡ false) (old new : List ℕ) (r : Renewed w b old new) where
-  pub current : retired w new ≡ false
-  unfolding retired
-  current = by-test (retired w old) refl
-    where
-      by-test : (t : Bool) → retired w old ≡ t → only 32 (part new 0 w) ≡ false
-      by-test true e =
-          not-spaces b proper (part new 0 w) (omega (arith, part_length new 0 w (omega arith) r.wide)) (r.spaces e)
-      by-test false e = ap (only 32) (r.other e) ∙ e
-
   pub identified : not (eqb (identifier b (part new 0 w)) 0) ≡ not (eqb (identifier b (part old 0 w)) 0)
-  unfolding identifier retired
-  identified = by-test (retired w old) refl
+  unfolding identifier spaced
+  identified = by-test (spaced w old) refl
     where
       either : (t : Bool) → true ≡ not (eqb (cond t 1 2) 0)
       either true = refl
       either false = refl
 
-      by-test : (t : Bool) → retired w old ≡ t
+      by-test : (t : Bool) → spaced w old ≡ t
           → not (eqb (cond (only b (part new 0 w)) 1 (cond (only 32 (part new 0 w)) 2 0)) 0)
           ≡ not (eqb (cond (only b (part old 0 w)) 1 (cond (only 32 (part old 0 w)) 2 0)) 0)
       by-test true e = rw (r.spaces e, e) (either (only b (part old 0 w)))
@@ -91,7 +86,7 @@ module _ (width w : ℕ) (narrow : w ≤ width) (file : List ℕ) (whole : whole
       → (spaces_at w at file ≡ true → only b (part new at (at + w)) ≡ true)
       → (spaces_at w at file ≡ false → part new at (at + w) ≡ part file at (at + w))
       → Renewed w b (record_at width file i) (record_at width new i)
-  unfolding retired
+  unfolding spaced
   renewed b i at here e spaces other =
       let there : i < length new / width = rw (as_many width w narrow file) here in
       let before = identifier-at file i at here e in

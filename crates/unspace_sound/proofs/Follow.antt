@@ -18,11 +18,10 @@ use Rattle.file_record.specs.Names.Point
 use Rattle.file_record.proofs.Records.{part_length}
 use Rattle.file_compare.specs.Order.{order, same}
 use Rattle.file_compare.proofs.Order.{order-equal}
-use Rattle.file_ends.specs.Ends.{retired}
 use Rattle.file_fault.specs.Point.{point_fault}
 use Rattle.file_fault.proofs.Passing.{point-passes, digits-pass}
 use Rattle.file.specs.Formats.{needed, follows}
-use Rattle.unspace_sound.proofs.Ends.{Renewed}
+use Rattle.unspace_sound.proofs.Ends.{spaced, Renewed}
 
 -- bytes that begin otherwise are not the same
 same-other : (a b : List ℕ) → (get_or a 0 0 ≡ get_or b 0 0 → ⊥) → same a b ≡ false
@@ -47,7 +46,7 @@ begins-only b w rec some long e =
     first (x ∷ s) h e = eqb-true x b (and_left (eqb x b) (only b s) e)
 
 -- a record that was not rewritten is as it was
-pub renewed-same : (w b : ℕ) (old new : List ℕ) → Renewed w b old new → retired w old ≡ false → new ≡ old
+pub renewed-same : (w b : ℕ) (old new : List ℕ) → Renewed w b old new → spaced w old ≡ false → new ≡ old
 renewed-same w b old new r e = ext_get_or 0 new old r.long (λ j h. by-test j (ltb j w) refl)
   where
     by-test : (j : ℕ) (t : Bool) → ltb j w ≡ t → get_or new j 0 ≡ get_or old j 0
@@ -58,11 +57,11 @@ renewed-same w b old new r e = ext_get_or 0 new old r.long (λ j h. by-test j (l
 -- an identifier that is rewritten begins with no digit, before and after
 module _ (w b : ℕ) (some : 1 ≤ w) (proper : digit b ≡ false) (old new : List ℕ) (r : Renewed w b old new) (rec : List ℕ)
     (dated : digit (get_or rec 0 0) ≡ true) where
-  new-begins : retired w old ≡ true → get_or new 0 0 ≡ b
+  new-begins : spaced w old ≡ true → get_or new 0 0 ≡ b
   new-begins e = begins-only b w new some r.wide (r.spaces e)
 
-  old-begins : retired w old ≡ true → get_or old 0 0 ≡ 32
-  unfolding retired
+  old-begins : spaced w old ≡ true → get_or old 0 0 ≡ 32
+  unfolding spaced
   old-begins e = begins-only 32 w old some (omega (arith, r.wide, r.long)) e
 
   -- so that no record is the same as far as the type
@@ -95,15 +94,15 @@ module _ (w b : ℕ) (some : 1 ≤ w) (proper : digit b ≡ false) (old new : Li
 
   -- the header as an owner, the trailer as a follower
   pub owner-kept : follows new rec ≡ follows old rec
-  owner-kept = by-test (retired w old) refl
+  owner-kept = by-test (spaced w old) refl
     where
-      by-test : (t : Bool) → retired w old ≡ t → follows new rec ≡ follows old rec
+      by-test : (t : Bool) → spaced w old ≡ t → follows new rec ≡ follows old rec
       by-test true e = owns_none new b (new-begins e) proper ∙ sym (owns_none old 32 (old-begins e) refl)
       by-test false e = ap (λ (l : List ℕ). follows l rec) (renewed-same w b old new r e)
 
   pub follower-kept : follows rec new ≡ follows rec old
-  follower-kept = by-test (retired w old) refl
+  follower-kept = by-test (spaced w old) refl
     where
-      by-test : (t : Bool) → retired w old ≡ t → follows rec new ≡ follows rec old
+      by-test : (t : Bool) → spaced w old ≡ t → follows rec new ≡ follows rec old
       by-test true e = follows-none new b (new-begins e) proper ∙ sym (follows-none old 32 (old-begins e) refl)
       by-test false e = ap (follows rec) (renewed-same w b old new r e)

@@ -46,7 +46,6 @@ table-identified =
     record {
       some = lit≤ tt;
       narrow = lit≤ tt;
-      retires = λ rec. refl;
       heads = header-kept Table.identifier (lit≤ tt) (changes 49);
       ends = trailer-kept Table.identifier (lit≤ tt);
       between =
@@ -107,7 +106,6 @@ points-identified =
     record {
       some = lit≤ tt;
       narrow = lit≤ tt;
-      retires = λ rec. refl;
       heads = header-kept Point.identifier (lit≤ tt) (changes 50);
       ends = trailer-kept Point.identifier (lit≤ tt);
       between =

@@ -23,7 +23,6 @@ use Rattle.tally.specs.Tally.{tally}
 use Rattle.tally_bytes.specs.Entries.{entries_outcome}
 use Rattle.changes_codes.specs.Codes.{code_of, live_codes, codes_in, codes_outcome}
 use Rattle.unspace_file.proofs.Records.{record-like, record-part-like}
-use Rattle.unspace_sound.specs.Old.{old_points}
 use Rattle.unspace_sound.specs.Sound.{new_points, SameLists}
 use Rattle.unspace_sound.proofs.Reader.{checked-kept}
 use Rattle.unspace_sound.proofs.Formats.{points-identified}
@@ -33,7 +32,7 @@ module _ (points : List ℕ) where
   abbrev new : List ℕ
   new = new_points points
 
-  judged-kept : checked point_format new ≡ checked old_points points
+  judged-kept : checked point_format new ≡ checked point_format points
   judged-kept = checked-kept point_format Point.identifier points-identified points
 
   count_kept : (code : List ℕ) → wanted_count code new ≡ wanted_count code points
@@ -73,21 +72,21 @@ module _ (points : List ℕ) where
   codes-kept : codes_in new ≡ codes_in points
   codes-kept = ap tally (codes-at-kept (wanted_in [] new) ∙ ap (live_codes points) (wanted-kept points []))
 
-  views_same : views_answer new ≡ after (checked old_points points) (Value (wanted_count [] points))
+  views_same : views_answer new ≡ after (checked point_format points) (Value (wanted_count [] points))
   unfolding views_answer
   views_same = ap₂ after judged-kept (ap Value (count_kept []))
 
-  letters-same : (view : ℕ) → letter_answer new view ≡ after (checked old_points points) (letter_at points (wanted_at [] points view))
+  letters-same : (view : ℕ) → letter_answer new view ≡ after (checked point_format points) (letter_at points (wanted_at [] points view))
   unfolding letter_answer
   letters-same view =
       ap₂ after judged-kept (letter-at-kept (wanted_at [] new view) ∙ ap (letter_at points) (place_kept view))
 
-  live_same : (code : List ℕ) → live_answer new code ≡ after (checked old_points points) (live_at points code)
+  live_same : (code : List ℕ) → live_answer new code ≡ after (checked point_format points) (live_at points code)
   unfolding live_answer
   live_same code = ap₂ after judged-kept (live-at-kept code)
 
   codes_same : (out : List ℕ)
-      → codes_outcome new out ≡ afterwards Refused (checked old_points points) out (entries_outcome (codes_in points) out)
+      → codes_outcome new out ≡ afterwards Refused (checked point_format points) out (entries_outcome (codes_in points) out)
   unfolding codes_outcome
   codes_same out =
       ap₂ (λ (a : Answer) (o : Outcome Answer). afterwards Refused a out o) judged-kept

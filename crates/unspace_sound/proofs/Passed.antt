@@ -15,10 +15,9 @@ use Rattle.field.specs.Text.{part}
 use Rattle.field.proofs.Tests.{and_left, and_right}
 use Rattle.file_record.specs.Parts.{record_at}
 use Rattle.file_record.proofs.Records.{part_length}
-use Rattle.file_ends.specs.Ends.{retired}
 use Rattle.unspace_file.specs.Unspaced.{spaces_at, rewritten, whole_records, unspaced}
 use Rattle.unspace_file.proofs.Laws.{filled_within, rewritten-spaces, rewritten-other, length-rewritten, rewritten-behind}
-use Rattle.unspace_sound.proofs.Ends.{Renewed, head-renewed, end-renewed}
+use Rattle.unspace_sound.proofs.Ends.{spaced, Renewed, head-renewed, end-renewed}
 use Rattle.unspace_sound.proofs.Follow.{front-byte, renewed-same}
 
 only-byte : (b : ℕ) (s : List ℕ) → only b s ≡ true → (i : ℕ) → i < length s → get_or s i 0 ≡ b
@@ -28,14 +27,14 @@ only-byte b (x ∷ s) e (suc i) h = only-byte b s (and_right (eqb x b) (only b s
 
 -- a record whose identifier was rewritten in its file is the record rewritten
 module _ (w b : ℕ) (old new : List ℕ) (r : Renewed w b old new) where
-  at_front : spaces_at w 0 old ≡ retired w old
-  unfolding retired
+  at_front : spaces_at w 0 old ≡ spaced w old
+  unfolding spaced
   at_front = ap (λ (n : ℕ). only 32 (part old 0 n)) (let z : 0 + w ≡ w = omega arith in z)
 
   renewed-is : new ≡ rewritten w 0 b old
-  renewed-is = by-test (retired w old) refl
+  renewed-is = by-test (spaced w old) refl
     where
-      by_byte : retired w old ≡ true → (j : ℕ) (t : Bool) → ltb j w ≡ t → get_or new j 0 ≡ get_or (rewritten w 0 b old) j 0
+      by_byte : spaced w old ≡ true → (j : ℕ) (t : Bool) → ltb j w ≡ t → get_or new j 0 ≡ get_or (rewritten w 0 b old) j 0
       by_byte e j true h =
           let low = ltb-true j w h in
           sym (front-byte new w j low)
@@ -46,7 +45,7 @@ module _ (w b : ℕ) (old new : List ℕ) (r : Renewed w b old new) where
       by_byte e j false h =
           r.behind j (ltb-false j w h) ∙ sym (rewritten-behind w 0 b old j (omega (arith, ltb-false j w h)))
 
-      by-test : (t : Bool) → retired w old ≡ t → new ≡ rewritten w 0 b old
+      by-test : (t : Bool) → spaced w old ≡ t → new ≡ rewritten w 0 b old
       by-test true e =
           ext_get_or 0 new (rewritten w 0 b old) (r.long ∙ sym (length-rewritten w 0 b old)) (λ j h. by_byte e j (ltb j w) refl)
       by-test false e = renewed-same w b old new r e ∙ sym (rewritten-other w 0 b old (at_front ∙ e))

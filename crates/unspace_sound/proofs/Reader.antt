@@ -1,5 +1,4 @@
--- A format whose header and trailer begin with an identifier: the reader answers for the rewritten file as the old reader for
--- the file.
+-- A format whose header and trailer begin with an identifier: the reader answers for the rewritten file as for the file.
 -- Assumes nothing.
 use Prim.Native.Nat.{ℕ, zero, suc, ◌+◌, ◌-◌, ◌*◌, ◌/◌, ◌≤◌, ◌<◌}
 use mathlib.Core.Path.{◌≡◌, refl, sym, ap, ap₂, ◌∙◌}
@@ -16,13 +15,11 @@ use Rattle.refusal.specs.Verdict.{or_else}
 use Rattle.refusal.specs.declared.Verdict.{Verdict}
 use Rattle.refusal.specs.declared.Verdict.TheVariants.{Fine, Bad}
 use Rattle.refusal.specs.declared.Answer.TheVariants.{Value}
-use Rattle.file_ends.specs.Ends.{retired}
-use Rattle.file.specs.Check.{Format, records, whole, at, rises, in_place, judged, scan, last, verdict, answered, checked}
+use Rattle.file.specs.Check.{Format, records, whole, at, rises, in_place, judged, scan, verdict, answered, checked}
 use Rattle.file.proofs.Laws.{verdict-length, verdict-header, verdict-trailer, verdict-scan}
 use Rattle.unspace_file.specs.Unspaced.{whole_records, unspaced}
 use Rattle.unspace_file.proofs.Kept.{length-unspaced}
-use Rattle.unspace_sound.specs.Old.{old_format}
-use Rattle.unspace_sound.proofs.Ends.{Renewed, current, head-renewed, end-renewed}
+use Rattle.unspace_sound.proofs.Ends.{Renewed, head-renewed, end-renewed}
 
 -- scans of verdicts that are the same
 scan-same : (one other : ℕ → Verdict) (k i : ℕ) → ((j : ℕ) → i ≤ j → j < i + k → one j ≡ other j) → scan one k i ≡ scan other k i
@@ -51,11 +48,14 @@ module _ (f : Format) (new file : List ℕ) (i : ℕ) where
       by-test true e = ap (by (at f file i) (rises f file i)) (placed (eqb-true _ 0 e))
       by-test false e = rw e refl
 
+-- the trailer
+abbrev end-of : Format → List ℕ → List ℕ
+end-of f file = at f file (records f file - 1)
+
 -- such a format
 pub record Identified (f : Format) (w : ℕ) : Type 0 where
   pub some : 1 ≤ w
   pub narrow : w ≤ f.width
-  pub retires : (rec : List ℕ) → f.retired rec ≡ retired w rec
   pub heads : (old new : List ℕ) → Renewed w 0 old new → f.headed new ≡ f.headed old
   pub ends : (n : ℕ) (old new : List ℕ) → Renewed w 255 old new → f.ended n new ≡ f.ended n old
   pub between : (file : List ℕ) → whole_records f.width w file ≡ true → (i : ℕ) → 1 ≤ i → i < records f file - 1
@@ -88,53 +88,47 @@ module _ (f : Format) (w : ℕ) (known : Identified f w) (file : List ℕ) where
     head : Renewed w 0 (at f file 0) (at f new 0)
     head = head-renewed f.width w known.narrow file two-whole
 
-    end : Renewed w 255 (last f file) (last f new)
+    end : Renewed w 255 (end-of f file) (end-of f new)
     end = rw records-kept (end-renewed f.width w known.narrow file two-whole)
-
-    head-current : f.retired (at f new 0) ≡ false
-    head-current = known.retires (at f new 0) ∙ current w 0 known.some refl (at f file 0) (at f new 0) head
-
-    end-current : f.retired (last f new) ≡ false
-    end-current = known.retires (last f new) ∙ current w 255 known.some refl (last f file) (last f new) end
 
     head-kept : f.headed (at f new 0) ≡ f.headed (at f file 0)
     head-kept = known.heads (at f file 0) (at f new 0) head
 
-    end_kept : f.ended (records f new) (last f new) ≡ f.ended (records f file) (last f file)
+    end_kept : f.ended (records f new) (end-of f new) ≡ f.ended (records f file) (end-of f file)
     end_kept =
-        ap (λ (n : ℕ). f.ended n (last f new)) records-kept ∙ known.ends (records f file) (last f file) (last f new) end
+        ap (λ (n : ℕ). f.ended n (end-of f new)) records-kept ∙ known.ends (records f file) (end-of f file) (end-of f new) end
 
-    scan-kept : scan (judged f new) (records f new - 2) 1 ≡ scan (judged (old_format f) file) (records f file - 2) 1
+    scan-kept : scan (judged f new) (records f new - 2) 1 ≡ scan (judged f file) (records f file - 2) 1
     unfolding judged
     scan-kept =
         ap (λ (n : ℕ). scan (judged f new) (n - 2) 1) records-kept
         ∙ scan-same (judged f new) (judged f file) (records f file - 2) 1
         (λ j p q. known.between file two-whole j p (omega arith))
 
-  verdict-kept : verdict f new ≡ verdict (old_format f) file
+  verdict-kept : verdict f new ≡ verdict f file
   verdict-kept = by_whole (whole f file) refl
     where
       by-ends : (all : whole f file ≡ true) → (t u : Bool) → f.headed (at f file 0) ≡ t
-          → f.ended (records f file) (last f file) ≡ u
-          → verdict f new ≡ verdict (old_format f) file
+          → f.ended (records f file) (end-of f file) ≡ u
+          → verdict f new ≡ verdict f file
       by-ends all true true e g =
-          verdict-scan f new (new-whole all) (head-current all) (head-kept all ∙ e) (end-current all) (end_kept all ∙ g)
-          ∙ (scan-kept all ∙ sym (verdict-scan (old_format f) file all refl e refl g))
+          verdict-scan f new (new-whole all) (head-kept all ∙ e) (end_kept all ∙ g)
+          ∙ (scan-kept all ∙ sym (verdict-scan f file all e g))
       by-ends all true false e g =
-          verdict-trailer f new (new-whole all) (head-current all) (head-kept all ∙ e) (end-current all) (end_kept all ∙ g)
-          ∙ (ap (λ (n : ℕ). Bad (Trailer n)) records-kept ∙ sym (verdict-trailer (old_format f) file all refl e refl g))
+          verdict-trailer f new (new-whole all) (head-kept all ∙ e) (end_kept all ∙ g)
+          ∙ (ap (λ (n : ℕ). Bad (Trailer n)) records-kept ∙ sym (verdict-trailer f file all e g))
       by-ends all false u e g =
-          verdict-header f new (new-whole all) (head-current all) (head-kept all ∙ e)
-          ∙ sym (verdict-header (old_format f) file all refl e)
+          verdict-header f new (new-whole all) (head-kept all ∙ e)
+          ∙ sym (verdict-header f file all e)
 
-      by_whole : (t : Bool) → whole f file ≡ t → verdict f new ≡ verdict (old_format f) file
-      by_whole true e = by-ends e (f.headed (at f file 0)) (f.ended (records f file) (last f file)) refl refl
-      by_whole false e = verdict-length f new (whole-kept ∙ e) ∙ sym (verdict-length (old_format f) file e)
+      by_whole : (t : Bool) → whole f file ≡ t → verdict f new ≡ verdict f file
+      by_whole true e = by-ends e (f.headed (at f file 0)) (f.ended (records f file) (end-of f file)) refl refl
+      by_whole false e = verdict-length f new (whole-kept ∙ e) ∙ sym (verdict-length f file e)
 
-  pub checked-kept : checked f new ≡ checked (old_format f) file
+  pub checked-kept : checked f new ≡ checked f file
   unfolding checked
-  checked-kept = ap (answered f new) verdict-kept ∙ by-verdict (verdict (old_format f) file)
+  checked-kept = ap (answered f new) verdict-kept ∙ by-verdict (verdict f file)
     where
-      by-verdict : (v : Verdict) → answered f new v ≡ answered (old_format f) file v
+      by-verdict : (v : Verdict) → answered f new v ≡ answered f file v
       by-verdict Fine = ap Value records-kept
       by-verdict (Bad why) = refl

@@ -1,4 +1,4 @@
--- "The new reader accepts its output exactly when the old reader accepted its input, with the same labels."
+-- The reader accepts the output exactly when it accepts the input, with the same labels.
 -- Assumes nothing.
 use mathlib.Core.Path.{◌≡◌, ap, ap₂, ◌∙◌}
 use mathlib.Core.List.{List}
@@ -21,8 +21,7 @@ use Rattle.ask.specs.Lists.{views_list, code_list}
 use Rattle.csv_paf.specs.Row.{view_row, view_rows}
 use Rattle.pack.specs.Cutting.{pack_built}
 use Rattle.changes_pair.specs.Pair.{pair_of}
-use Rattle.unspace_file.proofs.Kept.{length-unspaced, unspaced-outside, unspaced-again}
-use Rattle.unspace_sound.specs.Old.{old_table, old_points, old_pair_of}
+use Rattle.unspace_file.proofs.Kept.{length-unspaced, unspaced-outside, unspaced-again, unspaced-clean}
 use Rattle.unspace_sound.specs.Sound.{new_table, new_points, SameAnswers, Sound}
 use Rattle.unspace_sound.proofs.Reader.{checked-kept}
 use Rattle.unspace_sound.proofs.Formats.{table-identified, points-identified}
@@ -51,17 +50,17 @@ pair judged look views =
     record { judged = judged; look = look; views = views; live = kept views; heading = λ a. view_line a.view a.letter }
 
 module _ (table points : List ℕ) where
-  table_kept : checked table_format (new_table table) ≡ checked old_table table
+  table_kept : checked table_format (new_table table) ≡ checked table_format table
   table_kept = checked-kept table_format Table.identifier table-identified table
 
-  points_kept : checked point_format (new_points points) ≡ checked old_points points
+  points_kept : checked point_format (new_points points) ≡ checked point_format points
   points_kept = checked-kept point_format Point.identifier points-identified points
 
-  pair-kept : pair_of (new_table table) (new_points points) ≡ old_pair_of table points
+  pair-kept : pair_of (new_table table) (new_points points) ≡ pair_of table points
   pair-kept =
       ap₂ (λ (t p : Answer). pair (after t p) (table_lookup (new_table table)) (addresses_in (new_points points))) table_kept
       points_kept
-      ∙ ap₂ (pair (after (checked old_table table) (checked old_points points))) (look-kept table) (views-kept points)
+      ∙ ap₂ (pair (after (checked table_format table) (checked point_format points))) (look-kept table) (views-kept points)
 
 pub sound : (table points : List ℕ) → Sound table points
 sound table points =
@@ -69,12 +68,14 @@ sound table points =
       of_table = table_kept table points;
       of_points = points_kept table points;
       of_pair = pair-kept table points;
-      answers = same-answers (pair_of (new_table table) (new_points points)) (old_pair_of table points) (pair-kept table points);
+      answers = same-answers (pair_of (new_table table) (new_points points)) (pair_of table points) (pair-kept table points);
       listed = lists-same points;
       table_length = length-unspaced Table.width Table.identifier table;
       points_length = length-unspaced Point.width Point.identifier points;
       table_bytes = unspaced-outside Table.width Table.identifier table;
       points_bytes = unspaced-outside Point.width Point.identifier points;
+      table_clean = unspaced-clean Table.width Table.identifier (lit≤ tt) (lit≤ tt) table;
+      points_clean = unspaced-clean Point.width Point.identifier (lit≤ tt) (lit≤ tt) points;
       table_once = unspaced-again Table.width Table.identifier (lit≤ tt) (lit≤ tt) table;
       points_once = unspaced-again Point.width Point.identifier (lit≤ tt) (lit≤ tt) points;
     }

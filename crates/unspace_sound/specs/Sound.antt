@@ -1,5 +1,5 @@
--- What rewriting keeps: "The new reader accepts its output exactly when the old reader accepted its input, with the same
--- labels" (document 02, No. 9), for every byte string.
+-- What rewriting keeps: the reader accepts "its output exactly when" it accepts "its input, with the same labels" (document 02,
+-- No. 9), for every byte string.
 -- Assumes nothing.
 use Rattle.std.specs.Prelude.{ℕ, ◌≡◌, List, [], length, get_or}
 use Rattle.file_record.specs.Names.Table
@@ -19,8 +19,7 @@ use Rattle.changes_list.specs.Listing.{views_answer, letter_at, letter_answer, l
 use Rattle.changes_pair.specs.Pair.{pair_of}
 use Rattle.tally_bytes.specs.Entries.{entries_outcome}
 use Rattle.changes_codes.specs.Codes.{codes_in, codes_outcome}
-use Rattle.unspace_file.specs.Unspaced.{unspaced, Outside}
-use Rattle.unspace_sound.specs.Old.{old_table, old_points, old_pair_of}
+use Rattle.unspace_file.specs.Unspaced.{unspaced, unspaced_count, Outside}
 
 -- the rewritten files
 abbrev pub new_table : List ℕ → List ℕ
@@ -43,28 +42,31 @@ pub record SameAnswers (new old : Source) : Type 0 where
   pub row_runs : (first count : ℕ) (out : List ℕ) → view_rows new first count out ≡ view_rows old first count out
   pub packs : (code out : List ℕ) → pack_built new code out ≡ pack_built old code out
 
--- what is asked of a point file alone: the old reader's refusal first, then what was listed
+-- what is asked of a point file alone: the refusal of the file as it came first, then what was listed
 pub record SameLists (points : List ℕ) : Type 0 where
-  pub views : views_answer (new_points points) ≡ after (checked old_points points) (Value (wanted_count [] points))
+  pub views : views_answer (new_points points) ≡ after (checked point_format points) (Value (wanted_count [] points))
   pub letters : (view : ℕ)
-      → letter_answer (new_points points) view ≡ after (checked old_points points) (letter_at points (wanted_at [] points view))
-  pub live : (code : List ℕ) → live_answer (new_points points) code ≡ after (checked old_points points) (live_at points code)
+      → letter_answer (new_points points) view ≡ after (checked point_format points) (letter_at points (wanted_at [] points view))
+  pub live : (code : List ℕ) → live_answer (new_points points) code ≡ after (checked point_format points) (live_at points code)
   pub codes : (out : List ℕ)
       → codes_outcome (new_points points) out
-      ≡ afterwards Refused (checked old_points points) out (entries_outcome (codes_in points) out)
+      ≡ afterwards Refused (checked point_format points) out (entries_outcome (codes_in points) out)
 
 pub record Sound (table points : List ℕ) : Type 0 where
   -- how many records, or the first refusal with its details
-  pub of_table : checked table_format (new_table table) ≡ checked old_table table
-  pub of_points : checked point_format (new_points points) ≡ checked old_points points
+  pub of_table : checked table_format (new_table table) ≡ checked table_format table
+  pub of_points : checked point_format (new_points points) ≡ checked point_format points
   -- the pair is the same source, so that whatever is asked of it is answered the same
-  pub of_pair : pair_of (new_table table) (new_points points) ≡ old_pair_of table points
-  pub answers : SameAnswers (pair_of (new_table table) (new_points points)) (old_pair_of table points)
+  pub of_pair : pair_of (new_table table) (new_points points) ≡ pair_of table points
+  pub answers : SameAnswers (pair_of (new_table table) (new_points points)) (pair_of table points)
   pub listed : SameLists points
-  -- a rewritten file is as long and has the same bytes but for the two identifiers, and is not rewritten again
+  -- a rewritten file is as long, has the same bytes but for the two identifiers, and no identifier of spaces; it is not rewritten
+  -- again
   pub table_length : length (new_table table) ≡ length table
   pub points_length : length (new_points points) ≡ length points
   pub table_bytes : (i : ℕ) → Outside Table.width Table.identifier table i → get_or (new_table table) i 0 ≡ get_or table i 0
   pub points_bytes : (i : ℕ) → Outside Point.width Point.identifier points i → get_or (new_points points) i 0 ≡ get_or points i 0
+  pub table_clean : unspaced_count Table.width Table.identifier (new_table table) ≡ 0
+  pub points_clean : unspaced_count Point.width Point.identifier (new_points points) ≡ 0
   pub table_once : new_table (new_table table) ≡ new_table table
   pub points_once : new_points (new_points points) ≡ new_points points
