@@ -13,9 +13,8 @@ ghost use Rattle.changes_source.specs.Rows.{table_lookup};
 ghost use Rattle.changes_pair.specs.Live.{live_in};
 ghost use Rattle.changes_pair.specs.Pair.{pair_of};
 ghost use Rattle.changes_build.specs.Build.{live_pack};
-ghost use Rattle.changes_whole.specs.Marked.{Marked};
-ghost use Rattle.changes_build.specs.Ready.{Judged};
-ghost use Rattle.changes_build.specs.Views.{packed_in, Known};
+ghost use Rattle.changes_build.specs.Ready.{Judged, Marked};
+ghost use Rattle.changes_build.specs.Views.{Known};
 
 use pack_read::NewestPack;
 use refusal::{Answer, Reason, Verdict};
@@ -33,8 +32,7 @@ fn write_if_room(
     out: &mut [u8],
 ) -> Answer
     requires known { Known table.now refs.now points.now }
-    requires judged { Judged table.now points.now code.now }
-    requires marked { Marked table.now (packed_in points.now code.now) starts.old }
+    requires marked { Marked table.now points.now code.now starts.old }
     ensures { said result out.new ≡ room_outcome
         (live_pack table.now points.now code.now) out.old }
 {

@@ -5,8 +5,7 @@ ghost use Rattle.changes_source.specs.Rows.{table_shelf, table_stock};
 ghost use Rattle.shelf.specs.Shelf.{last_of};
 ghost use Rattle.build.specs.Plan.{organisation_rows, organisation_count};
 ghost use Rattle.build.specs.Bytes.{points_in};
-ghost use Rattle.changes_whole.specs.Marked.{MarksAll};
-ghost use Rattle.changes_build.specs.Views.{packed_in, Known};
+ghost use Rattle.changes_build.specs.Views.{packed_in, Known, MarksViews};
 
 use build_place::inner::{Sums, one_if, organisation_len};
 use build_points::inner::{key_offsets, point_at};
@@ -24,8 +23,8 @@ pub fn mark_views(
     marks: &mut [u32],
 ) -> Verdict
     requires { Known table.now refs.now points.now × (last_of table_shelf table.now ≤ length marks.old) }
-    ensures { MarksAll table.now (packed_in points.now code.now)
-        marks.old result marks.new }
+    ensures { MarksViews table.now points.now code.now marks.old result
+        marks.new }
 {
     let last = last_of(points);
     let s = table_shelf();

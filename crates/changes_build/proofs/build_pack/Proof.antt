@@ -1,6 +1,6 @@
 -- `changes_build::build_pack` meets its contract. Assumes nothing.
 use borrow.Author.Rules.{rules}
-use mathlib.Core.Path.{◌≡◌, sym, ◌∙◌}
+use mathlib.Core.Path.{sym, ◌∙◌}
 use Rattle.refusal.specs.declared.Answer.TheVariants.{Refused}
 use Rattle.ask.proofs.Laws.{by-good-code, by-bad-code, by-refused}
 use Rattle.pack.specs.Cutting.{pack_built}

@@ -1,6 +1,6 @@
 -- `changes_build::cut` meets its contract. Assumes nothing.
 use borrow.Author.Rules.{rules}
-use mathlib.Core.Path.{◌≡◌, refl, sym, subst, ◌∙◌}
+use mathlib.Core.Path.{refl, sym, subst, ◌∙◌}
 use native.Mathlib.Omega.{arith}
 use Rattle.changes_source.proofs.Table.{table_fits}
 use Rattle.refusal.specs.declared.Verdict.TheVariants.{Fine, Bad}
@@ -9,7 +9,7 @@ use Rattle.shelf.specs.Search.{Filled}
 use Rattle.changes_build.specs.Views.{Known}
 use Rattle.changes_whole.proofs.Rows.{fresh-long, fresh-marked}
 use Rattle.changes_whole.proofs.Whole.{cut_as}
-use Rattle.changes_build.proofs.Laws.{packable}
+use Rattle.changes_build.proofs.Laws.{packable, marks-whole, marked-pair}
 use Rattle.changes_build.proofs.cut.Statement.{statement}
 use Rattle.changes_build.proofs.cut.Tie as tie
 
@@ -47,7 +47,7 @@ write-if-room-requires c κs =
     let m = c in
     let f = m.before.before.before.before in
     let told = c.in-Fine.is in
-    (known f.before.before.before.before.before, ((s f.before.before.before.before.before).requires, fresh-marked 20000 refl m.mark_views.ensures told))
+    (known f.before.before.before.before.before, marked-pair (s f.before.before.before.before.before).requires (fresh-marked 20000 refl (marks-whole m.mark_views.ensures) told))
 
 returns : tie.Need-returns-in-Fine
 returns c =

@@ -12,14 +12,17 @@ use Rattle.label.proofs.Puts.{wrote_as}
 use Rattle.label.proofs.Room.{counted-short, counted-written}
 use Rattle.build.specs.Rows.{all_bytes, all_count}
 use Rattle.build.specs.Placed.{Placed}
+use Rattle.build.specs.Bytes.{pack_in}
 use Rattle.changes_build.specs.Views.{packed_in}
 use Rattle.changes_build.specs.Build.{live_pack}
 use Rattle.pack.specs.Names.{newest, point_width, trailer_width}
 use Rattle.changes_whole.specs.Marked.{Packable}
+use Rattle.changes_whole.specs.Marked as any
 use Rattle.changes_whole.proofs.Rows.{table-small, marked-long}
-use Rattle.changes_whole.proofs.Whole.{counted, rows-small, rows-counted, written}
+use Rattle.changes_whole.proofs.Whole.{rows-small, rows-counted}
 use Rattle.changes_pair.specs.Live.{live_in}
-use Rattle.changes_build.proofs.Laws.{count-of, packable}
+use Rattle.changes_build.specs.Ready.{Marked}
+use Rattle.changes_build.proofs.Laws.{count-of, packable, marked-whole, counted, written}
 use native.Mathlib.Omega.{arith}
 use Rattle.changes_build.proofs.write_if_room.Statement.{statement}
 use Rattle.changes_build.proofs.write_if_room.Tie as tie
@@ -56,8 +59,14 @@ module _ (w : tie.After-count_wanted-count) where
   abbrev pack : List ℕ
   pack = live_pack table points code
 
+  marked : Marked table points code marks
+  marked = s.requires.1
+
   ready : Packable table points (packed_in points code) (live_in points code) code
-  ready = packable table points code s.requires.1.0
+  ready = packable table points code marked.judged
+
+  all-marked : any.Marked table (packed_in points code) marks
+  all-marked = marked-whole marked
 
   placed : Placed (table_stock table) marks starts
   placed = subst (λ (z : Shelf). Placed (stock_of z table) marks starts) t.table_shelf.ensures r.place_rows-of_table.ensures.1.1
@@ -74,7 +83,10 @@ module _ (w : tie.After-count_wanted-count) where
   whole : length pack
       ≡ r.place_rows-of_table.result.bytes + o.organisations_in-of_points.result.bytes + point_width newest * w.count_wanted-count.result
       + trailer_width newest
-  whole = omega (arith, counted ready s.requires.1.1 placed, views, bytes_of, o.organisations_in-of_points.ensures.1)
+  whole = omega (arith, counted table points code marks starts marked placed, views, bytes_of, o.organisations_in-of_points.ensures.1)
+
+  is-pack : pack_in (table_stock table) points points starts (packed_in points code) code ≡ pack
+  is-pack = written table points code marks starts marked placed
 
   few : length pack < 4_294_967_295
   few = ready.small
@@ -84,7 +96,7 @@ place-rows-requires c κs =
     let t = c in
     let s = t.before.before.before.before.before.before.before in
     let small = table-small s.args.table.now s.requires.0.of_table in
-    rw t.table_shelf.ensures (table_fits, (omega (arith, small, marked-long s.requires.1.1), omega (arith, small)))
+    rw t.table_shelf.ensures (table_fits, (omega (arith, small, marked-long (marked-whole s.requires.1)), omega (arith, small)))
 
 add-needed : tie.Need-overflow_add-needed
 add-needed c = omega (arith, whole c.before.before, few c.before.before)
@@ -109,7 +121,7 @@ add-rows c =
     let w = c in
     omega (
       arith,
-      rows-small (ready w.before.before.before.before.before) (s w.before.before.before.before.before).requires.1.1 (placed w.before.before.before.before.before),
+      rows-small (ready w.before.before.before.before.before) (all-marked w.before.before.before.before.before) (placed w.before.before.before.before.before),
       rows_of w.before.before.before.before.before,
       (o w.before.before.before.before.before).organisations_in-of_points.ensures.0,
     )
@@ -117,13 +129,13 @@ add-rows c =
 write-pack-requires : tie.Need-write_pack-requires
 write-pack-requires c κs =
     let w = c in
-    let is = written (ready w.before.before.before.before.before.before) (s w.before.before.before.before.before.before).requires.1.1 (placed w.before.before.before.before.before.before) in (
+    let is = is-pack w.before.before.before.before.before.before in (
       (s w.before.before.before.before.before.before).requires.0,
       record {
         of_rows =
             omega (
               arith,
-              rows-counted (ready w.before.before.before.before.before.before) (s w.before.before.before.before.before.before).requires.1.1 (placed w.before.before.before.before.before.before),
+              rows-counted (ready w.before.before.before.before.before.before) (all-marked w.before.before.before.before.before.before) (placed w.before.before.before.before.before.before),
               rows_of w.before.before.before.before.before.before,
               (o w.before.before.before.before.before.before).organisations_in-of_points.ensures.0,
             );
@@ -137,7 +149,7 @@ returns-2 c =
     let p = c in
     let w = p in
     let out = (s w.before.before.before.before.before.before.before.before.before).args.out.now in
-    let is = written (ready w.before.before.before.before.before.before.before.before.before) (s w.before.before.before.before.before.before.before.before.before).requires.1.1 (placed w.before.before.before.before.before.before.before.before.before) in
+    let is = is-pack w.before.before.before.before.before.before.before.before.before in
     let fits : length (pack w.before.before.before.before.before.before.before.before.before) ≤ length out = omega (arith, whole w.before.before.before.before.before.before.before.before.before) in
     let wrote = wrote_as is p.write_pack.ensures in
     counted-written (pack w.before.before.before.before.before.before.before.before.before) out fits wrote.size wrote.is
