@@ -17,11 +17,14 @@ use Rattle.refusal.proofs.Outcomes.{afterwards-value}
 use Rattle.source.specs.Address.{Address}
 use Rattle.source.specs.Resolve.{Resolved, resolve}
 use Rattle.label.specs.Label.{room_outcome}
+use Rattle.run.specs.Series.{run_from}
 use Rattle.item.specs.Item.{resolved_text, item_outcome}
 use Rattle.ask.specs.Source.{in_code}
 use Rattle.ask.specs.Labels.{kth}
 use Rattle.ask.specs.Lists.{resolved_of, kth_item, view_item, code_item, heading_or, headings}
 use Rattle.ask.proofs.Laws.{by-good-code}
+use Rattle.ask.specs.Shown.{views_shown, code_shown}
+use Rattle.ask.proofs.Shown as Shown
 use Rattle.ask.proofs.Shown.{AsksViews, AsksCode}
 use Rattle.mainfile.specs.Set.{Set, set_judged}
 use Rattle.mainfile.specs.Rows.{set_lookup}
@@ -109,3 +112,15 @@ module _ (s : Set) {n : ℕ} (taken : set_judged s ≡ Value n) where
         items = code-item code clean;
         labels = λ k o. sym (shown-label s _ o) ∙ code-by-place s taken code clean k o;
       }
+
+  module _ (first count : ℕ) (out : List ℕ) where
+    pub views-shown : (listed : Bool)
+        → run_from (shown_among listed s 1 (views_in s.addresses)) first count out
+        ≡ views_shown listed (main_of s) first count out
+    views-shown = Shown.views-shown (main_of s) taken first count out _ asks-views
+
+    module _ (code : List ℕ) where
+      pub code-shown : outward_fault code ≡ 0 → (listed : Bool)
+          → run_from (shown_among listed s (first_in s.addresses code) (many_in s.addresses code)) first count out
+          ≡ code_shown listed (main_of s) code first count out
+      code-shown clean = Shown.code-shown (main_of s) taken first count out code clean _ (asks-code code clean)

@@ -7,9 +7,9 @@ use Rattle.mainfile.specs.Set.{Set, set_of}
 use Rattle.mainfile_check.proofs.Laws.{set-accepted}
 use Rattle.mainfile_label.proofs.Laws.{code-between}
 use Rattle.mainfile_runs.specs.Shown.{shown_among}
-use Rattle.ask.proofs.Shown.{code-shown, code_refused, files_refused}
+use Rattle.ask.proofs.Shown.{code_refused, files_refused}
 use Rattle.mainfile.specs.Main.{main_of}
-use Rattle.mainfile_runs.proofs.Meant.{asks-code}
+use Rattle.mainfile_runs.proofs.Meant.{code-shown}
 use Rattle.mainfile_runs.proofs.asked.in_code.Statement.{statement}
 use Rattle.mainfile_runs.proofs.asked.in_code.Tie as tie
 
@@ -56,8 +56,8 @@ returns-2 c =
     w.walk.ensures
     ∙ (ap₂ (λ (n m : ℕ). run_from (shown_among a.listed (files k.before.before.before.before.before.before.before.before) n m) a.first a.count a.out.now)
     s.stretch_in-s.ensures.0 s.stretch_in-s.ensures.1
-    ∙ code-shown (main_of (files k.before.before.before.before.before.before.before.before)) taken a.first a.count a.out.now a.code.now clean _
-    (asks-code (files k.before.before.before.before.before.before.before.before) taken a.code.now clean) a.listed)
+    ∙ code-shown (files k.before.before.before.before.before.before.before.before) taken a.first a.count a.out.now a.code.now clean
+    a.listed)
 
 returns-3 : tie.Need-returns-in-Refused
 returns-3 c =

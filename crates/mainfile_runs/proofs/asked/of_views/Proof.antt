@@ -7,9 +7,9 @@ use Rattle.mainfile.specs.Set.{Set, set_of}
 use Rattle.mainfile_check.proofs.Laws.{set-accepted}
 use Rattle.mainfile_label.proofs.Laws.{all-between}
 use Rattle.mainfile_runs.specs.Shown.{shown_among}
-use Rattle.ask.proofs.Shown.{views-shown, views-refused}
+use Rattle.ask.proofs.Shown.{views-refused}
 use Rattle.mainfile.specs.Main.{main_of}
-use Rattle.mainfile_runs.proofs.Meant.{asks-views}
+use Rattle.mainfile_runs.proofs.Meant.{views-shown}
 use Rattle.mainfile_runs.proofs.asked.of_views.Statement.{statement}
 use Rattle.mainfile_runs.proofs.asked.of_views.Tie as tie
 
@@ -43,7 +43,7 @@ returns c =
     w.walk.ensures
     ∙ (ap₂ (λ (n m : ℕ). run_from (shown_among a.listed (files k.before.before.before.before.before.before) n m) a.first a.count a.out.now)
     all.all_in.ensures.0 all.all_in.ensures.1
-    ∙ views-shown (main_of (files k.before.before.before.before.before.before)) taken a.first a.count a.out.now _ (asks-views (files k.before.before.before.before.before.before) taken) a.listed)
+    ∙ views-shown (files k.before.before.before.before.before.before) taken a.first a.count a.out.now a.listed)
 
 returns-2 : tie.Need-returns-in-Refused
 returns-2 c =
