@@ -76,7 +76,6 @@ enum ttw_refused {
     TTW_REFUSED_SUFFIX = 13,
     TTW_REFUSED_ROW = 14,
     TTW_REFUSED_FIELD = 15,
-    TTW_REFUSED_RETIRED = 16,
     TTW_REFUSED_INSERTED_TWICE = 17,
     TTW_REFUSED_NOT_PRESENT = 18,
     TTW_REFUSED_CHANGE = 19,
@@ -87,9 +86,7 @@ enum ttw_refused {
 
 /* Refusals of a file, in the order in which they are tried (the detail is the record's number, counted from 1):
  *   1 the length is not 2 to 20,000 whole records (detail 0)
- *  16 the header's identifier is spaces throughout, whatever else is wrong there (1)
  *   2 the header is malformed (1)
- *  16 the trailer's identifier is spaces throughout, whatever its count is (the last record)
  *   3 the trailer's identifier or count is wrong (the last record)
  *   then record by record
  *   4 the record is malformed (the second detail is the byte of the record at which its first fault stands, counted
@@ -98,18 +95,18 @@ enum ttw_refused {
  *   6 a follower is missing (the type 1 is named), or stray (it is named itself)
  */
 
-/* How many records a table file (Changes1) has. Refusals: 1 to 5 and 16, file 1. */
+/* How many records a table file (Changes1) has. Refusals: 1 to 5, file 1. */
 uint64_t ttw_table(const uint8_t *table, size_t table_len);
 
-/* How many records a point file (Changes2, Single Changes) has. Refusals: 1 to 6 and 16, file 2. */
+/* How many records a point file (Changes2, Single Changes) has. Refusals: 1 to 6, file 2. */
 uint64_t ttw_points(const uint8_t *points, size_t points_len);
 
 /* Archived files. Files that somebody edited, or that came on an old CD-Rom, have spaces for the identifiers of header and
- * trailer, which are refused with 16. Rewriting makes zero bytes of such an identifier in the header and bytes 255 in the
- * trailer, in place, and leaves every other byte as it was; a file that is not two or more whole records stays as it is, and
- * one of more than 20,000 records is rewritten too. What is accepted then is what was accepted before spaces were refused,
- * with the same labels, and the refusals of what is not are those of before. Header and trailer alone are read, so that the
- * two of them, one behind the other, are rewritten as the file is (docs/calls/unspace.md, `in_parts`).
+ * trailer. They are accepted as they are. Rewriting makes zero bytes of such an identifier in the header and bytes 255 in
+ * the trailer, in place, and leaves every other byte as it was; a file that is not two or more whole records stays as it is,
+ * and one of more than 20,000 records is rewritten too. What was accepted is accepted then, with the same labels, and what
+ * was refused is refused alike. Header and trailer alone are read, so that the two of them, one behind the other, are
+ * rewritten as the file is (docs/calls/unspace.md, `in_parts`).
  *
  *     uint64_t rewritten = TTW_VALUE(ttw_unspace_table(table, table_len));
  *     printf("%lu of 2 identifiers were spaces\n", (unsigned long)rewritten);
@@ -121,21 +118,21 @@ uint64_t ttw_unspace_table(uint8_t *file, size_t len);
 /* Rewrites a point file: how many identifiers were spaces, 0, 1 or 2. No refusal. */
 uint64_t ttw_unspace_points(uint8_t *file, size_t len);
 
-/* How many views a point file has. Refusals: 1 to 6 and 16, file 2. */
+/* How many views a point file has. Refusals: 1 to 6, file 2. */
 uint64_t ttw_views(const uint8_t *points, size_t points_len);
 
-/* The amendment letter of a view, counted from 1: 'B', 'C', 'D' or 'I'. Refusals: 1 to 6 and 16, file 2; then 7, no such
+/* The amendment letter of a view, counted from 1: 'B', 'C', 'D' or 'I'. Refusals: 1 to 6, file 2; then 7, no such
  * view. */
 uint64_t ttw_letter(const uint8_t *points, size_t points_len, uint64_t view);
 
-/* How many live views an outward code has. The code is 4 bytes, padded with spaces. Refusals: 1 to 6 and 16, file 2;
- * then 12, the code is malformed. */
+/* How many live views an outward code has. The code is 4 bytes, padded with spaces. Refusals: 1 to 6, file 2; then 12,
+ * the code is malformed. */
 uint64_t ttw_live(const uint8_t *points, size_t points_len, const uint8_t *code, size_t code_len);
 
 /* The outward codes that have live views, rising, written into `out`: each its 4 bytes, padded with spaces, and then how
  * many live views it has in 4 bytes, the most significant first. The value is how many codes there are, and each takes 8
- * bytes; what stands behind them in `out` is as it was. Refusals: 1 to 6 and 16, file 2; then 10, `out` is shorter than
- * that (the bytes needed). A refused call leaves all of `out` as it was. */
+ * bytes; what stands behind them in `out` is as it was. Refusals: 1 to 6, file 2; then 10, `out` is shorter than that (the
+ * bytes needed). A refused call leaves all of `out` as it was. */
 uint64_t ttw_codes(const uint8_t *points, size_t points_len, uint8_t *out, size_t out_len);
 
 /* Labels, one at a time. `out` is the one slice that is written: a refused call leaves all of it as it was, an accepted
@@ -554,7 +551,7 @@ uint64_t ttw_book(const uint8_t *book, size_t book_len);
  * point in the lowest free slot, with the place behind the last; D removes it, and later places fall by one; B and the C of
  * the same delivery point, which has to be the next view, replace its records, and it keeps its place. The value is the
  * place concerned, for D the one that it had. A refused call leaves all of the book as it was. Refusals, in this order: 28;
- * the point file's, 1 to 6 and 16 (file 2); then, with no file and detail 0,
+ * the point file's, 1 to 6 (file 2); then, with no file and detail 0,
  *   7 no such view
  *  19 the view is a C, or a B whose next view is not the C of the same delivery point
  *  17 I, and the delivery point is present

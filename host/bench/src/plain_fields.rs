@@ -66,12 +66,11 @@ pub fn begins(bytes: &[u8]) -> bool {
     (bytes[0] != b' ') | blank(bytes)
 }
 
-/// How a file is framed: the most records that it has, how many bytes of a mark header and trailer begin with (0 and 255),
-/// whether spaces are as good, how many digits stand behind these (all 0 and all 9), and what the header then says.
+/// How a file is framed: the most records that it has, how many bytes of a mark header and trailer begin with (0 and 255,
+/// or spaces), how many digits stand behind these (all 0 and all 9), and what the header then says.
 pub struct Frame {
     pub most: usize,
     pub mark: usize,
-    pub spaces: bool,
     pub digits: usize,
     pub name: &'static [u8; 8],
 }
@@ -96,7 +95,7 @@ impl Frame {
     fn behind<'a>(&self, record: &'a [u8], mark: u8, digit: u8) -> Option<&'a [u8]> {
         let (front, rest) = record.split_at(self.mark);
         let (middle, rest) = rest.split_at(self.digits);
-        let marked = all(front, |byte| byte == mark) | (self.spaces & blank(front));
+        let marked = all(front, |byte| byte == mark) | blank(front);
         (marked & all(middle, |byte| byte == digit)).then_some(&rest[..8])
     }
 }

@@ -104,7 +104,7 @@ fn malformed(rng: &mut Rng, turn: u64) -> Files {
 fn damaged(rng: &mut Rng) -> Files {
     let pair = make::pair(rng, 60);
     let mut files = asked(rng, pair);
-    let number = *rng.pick(&[1, 2, 3, 5, 6, 16]);
+    let number = *rng.pick(&[1, 2, 3, 5, 6]);
     let place = *rng.pick(&Place::ALL);
     if rng.one_in(2) {
         let damaged = make::damaged_table(rng, number, place);

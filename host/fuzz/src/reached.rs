@@ -207,8 +207,8 @@ pub fn wanted() -> Vec<Kind> {
         single.iter().for_each(|number| add(*number, 0, 0..=0));
         for group in groups.chars() {
             match group {
-                't' => (1..=5).chain([16]).for_each(|number| add(number, 1, 0..=0)),
-                'p' => (1..=6).chain([16]).for_each(|number| add(number, 2, 0..=0)),
+                't' => (1..=5).for_each(|number| add(number, 1, 0..=0)),
+                'p' => (1..=6).for_each(|number| add(number, 2, 0..=0)),
                 'v' => [(8, 3), (9, 7)]
                     .into_iter()
                     .for_each(|(number, last)| add(number, 0, 1..=last)),

@@ -78,7 +78,7 @@ impl Tally {
     /// Fails unless each refusal was given and each call gave a value.
     pub fn assert_all_reached(&self) {
         let given = |number: &u64| self.refusals.contains_key(number);
-        let mut all = (1..=20).chain([27, 28]);
+        let mut all = (1..=15).chain(17..=20).chain([27, 28]);
         assert!(all.all(|number| given(&number)), "{self}");
         assert!(self.by_call.values().all(|seen| seen.values > 0), "{self}");
     }

@@ -148,7 +148,7 @@ fn csv_files(rng: &mut Rng) -> Vec<Put> {
 fn damaged_files(rng: &mut Rng) -> Vec<Put> {
     let mut puts = Vec::new();
     for place in [Place::ALL; 3].concat() {
-        for number in make::FILE_REFUSALS {
+        for number in 1..=6 {
             let table = make::damaged_table(rng, number, place);
             let points = make::damaged_points(rng, number, place);
             puts.extend(table.map(|damaged| Put::Table(damaged.file)));

@@ -1,12 +1,12 @@
 //! Document 01, "Record layouts", "Sequence" (as document 02, No. 3, has it)
-//! and "Followers": a file is accepted, or the first refusal in the order 1,
-//! header 16, 2, trailer 16, 3 (document 02, No. 9), then record by record 4, 5,
-//! 6.
+//! and "Followers": a file is
+//! accepted, or the first refusal in the order 1, 2, 3, then record by record
+//! 4, 5, 6.
 
 use crate::address::{Texts, NO_TEXTS};
 use crate::fields::trimmed;
 use crate::layout::{point, table, FileRules, FEWEST_RECORDS, POINTS, POINT_FIELDS, TABLE};
-use crate::records::{is_header, is_retired, is_trailer};
+use crate::records::{is_header, is_trailer};
 use crate::refusal::Refusal;
 use crate::source::{codes_of, live_in, needs_organisation, nth, View};
 use std::ops::Range;
@@ -75,25 +75,17 @@ pub(crate) fn record_at<'a>(file: &'a [u8], rules: &FileRules, number: usize) ->
     &file[(number - 1) * rules.record..number * rules.record]
 }
 
-/// Refusals 1, 2, 3 and 16: length, header, trailer, the identifiers of both.
-/// Answers the records.
+/// Refusals 1, 2 and 3: length, header, trailer. Answers the records.
 fn check_frame(file: &[u8], rules: &FileRules) -> Result<usize, Refusal> {
     let records = file.len() / rules.record;
     let whole = file.len().is_multiple_of(rules.record);
     if !whole || !(FEWEST_RECORDS..=rules.most_records).contains(&records) {
         return Err(Refusal::of_file(rules.file, 1, 0));
     }
-    let [header, trailer] = [1, records].map(|number| record_at(file, rules, number));
-    if is_retired(header, rules) {
-        return Err(Refusal::of_file(rules.file, 16, 1));
-    }
-    if !is_header(header, rules) {
+    if !is_header(record_at(file, rules, 1), rules) {
         return Err(Refusal::of_file(rules.file, 2, 1));
     }
-    if is_retired(trailer, rules) {
-        return Err(Refusal::of_file(rules.file, 16, records as u64));
-    }
-    if !is_trailer(trailer, rules, records) {
+    if !is_trailer(record_at(file, rules, records), rules, records) {
         return Err(Refusal::of_file(rules.file, 3, records as u64));
     }
     Ok(records)
@@ -196,12 +188,12 @@ pub(crate) struct TableFile<'a> {
 
 impl<'a> TableFile<'a> {
     pub fn accept(file: &'a [u8]) -> Result<TableFile<'a>, Refusal> {
-        TableFile::accept_by(file, &TABLE)
+        let records = check_table(file)?;
+        Ok(TableFile { file, records })
     }
 
-    /// The same by other rules.
-    pub fn accept_by(file: &'a [u8], rules: &FileRules) -> Result<TableFile<'a>, Refusal> {
-        let records = check_file(file, rules, table_fault)?;
+    pub fn accept_of_any_length(file: &'a [u8]) -> Result<TableFile<'a>, Refusal> {
+        let records = check_file(file, &TABLE.of_any_length(), table_fault)?;
         Ok(TableFile { file, records })
     }
 
@@ -270,12 +262,12 @@ pub(crate) struct PointFile<'a> {
 
 impl<'a> PointFile<'a> {
     pub fn accept(file: &'a [u8]) -> Result<PointFile<'a>, Refusal> {
-        PointFile::accept_by(file, &POINTS)
+        let records = check_points(file)?;
+        Ok(PointFile { file, records })
     }
 
-    /// The same by other rules.
-    pub fn accept_by(file: &'a [u8], rules: &FileRules) -> Result<PointFile<'a>, Refusal> {
-        let records = check_points_by(file, rules)?;
+    pub fn accept_of_any_length(file: &'a [u8]) -> Result<PointFile<'a>, Refusal> {
+        let records = check_points_by(file, &POINTS.of_any_length())?;
         Ok(PointFile { file, records })
     }
 

@@ -33,11 +33,9 @@ pub struct FileRules {
     pub record: usize,
     /// The most records, header and trailer included.
     pub most_records: usize,
-    /// In the header zero bytes, in the trailer bytes 255; no bytes in the files
-    /// of rows of a Mainfile set.
+    /// In the header zero bytes or spaces, in the trailer bytes 255 or spaces;
+    /// no bytes in the files of rows of a Mainfile set.
     pub identifier: Field,
-    /// What spaces throughout an identifier are.
-    pub spaces: Spaces,
     /// Behind the identifier: digits 0 in the header, 9 in the trailer; no
     /// bytes in a table or point file.
     pub digits: Field,
@@ -52,24 +50,7 @@ pub struct FileRules {
     pub sequence: &'static [Field],
 }
 
-/// What an identifier of spaces is.
-#[derive(Clone, Copy, PartialEq, Eq)]
-pub enum Spaces {
-    /// As good as its bytes.
-    Taken,
-    /// Refused with 16 (document 02, No. 9).
-    Retired,
-}
-
 impl FileRules {
-    /// The same as it was read before spaces were retired.
-    pub fn archived(&self) -> FileRules {
-        FileRules {
-            spaces: Spaces::Taken,
-            ..self.clone()
-        }
-    }
-
     /// The same for a file of any length, as it is before it is cut into parts.
     pub fn of_any_length(&self) -> FileRules {
         FileRules {
@@ -85,7 +66,6 @@ pub static TABLE: FileRules = FileRules {
     record: 169,
     most_records: MOST_RECORDS,
     identifier: 0..9,
-    spaces: Spaces::Retired,
     digits: 9..9,
     file_identifier: 9..17,
     name: b"CHANGES1",
@@ -99,7 +79,6 @@ pub static POINTS: FileRules = FileRules {
     record: 168,
     most_records: MOST_RECORDS,
     identifier: 0..14,
-    spaces: Spaces::Retired,
     digits: 14..14,
     file_identifier: 14..22,
     name: b"CHANGES2",
@@ -124,7 +103,6 @@ pub static MAIN: [FileRules; MAIN_FILES] = [
         record: 88,
         most_records: MOST_MAIN_RECORDS,
         identifier: 0..7,
-        spaces: Spaces::Taken,
         digits: 7..15,
         file_identifier: 15..23,
         name: b"ADDRESS ",
@@ -151,7 +129,6 @@ const fn row_file(
         record,
         most_records: MOST_MAIN_RECORDS,
         identifier: 0..0,
-        spaces: Spaces::Taken,
         digits: 0..8,
         file_identifier: 8..16,
         name,

@@ -14,7 +14,7 @@
 //! | `fields` | Well formed, Postcode: single fields; numeric-like |
 //! | `records` | Well formed: whole records, header, trailer |
 //! | `files` | Order of refusals, Sequence, Followers; rows and views |
-//! | `unspace`, `archived` | Document 02, Stop the space identifiers: a file rewritten; the reader as it was before |
+//! | `unspace` | Document 02, Stop the space identifiers: a file rewritten |
 //! | `address` | What views and points have in common; rule 8 |
 //! | `label` | The label |
 //! | `source` | Views, their rows and labels, whatever the files; refusals 7, 8, 9, 12 |
@@ -38,7 +38,7 @@
 //! | Is a date or a time a real one? | not asked | "digits throughout" is all that is said |
 //! | May an address key be zero? May L have an organisation key above zero? | yes | only table keys are said not to be zero |
 //! | A type 2 record with L, or a type 3 with S? | well formed; refused with 6 | no owner that has the same 41 bytes wants it |
-//! | A trailer as the next record of a view that needs a follower? | the follower is missing: 6 with the view's record | its first 14 bytes are 255, never digits |
+//! | A trailer as the next record of a view that needs a follower? | the follower is missing: 6 with the view's record | its first 14 bytes are 255 or spaces, never digits |
 //! | A stray record that is also malformed or out of sequence? | 4 or 5 | the order is 4, 5, 6 for each record |
 //! | Text of spaces and then something? | fault at byte 1 | it isn't blank and begins with a space |
 //! | A double dependent locality with a fault of its own and without a dependent one? | byte 1 | the lower byte is the first fault |
@@ -74,7 +74,6 @@
 //! it says only that view 2 is later.
 
 mod address;
-pub mod archived;
 pub mod book;
 pub mod build;
 pub mod csv;

@@ -3,7 +3,7 @@
 use crate::address::{Texts, NO_TEXTS, ORGANISATION, ROW_TYPE};
 use crate::fields::trimmed;
 use crate::files::{PointFile, TableFile};
-use crate::layout::{point, POINTS, TABLE};
+use crate::layout::point;
 use crate::refusal::Refusal;
 use crate::source::{nth, view_label, write_label, Source, View};
 
@@ -44,8 +44,8 @@ pub struct Answer {
 /// file order.
 pub fn answers_of_any_length(table: &[u8], points: &[u8]) -> Result<Vec<Answer>, Refusal> {
     let changes = Changes {
-        table: TableFile::accept_by(table, &TABLE.of_any_length())?,
-        points: PointFile::accept_by(points, &POINTS.of_any_length())?,
+        table: TableFile::accept_of_any_length(table)?,
+        points: PointFile::accept_of_any_length(points)?,
     };
     let answer = |view: View| Answer {
         outward: view.outward().to_vec(),

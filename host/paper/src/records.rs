@@ -7,7 +7,7 @@ use crate::fields::{
     value,
 };
 use crate::layout::{
-    address, main, point, table, Field, FileRules, Spaces, MAIN, MAIN_FILES, POINTS, TABLE,
+    address, main, point, table, Field, FileRules, MAIN, MAIN_FILES, POINTS, TABLE,
 };
 
 /// A field and the test that it has to pass.
@@ -218,12 +218,6 @@ const ADDRESS: [Test; 18] = [
     (address::INDICATOR, mark_fault),
     (address::PO_BOX, text_fault),
 ];
-
-/// Whether the identifier of a header or trailer is spaces that the file may not
-/// have any more.
-pub(crate) fn is_retired(record: &[u8], rules: &FileRules) -> bool {
-    rules.spaces == Spaces::Retired && is_all(&record[rules.identifier.clone()], b' ')
-}
 
 /// Header identifier: all zero bytes or all spaces; then digits 0, where the
 /// file has them, and the file's own name. The edition is not read.

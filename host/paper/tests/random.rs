@@ -3,7 +3,7 @@
 
 use paper::make::{
     damaged_points, damaged_table, exact_pair, pack_draft, pair, scratch, Edition, Pair, Place,
-    Rng, View, FILE_REFUSALS, FIRST,
+    Rng, View, FIRST,
 };
 use paper::{
     build, check_points, check_table, code_label, label, label_of, letter, live, open, pack_label,
@@ -126,7 +126,7 @@ fn scratched_files_always_get_an_answer() {
 fn damaged_files_always_get_an_answer() {
     for seed in 0..200 {
         let rng = &mut Rng::new(seed);
-        let number = *rng.pick(&FILE_REFUSALS);
+        let number = rng.within(1, 6) as u8;
         let place = *rng.pick(Place::of(number));
         let table = damaged_table(rng, number, place);
         let points = damaged_points(rng, number, place);

@@ -57,7 +57,7 @@ fn a_byte_more_than_300_records_is_long() {
     let (table, points) = (Some(&pair.table[..]), Some(&pair.points[..]));
     assert_eq!(
         printed(Some(&[b' '; 300 * 169]), points),
-        "table refused 16 1\n"
+        "table refused 2 1\n"
     );
     assert_eq!(
         printed(Some(&[b' '; 300 * 169 + 1]), points),
@@ -65,7 +65,7 @@ fn a_byte_more_than_300_records_is_long() {
     );
     assert_eq!(
         printed(table, Some(&[b' '; 300 * 168])),
-        "points refused 16 1\n"
+        "points refused 2 1\n"
     );
     assert_eq!(
         printed(table, Some(&[b' '; 300 * 168 + 1])),

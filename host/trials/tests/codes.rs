@@ -1,7 +1,7 @@
 //! The outward codes of a point file: the library's beside the second program's,
 //! and beside what is answered for each code.
 
-use paper::make::{damaged_points, exact_pair, pair, Place, Rng, FILE_REFUSALS};
+use paper::make::{damaged_points, exact_pair, pair, Place, Rng};
 use ttw::calls;
 
 /// The library's answer and the second program's, each with its buffer of so many
@@ -40,7 +40,7 @@ fn the_codes_are_those_of_the_second_program() {
 fn a_damaged_file_is_refused_first() {
     let mut rng = Rng::new(16);
     for place in Place::ALL {
-        for number in FILE_REFUSALS {
+        for number in 1..=6 {
             if let Some(damaged) = damaged_points(&mut rng, number, place) {
                 for room in [0, 4_000] {
                     let (ours, plain) = both(&damaged.file, room);

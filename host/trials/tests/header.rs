@@ -163,8 +163,8 @@ event: 1
 event behind the last: refused 7, file 0, second 0, detail 0
 tidied: 0
 book with another count: refused 28, file 0, second 0, detail 0
-archived table: refused 16, file 1, second 0, detail 1
-archived points: refused 16, file 2, second 0, detail 4
+archived table: 7
+archived points: 4
 identifiers rewritten without the last byte: 0
 identifiers rewritten in the table: 2
 identifiers rewritten in the points: 1
@@ -189,7 +189,6 @@ TTW_REFUSED_CODE 12
 TTW_REFUSED_SUFFIX 13
 TTW_REFUSED_ROW 14
 TTW_REFUSED_FIELD 15
-TTW_REFUSED_RETIRED 16
 TTW_REFUSED_INSERTED_TWICE 17
 TTW_REFUSED_NOT_PRESENT 18
 TTW_REFUSED_CHANGE 19

@@ -74,7 +74,7 @@ fn worked_absent_refused_and_long() {
     );
     assert_eq!(
         report("labels", &folder, Some(&[b' '; 169 * 2]), points),
-        "table refused 16 1\n"
+        "table refused 2 1\n"
     );
     assert_eq!(
         report("labels", &folder, Some(&[0; 169 * 301]), points),

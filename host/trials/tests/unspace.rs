@@ -1,10 +1,9 @@
-//! Files rewritten by the library beside the second program; and all that is asked of rewritten pairs beside what the
-//! second program's reader of before says of the archived ones.
+//! Files rewritten by the library beside the second program; and all that the library is asked of archived pairs, as they
+//! are and rewritten, beside what the second program says of the archived ones.
 
-use paper::archived::{self, Archived};
 use paper::make::{
     archived, damaged_points, damaged_table, exact_pair, long_pair, padded, pair, scratch,
-    space_points, space_table, worked_pair, End, Pair, Place, Rng, FILE_REFUSALS,
+    space_points, space_table, worked_pair, End, Pair, Place, Rng,
 };
 use paper::{packed, packed_run, Refusal, Run};
 use std::hint::black_box;
@@ -19,7 +18,7 @@ const KINDS: [Kind; 2] = [
         library: calls::unspace_table,
         plain: paper::unspace_table,
         check: calls::table,
-        archived: archived::check_table,
+        plain_check: paper::check_table,
     },
     Kind {
         record: 168,
@@ -28,7 +27,7 @@ const KINDS: [Kind; 2] = [
         library: calls::unspace_points,
         plain: paper::unspace_points,
         check: calls::points,
-        archived: archived::check_points,
+        plain_check: paper::check_points,
     },
 ];
 
@@ -41,7 +40,7 @@ struct Kind {
     library: fn(&mut [u8]) -> u64,
     plain: fn(&mut [u8]) -> u64,
     check: fn(&[u8]) -> u64,
-    archived: fn(&[u8]) -> Result<usize, Refusal>,
+    plain_check: fn(&[u8]) -> Result<usize, Refusal>,
 }
 
 /// Bytes before and behind a lent file that no call may touch.
@@ -49,7 +48,7 @@ const AROUND: [u8; 40] = [b' '; 40];
 
 impl Kind {
     /// The file as both programs rewrite it, and how many identifiers were. What stands around it stays, rewriting once
-    /// more changes nothing, and the reader says of it what the reader of before said of the file.
+    /// more changes nothing, and the library says of it and of the file what the second program says of the file.
     #[track_caller]
     fn rewritten(&self, file: &[u8]) -> (Vec<u8>, u64) {
         let mut memory = [&AROUND, file, &AROUND].concat();
@@ -62,8 +61,9 @@ impl Kind {
             let wanted = [&AROUND, &expected[..], &AROUND].concat();
             assert!(*black_box(&memory) == wanted, "{} bytes", file.len());
         }
-        let before = packed((self.archived)(file).map(|records| records as u64));
-        assert_eq!((self.check)(&expected), before);
+        let answer = packed((self.plain_check)(file).map(|records| records as u64));
+        assert_eq!((self.check)(file), answer);
+        assert_eq!((self.check)(&expected), answer);
         (expected, count)
     }
 }
@@ -128,7 +128,7 @@ fn damaged_files_with_spaces_and_without() {
     let mut rewritten = [0; 3];
     for seed in 0..40 {
         let rng = &mut Rng::new(seed);
-        for number in FILE_REFUSALS {
+        for number in 1..=6 {
             for place in Place::ALL {
                 let damaged = [
                     damaged_table(rng, number, place),
@@ -155,50 +155,53 @@ fn damaged_files_with_spaces_and_without() {
 fn scratched_archives() {
     for seed in 0..2_000 {
         let rng = &mut Rng::new(seed);
-        let proper = pair(rng, 12);
-        for (kind, mut file) in files(&archived(rng, &proper)) {
+        let made = pair(rng, 12);
+        for (kind, mut file) in files(&archived(rng, &made)) {
             scratch(rng, &mut file);
             kind.rewritten(&file);
         }
     }
 }
 
-/// A pair rewritten by the library, beside the same pair as the second program's reader of before reads it.
-struct Both<'a> {
-    table: Vec<u8>,
-    points: Vec<u8>,
-    before: Archived<'a>,
+/// The files of an archived pair, as they are and as the library rewrites them.
+struct Both {
+    before: [Vec<u8>; 2],
+    after: [Vec<u8>; 2],
 }
 
 /// Bytes of a buffer as a call finds them.
 const FOUND: u8 = 0xA5;
 
-impl<'a> Both<'a> {
-    fn new(pair: &'a Pair) -> Both<'a> {
-        let (mut table, mut points) = (pair.table.clone(), pair.points.clone());
-        calls::unspace_table(&mut table);
-        calls::unspace_points(&mut points);
-        let before = Archived::accept(&pair.table, &pair.points).expect("accepted before");
-        Both {
-            table,
-            points,
-            before,
+impl Both {
+    fn new(pair: &Pair) -> Both {
+        let before = [pair.table.clone(), pair.points.clone()];
+        let mut after = before.clone();
+        let [table, points] = &mut after;
+        let rewritten = calls::unspace_table(table) + calls::unspace_points(points);
+        assert!(rewritten > 0 && before != after);
+        for [table, points] in [&before, &after] {
+            assert!(calls::table(table) >> 56 == 0 && calls::points(points) >> 56 == 0);
         }
+        Both { before, after }
     }
 
-    /// Fails unless the library writes and answers of the rewritten pair what was written and answered before.
+    /// Fails unless the library writes and answers of the files, as they are and rewritten, what the second program writes
+    /// and answers of them as they are.
     #[track_caller]
     fn same(
         &self,
         room: usize,
-        library: impl FnOnce(&[u8], &[u8], &mut [u8]) -> u64,
-        before: impl FnOnce(Archived<'a>, &mut [u8]) -> Result<usize, Refusal>,
+        library: impl Fn(&[u8], &[u8], &mut [u8]) -> u64,
+        plain: impl FnOnce(&[u8], &[u8], &mut [u8]) -> Result<usize, Refusal>,
     ) {
-        let (mut ours, mut theirs) = (vec![FOUND; room], vec![FOUND; room]);
-        let answer = library(&self.table, &self.points, &mut ours);
-        let expected = before(self.before, &mut theirs).map(|value| value as u64);
-        assert_eq!(answer, packed(expected));
-        assert!(ours == theirs, "the buffers differ");
+        let mut theirs = vec![FOUND; room];
+        let [table, points] = &self.before;
+        let expected = plain(table, points, &mut theirs).map(|value| value as u64);
+        for [table, points] in [&self.before, &self.after] {
+            let mut ours = vec![FOUND; room];
+            assert_eq!(library(table, points, &mut ours), packed(expected));
+            assert!(ours == theirs, "the buffers differ");
+        }
     }
 
     /// The same for a run or a listing.
@@ -206,15 +209,18 @@ impl<'a> Both<'a> {
     fn same_run(
         &self,
         room: usize,
-        library: impl FnOnce(&[u8], &[u8], &mut [u8], &mut u64) -> u64,
-        before: impl FnOnce(Archived<'a>, &mut [u8]) -> Result<Run, Refusal>,
+        library: impl Fn(&[u8], &[u8], &mut [u8], &mut u64) -> u64,
+        plain: impl FnOnce(&[u8], &[u8], &mut [u8]) -> Result<Run, Refusal>,
     ) {
-        let (mut ours, mut theirs) = (vec![FOUND; room], vec![FOUND; room]);
-        let (mut bytes, mut expected_bytes) = (7, 7);
-        let answer = library(&self.table, &self.points, &mut ours, &mut bytes);
-        let expected = packed_run(before(self.before, &mut theirs), &mut expected_bytes);
-        assert_eq!((answer, bytes), (expected, expected_bytes));
-        assert!(ours == theirs, "the buffers differ");
+        let (mut theirs, mut expected_bytes) = (vec![FOUND; room], 7);
+        let [table, points] = &self.before;
+        let expected = packed_run(plain(table, points, &mut theirs), &mut expected_bytes);
+        for [table, points] in [&self.before, &self.after] {
+            let (mut ours, mut bytes) = (vec![FOUND; room], 7);
+            let answer = library(table, points, &mut ours, &mut bytes);
+            assert_eq!((answer, bytes), (expected, expected_bytes));
+            assert!(ours == theirs, "the buffers differ");
+        }
     }
 
     /// Labels, runs, listings and rows from a number on.
@@ -222,53 +228,53 @@ impl<'a> Both<'a> {
         self.same(
             room,
             |table, points, out| calls::label(table, points, view, out),
-            |before, out| before.label(view, out),
+            |table, points, out| paper::label(table, points, view, out),
         );
         self.same_run(
             room,
             |table, points, out, bytes| calls::labels(table, points, view, count, out, bytes),
-            |before, out| Ok(before.labels(view, count, out)),
+            |table, points, out| paper::labels(table, points, view, count, out),
         );
         self.same_run(
             room,
             |table, points, out, bytes| calls::list(table, points, view, count, out, bytes),
-            |before, out| Ok(before.list(view, count, out)),
+            |table, points, out| paper::list(table, points, view, count, out),
         );
         self.same_run(
             room,
             |table, points, out, bytes| calls::csv_rows(table, points, view, count, out, bytes),
-            |before, out| Ok(before.rows(view, count, out)),
+            |table, points, out| paper::csv::rows(table, points, view, count, out),
         );
     }
 
     /// The same in a code, and its pack.
-    fn ask_code(&self, code: &'a [u8], k: u64, count: u64, room: usize) {
+    fn ask_code(&self, code: &[u8], k: u64, count: u64, room: usize) {
         self.same(
             room,
             |table, points, out| calls::code_label(table, points, code, k, out),
-            |before, out| before.code_label(code, k, out),
+            |table, points, out| paper::code_label(table, points, code, k, out),
         );
         self.same_run(
             room,
             |table, points, out, bytes| {
                 calls::code_labels(table, points, code, k, count, out, bytes)
             },
-            |before, out| before.code_labels(code, k, count, out),
+            |table, points, out| paper::code_labels(table, points, code, k, count, out),
         );
         self.same_run(
             room,
             |table, points, out, bytes| calls::code_list(table, points, code, k, count, out, bytes),
-            |before, out| before.code_list(code, k, count, out),
+            |table, points, out| paper::code_list(table, points, code, k, count, out),
         );
         self.same(
             room,
             |table, points, out| calls::build(table, points, code, out),
-            |before, out| before.build(code, out),
+            |table, points, out| paper::build(table, points, code, out),
         );
     }
 }
 
-/// All that is asked of an archived pair, once it is rewritten.
+/// All that is asked of an archived pair.
 fn ask_all(rng: &mut Rng, pair: &Pair, codes: &[Vec<u8>]) {
     let both = Both::new(pair);
     let views = pair.views.len() as u64;
@@ -277,7 +283,7 @@ fn ask_all(rng: &mut Rng, pair: &Pair, codes: &[Vec<u8>]) {
         both.same(
             room,
             |_, points, out| calls::codes(points, out),
-            |before, out| before.codes(out),
+            |_, points, out| paper::codes(points, out),
         );
         both.ask_views(1, u64::MAX, room);
         for _ in 0..8 {
@@ -304,19 +310,17 @@ fn codes_of(pair: &Pair) -> Vec<Vec<u8>> {
 }
 
 #[test]
-fn archived_pairs_say_what_they_said() {
+fn archived_pairs_say_the_same_once_rewritten() {
     for seed in 0..300 {
         let rng = &mut Rng::new(seed);
-        let proper = pair(rng, 40);
-        let before = archived(rng, &proper);
-        let refused = calls::label(&before.table, &before.points, 1, &mut []);
-        assert_eq!(refused >> 56, 16);
+        let made = pair(rng, 40);
+        let before = archived(rng, &made);
         ask_all(rng, &before, &codes_of(&before));
     }
 }
 
 #[test]
-fn the_longest_archived_pair_says_what_it_said() {
+fn the_longest_archived_pair_says_the_same_once_rewritten() {
     let rng = &mut Rng::new(9);
     let proper = exact_pair(rng, 20_000, 20_000);
     let before = archived(rng, &proper);

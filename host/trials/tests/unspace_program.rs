@@ -78,13 +78,13 @@ fn archived_absent_and_unwhole_files() {
 }
 
 #[test]
-fn random_pairs_archived_and_proper() {
+fn random_pairs_archived_and_as_they_are() {
     for seed in 0..40 {
         let rng = &mut Rng::new(seed);
-        let proper = pair(rng, 40);
-        let before = archived(rng, &proper);
+        let made = pair(rng, 40);
+        let before = archived(rng, &made);
         run("archived", Some(&before.table), Some(&before.points));
-        run("proper", Some(&proper.table), Some(&proper.points));
+        run("made", Some(&made.table), Some(&made.points));
     }
 }
 

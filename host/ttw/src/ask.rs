@@ -21,7 +21,7 @@ const UNCARRIED: u8 = 15;
 /// Why a call was refused.
 #[derive(Clone, Copy, Debug, PartialEq, Eq)]
 pub struct Refusal {
-    /// 1 to 20, 27 or 28.
+    /// 1 to 15, 17 to 20, 27 or 28.
     pub number: u8,
     /// The file to blame: 1 the table file, 2 the point file; of a set 1 to 7;
     /// 0 no file.

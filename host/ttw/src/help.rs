@@ -156,10 +156,10 @@ pub const UNSPACE: &str = "\
 ttw unspace FILES..
 
 Rewrites archived Changes files whose header or trailer has spaces for its
-identifier, which are refused with 16. FILE stays as it is, and FILE.new is
-written: zero bytes for such an identifier of the header, bytes 255 for one of
-the trailer, and every other byte as it stands in FILE. So FILE.new is accepted
-exactly where FILE was before spaces were retired, with the same labels.
+identifier. FILE stays as it is, and FILE.new is written: zero bytes for such an
+identifier of the header, bytes 255 for one of the trailer, and every other byte
+as it stands in FILE. So FILE.new is accepted exactly where FILE is, with the
+same labels.
 
 A table file or a point file of any length is taken, told by the name in its
 header, CHANGES1 or CHANGES2. For each is printed which identifiers were
@@ -277,7 +277,6 @@ const REFUSALS: &str = "\
 14  a row of a CSV file is malformed, first at that field; field 17 is what
     stands behind the last one
 15  a field is longer than CSV PAF allows, or has a comma or a double quote
-16  the identifier of a header or trailer is spaces: see ttw help unspace
 17  a delivery point is inserted that is present in the book
 18  a delivery point is deleted or changed that is not present
 19  a B whose next view is not the C of the same delivery point, or a C that

@@ -95,14 +95,12 @@ impl Kind {
     /// The header and the trailer of a file that has no other record.
     pub fn ends(&self) -> [Vec<u8>; 2] {
         let digits = if self.of_a_set { WIDTH } else { 0 };
-        let end = |identifier: u8, digit: u8, text: &[u8]| {
-            let mut end = vec![identifier; self.at - digits];
-            end.resize(self.at, digit);
-            end.extend(text);
-            end.resize(self.record, b' ');
-            end
+        let end = |digit: &str, text: &str| {
+            let front = format!("{:>at$}{text}", digit.repeat(digits), at = self.at);
+            format!("{front:<record$}", record = self.record).into_bytes()
         };
-        [end(0, b'0', self.says), end(255, b'9', count(2).as_bytes())]
+        let says = String::from_utf8_lossy(self.says);
+        [end("0", &says), end("9", &count(2))]
     }
 
     /// Whether the library accepts such a file.

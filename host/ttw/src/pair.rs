@@ -109,11 +109,10 @@ impl Source for Pair {
     }
 }
 
-/// Whether a file begins with the header of such a file, be its identifier spaces
-/// or not. The library is asked about two records alone, whose length is right, so
-/// that whatever stands behind them it comes to the header.
+/// Whether a file begins with the header of such a file. The library is asked
+/// about two records alone, whose length is right, so that whatever stands
+/// behind them it comes to the header.
 fn has_header(file: &[u8], kind: &Kind) -> bool {
     let refused = |two| kind.check(two).is_err_and(|why| why.number == HEADER);
-    let two = file.get(..2 * kind.record);
-    two.is_some_and(|two| kind.begins(two) && !refused(two))
+    file.get(..2 * kind.record).is_some_and(|two| !refused(two))
 }

@@ -105,7 +105,6 @@ fn reason(refusal: &Refusal, files: &Files) -> String {
         13 => "a pack of this edition has no suffix".to_string(),
         MALFORMED_ROW => format!("row {detail} is malformed {}", at_field(refusal.second)),
         15 => "a field is longer than CSV PAF allows, or has a comma or a double quote".to_string(),
-        16 => format!("record {detail} has spaces for its identifier: see ttw help unspace"),
         17 => "inserted, but the delivery point is present already".to_string(),
         18 => "deleted or changed, but the delivery point is not present".to_string(),
         19 => "a change whose B and C do not stand together".to_string(),

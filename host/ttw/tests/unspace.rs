@@ -41,15 +41,19 @@ fn ended(run: &Run, status: i32, out: &str, told: &str) {
 }
 
 #[test]
-fn archived_files_are_refused_until_they_are_rewritten() {
+fn archived_files_are_accepted_before_and_after_they_are_rewritten() {
     let folder = archive();
-    let why = "record 1 has spaces for its identifier: see ttw help unspace (refusal 16)";
-    let told = format!("table: {why}\npoints: {why}");
+    let proper = Folder::with_pair(&worked_pair());
     for arguments in PRINTING_LABELS.iter().filter(|line| !line.contains("pack")) {
-        folder
-            .shell(&format!("\"$TTW\" {arguments}"))
-            .only_tells(1, &told);
+        let line = format!("\"$TTW\" {arguments}");
+        let run = folder.shell(&line);
+        assert!(!run.out.is_empty(), "{run:?}");
+        assert_eq!(run, proper.shell(&line));
     }
+    let accepted = "table: 7 records\npoints: 4 records, 2 views\n";
+    folder
+        .ttw(&["check", "changes1", "changes2"])
+        .prints(accepted);
     let before = [folder.read("changes1"), folder.read("changes2")];
     folder
         .ttw(&["unspace", "changes1", "changes2"])
@@ -62,7 +66,7 @@ fn archived_files_are_refused_until_they_are_rewritten() {
     assert_eq!(folder.names("."), names);
     folder
         .ttw(&["check", "changes1.new", "changes2.new"])
-        .prints("table: 7 records\npoints: 4 records, 2 views\n");
+        .prints(accepted);
 }
 
 #[test]
@@ -108,7 +112,8 @@ fn what_is_not_two_or_more_whole_records_is_passed_through_as_it_came() {
     assert!(folder.read("a.new") == with_line_ends);
 }
 
-/// Files longer than the library accepts, which are cut once they are rewritten.
+/// Files longer than the library accepts, which are cut as they are and rewritten. A
+/// part has header and trailer of its file.
 #[test]
 fn files_of_any_length_go_through_and_are_cut_as_before() {
     let rng = &mut Rng::new(6);
@@ -118,14 +123,21 @@ fn files_of_any_length_go_through_and_are_cut_as_before() {
     let extract = |files: &str, parts: &str| {
         folder.shell(&format!("\"$TTW\" extract {files} --all --out {parts}"))
     };
-    let refused = extract("changes1 changes2", "parts");
-    assert!(refused.told.ends_with(" (refusal 16)\n"), "{refused:?}");
-    assert_eq!((refused.status, folder.names("parts").len()), (Some(1), 0));
+    let archived = extract("changes1 changes2", "archived");
+    assert_eq!(archived.status, Some(0), "{archived:?}");
     let run = folder.ttw(&["unspace", "changes1", "changes2"]);
     assert_eq!(run.status, Some(0), "{run:?}");
     assert!(folder.read("changes1.new") == proper.table);
     assert!(folder.read("changes2.new") == proper.points);
     let cut = extract("changes1.new changes2.new", "parts");
+    assert_eq!(archived, cut);
+    let run = folder.shell("\"$TTW\" unspace archived/*/changes?");
+    assert_eq!(run.status, Some(0), "{run:?}");
+    let files = "archived/*/changes?.new";
+    let rename = format!("for file in {files}; do mv $file ${{file%.new}}; done");
+    folder
+        .shell(&format!("{rename}; diff -r archived parts"))
+        .prints("");
     folder.put("changes1", &proper.table);
     folder.put("changes2", &proper.points);
     assert_eq!(extract("changes1 changes2", "others"), cut);

@@ -19,7 +19,6 @@ const fn frame(mark: usize, name: &'static [u8; 8]) -> Frame {
     Frame {
         most: MOST,
         mark,
-        spaces: false,
         digits: 0,
         name,
     }

@@ -39,7 +39,6 @@ fn accepted<'a, const WIDTH: usize, K: Ord>(
     let frame = Frame {
         most: MOST,
         mark,
-        spaces: true,
         digits: 8,
         name,
     };

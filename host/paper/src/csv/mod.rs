@@ -7,7 +7,6 @@ mod read;
 mod write;
 
 pub use read::{check, label, labels, list};
-pub(crate) use write::write_rows;
 pub use write::{main_row, main_rows, row, rows};
 
 /// How many fields a row has.

@@ -42,12 +42,7 @@ fn write_row<'a>(source: impl Source<'a>, view: u64, out: &mut [u8]) -> Result<u
     lend(&view_row(source, &view)?, out)
 }
 
-pub(crate) fn write_rows<'a>(
-    source: impl Source<'a>,
-    first: u64,
-    count: u64,
-    out: &mut [u8],
-) -> Run {
+fn write_rows<'a>(source: impl Source<'a>, first: u64, count: u64, out: &mut [u8]) -> Run {
     view_run(source.views(), first, count, out, |view| {
         view_row(source, view)
     })

@@ -2,9 +2,6 @@ use super::records::{Frame, MAIN_FRAMES, POINT_FRAME, TABLE_FRAME};
 use super::{exact_pair, exact_set, padded, point_file_of, Follower, Rng, View};
 use crate::refusal::Refusal;
 
-/// The refusals of a point file, and but for 6 those of a table file.
-pub const FILE_REFUSALS: [u8; 7] = [1, 2, 3, 4, 5, 6, 16];
-
 /// Where in a file the damage is done.
 #[derive(Clone, Copy, Debug, PartialEq, Eq)]
 pub enum Place {
@@ -27,12 +24,11 @@ impl Place {
         Place::Last,
     ];
 
-    /// Where a refusal of a file, 1 to 6 or 16, can stand.
+    /// Where a refusal of a file, 1 to 6, can stand.
     pub fn of(number: u8) -> &'static [Place] {
         match number {
             1 | 2 => &[Place::First],
             3 => &[Place::Last],
-            16 => &[Place::First, Place::Last],
             5 => &[Place::Middle, Place::LastButOne],
             _ => &[Place::Second, Place::Middle, Place::LastButOne],
         }
@@ -333,9 +329,9 @@ fn digit_breaks(start: usize, width: usize) -> Vec<Break> {
     ]
 }
 
-/// A table file that has to give this refusal (1 to 5, or 16) at that place; none
+/// A table file that has to give this refusal (1 to 5) at that place; none
 /// where the refusal can't stand there. Refusals 1 and 2 stand at the first
-/// record, 3 at the last, 16 at both.
+/// record, 3 at the last.
 pub fn damaged_table(rng: &mut Rng, number: u8, place: Place) -> Option<Damaged> {
     let size = 7 + rng.below(20);
     let rows = exact_pair(rng, size, 2).rows;
@@ -396,7 +392,7 @@ impl Kind {
         let frame = self.frame();
         let at = place.record(rng, records.len() + 2);
         let refusal = match (number, place) {
-            (1..=3 | 16, _) => return damaged_frame(rng, frame, &records, number, place),
+            (1..=3, _) => return damaged_frame(rng, frame, &records, number, place),
             (4 | 5, Place::First | Place::Last) | (5, Place::Second) => return None,
             (4, _) => {
                 let breaks = self.breaks(&records[at - 2]);
@@ -450,13 +446,13 @@ fn not_above_in_main(rng: &mut Rng, file: u8, before: &[Vec<u8>]) -> Vec<u8> {
     record
 }
 
-/// A point file that has to give this refusal (1 to 6, or 16) at that place; none
+/// A point file that has to give this refusal (1 to 6) at that place; none
 /// where the refusal can't stand there.
 pub fn damaged_points(rng: &mut Rng, number: u8, place: Place) -> Option<Damaged> {
     let size = 14 + rng.below(20);
     let views = exact_pair(rng, 20, size).views;
     match (number, place) {
-        (1..=3 | 16, _) => damaged_frame(rng, &POINT_FRAME, &records_of(&views), number, place),
+        (1..=3, _) => damaged_frame(rng, &POINT_FRAME, &records_of(&views), number, place),
         (_, Place::First | Place::Last) | (5, Place::Second) => None,
         (4, _) => Some(malformed_point(rng, &views, place)),
         (5, _) => Some(misplaced_view(rng, views, place)),
@@ -466,7 +462,7 @@ pub fn damaged_points(rng: &mut Rng, number: u8, place: Place) -> Option<Damaged
     }
 }
 
-/// Refusals 1 to 3 and 16 of a file with these records.
+/// Refusals 1 to 3 of a file with these records.
 fn damaged_frame(
     rng: &mut Rng,
     frame: &Frame,
@@ -488,15 +484,6 @@ fn damaged_frame(
         (3, Place::Last) => {
             let start = file.len() - frame.record;
             damage_trailer(rng, frame, &mut file[start..], count);
-            count
-        }
-        (16, Place::First) if frame.retired => {
-            retire_header(rng, frame, &mut file);
-            1
-        }
-        (16, Place::Last) if frame.retired => {
-            let start = file.len() - frame.record;
-            retire_trailer(rng, frame, &mut file[start..], count);
             count
         }
         _ => return None,
@@ -527,28 +514,6 @@ fn damage_length(rng: &mut Rng, frame: &Frame, file: &mut Vec<u8>) {
         _ => most * width + 1,
     };
     file.resize(length, b' ');
-}
-
-/// A header whose identifier is spaces, whatever else is wrong there and in the
-/// trailer.
-fn retire_header(rng: &mut Rng, frame: &Frame, file: &mut [u8]) {
-    let start = file.len() - frame.record;
-    let (front, trailer) = file.split_at_mut(start);
-    if rng.one_in(2) {
-        damage_header(rng, frame, front);
-    }
-    front[..frame.identifier].fill(b' ');
-    if rng.one_in(2) {
-        trailer[..frame.identifier].fill(*rng.pick(b" 0\0"));
-    }
-}
-
-/// A trailer whose identifier is spaces, also where its count is wrong.
-fn retire_trailer(rng: &mut Rng, frame: &Frame, trailer: &mut [u8], records: usize) {
-    if rng.one_in(2) {
-        damage_trailer(rng, frame, trailer, records);
-    }
-    trailer[..frame.identifier].fill(b' ');
 }
 
 /// An identifier that is neither all zero nor all spaces, digits that aren't all

@@ -30,7 +30,7 @@ pub use country::Country;
 pub use csv::{csv_file, csv_rows, damaged_csv, full_csv_row, CsvRow, DamagedCsv};
 pub use damage::{
     damaged_main, damaged_points, damaged_table, main_breaks, point_breaks, scratch, table_breaks,
-    Break, Damaged, Place, FILE_REFUSALS,
+    Break, Damaged, Place,
 };
 pub use editions::{Edition, BUILT, EDITIONS, FIRST, SECOND};
 pub use pack_damage::{damaged_packs, DamagedPack};

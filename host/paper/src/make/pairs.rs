@@ -432,7 +432,7 @@ fn without_follower(view: &mut View) {
 }
 
 /// Half of the files get other bytes in what isn't read: editions, fillers,
-/// abbreviations, new postcodes.
+/// abbreviations, new postcodes; a quarter get identifiers of spaces.
 fn change_unread_bytes(rng: &mut Rng, pair: &mut Pair) {
     if rng.one_in(2) {
         for (index, row) in pair.rows.iter().enumerate() {
@@ -453,6 +453,11 @@ fn change_unread_bytes(rng: &mut Rng, pair: &mut Pair) {
         let trailer = pair.table.len() - 169;
         fill(rng, &mut pair.table[trailer + 17..]);
         change_unread_points(rng, pair);
+    }
+    if rng.one_in(4) {
+        let both = [End::Header, End::Trailer];
+        space_table(&mut pair.table, &both);
+        space_points(&mut pair.points, &both);
     }
 }
 

@@ -365,8 +365,6 @@ pub(super) struct Frame {
     pub most_records: usize,
     /// How many zero bytes a header begins with, and a trailer bytes 255.
     pub identifier: usize,
-    /// Whether spaces in their place are refused with 16.
-    pub retired: bool,
     /// How many digits stand behind these: 0 in a header, 9 in a trailer.
     pub digits: usize,
     pub name: &'static str,
@@ -377,7 +375,6 @@ pub(super) static TABLE_FRAME: Frame = Frame {
     record: 169,
     most_records: 20_000,
     identifier: 9,
-    retired: true,
     digits: 0,
     name: "CHANGES1",
 };
@@ -387,7 +384,6 @@ pub(super) static POINT_FRAME: Frame = Frame {
     record: 168,
     most_records: 20_000,
     identifier: 14,
-    retired: true,
     digits: 0,
     name: "CHANGES2",
 };
@@ -410,7 +406,6 @@ impl Frame {
             record,
             most_records: 1_000_000,
             identifier,
-            retired: false,
             digits: 8,
             name,
         }

@@ -1,7 +1,7 @@
 //! Events and tidying: what they do to the book, and which are refused.
 
 use crate::{add, book_of, empty, event, lettered, present, refused, slot, view, LENGTH, SLOT};
-use paper::make::{damaged_points, point_file, Place, Rng, View, FILE_REFUSALS};
+use paper::make::{damaged_points, point_file, Place, Rng, View};
 use paper::{book, Refusal};
 use std::slice::from_ref;
 
@@ -219,7 +219,7 @@ fn a_full_book_refuses_with_20_and_17_comes_first() {
 fn the_order_is_28_the_file_7_19_and_then_the_rest() {
     let no_book = vec![0; LENGTH - 1];
     let mut book = book_of([1]);
-    for number in FILE_REFUSALS {
+    for number in 1..=6 {
         let rng = &mut Rng::new(u64::from(number));
         let place = *rng.pick(Place::of(number));
         let damaged = damaged_points(rng, number, place).expect("it can stand there");

@@ -1,9 +1,7 @@
 //! Long random histories, event by event.
 
 use crate::{refusal, LENGTH};
-use paper::make::{
-    self, damaged_points, exact_pair, history, padded, Pair, Place, Rng, Shape, FILE_REFUSALS,
-};
+use paper::make::{self, damaged_points, exact_pair, history, padded, Pair, Place, Rng, Shape};
 use std::collections::BTreeMap;
 use trials::book::{count, event, list, live, tidy};
 use trials::runs::Asked;
@@ -99,7 +97,7 @@ fn refused_point_files_leave_the_book_alone() {
     let rng = &mut Rng::new(8);
     let rows = exact_pair(rng, 40, 2).rows;
     let mut book = make::book(rng, &rows, 100);
-    for number in FILE_REFUSALS {
+    for number in 1..=6 {
         for place in Place::of(number) {
             let damaged = damaged_points(rng, number, *place).expect("it can stand there");
             for view in [0, 1, 3] {

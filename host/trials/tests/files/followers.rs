@@ -180,11 +180,14 @@ fn a_follower_stands_once() {
 fn an_owner_before_the_trailer_lacks_its_follower() {
     for owner in owners() {
         let records = owner.records();
-        let mut file = placed(2, &records[..1], 0);
-        POINTS.assert_refused(&file, 6, 4);
-        let trailer = file.len() - POINTS.record;
-        file[trailer + 22..].copy_from_slice(&records[1][22..]);
-        POINTS.assert_refused(&file, 6, 4);
+        for identifier in [255, b' '] {
+            let mut file = placed(2, &records[..1], 0);
+            let trailer = file.len() - POINTS.record;
+            file[trailer..][..POINTS.identifier].fill(identifier);
+            POINTS.assert_refused(&file, 6, 4);
+            file[trailer + 22..].copy_from_slice(&records[1][22..]);
+            POINTS.assert_refused(&file, 6, 4);
+        }
     }
 }
 
@@ -194,10 +197,13 @@ fn a_follower_behind_the_header_is_stray() {
     for owner in owners() {
         let records = owner.records();
         assert_refused(&records[1..], 6, 0);
-        let mut file = placed(0, &records[1..], 2);
-        POINTS.assert_refused(&file, 6, 2);
-        file[22..POINTS.record].copy_from_slice(&records[0][22..]);
-        POINTS.assert_refused(&file, 6, 2);
+        for identifier in [0, b' '] {
+            let mut file = placed(0, &records[1..], 2);
+            file[..POINTS.identifier].fill(identifier);
+            POINTS.assert_refused(&file, 6, 2);
+            file[22..POINTS.record].copy_from_slice(&records[0][22..]);
+            POINTS.assert_refused(&file, 6, 2);
+        }
     }
 }
 

@@ -19,11 +19,12 @@ fn zeros_and_spaces_at_the_edges() {
         for records in EDGES {
             let whole = records * kind.record;
             for length in [whole.saturating_sub(1), whole, whole + 1] {
-                let framed = length == whole && is_allowed(records);
-                for (byte, header) in [(0, 2), (b' ', 16)] {
-                    let (number, record) = if framed { (header, 1) } else { (1, 0) };
-                    kind.assert_refused(&vec![byte; length], number, record);
-                }
+                let (number, record) = match length == whole && is_allowed(records) {
+                    true => (2, 1),
+                    false => (1, 0),
+                };
+                kind.assert_refused(&vec![0; length], number, record);
+                kind.assert_refused(&vec![b' '; length], number, record);
             }
         }
     }
@@ -71,10 +72,8 @@ fn identifiers_of_one_byte_throughout() {
                 file[..kind.identifier].fill(header_byte);
                 file[trailer..][..kind.identifier].fill(trailer_byte);
                 match (header_byte, trailer_byte) {
-                    (b' ', _) => kind.assert_refused(&file, 16, 1),
-                    (0, 255) => kind.assert_taken(&file, records),
-                    (0, b' ') => kind.assert_refused(&file, 16, records),
-                    (0, _) => kind.assert_refused(&file, 3, records),
+                    (0 | b' ', 255 | b' ') => kind.assert_taken(&file, records),
+                    (0 | b' ', _) => kind.assert_refused(&file, 3, records),
                     _ => kind.assert_refused(&file, 2, 1),
                 }
             }

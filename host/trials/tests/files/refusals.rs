@@ -4,7 +4,7 @@
 use crate::{Kind, POINTS, TABLE};
 use paper::make::{
     damaged_points, damaged_table, exact_pair, point_breaks, point_file, table_breaks, table_file,
-    Damaged, Place, Rng, TableRow, View, FILE_REFUSALS,
+    Damaged, Place, Rng, TableRow, View,
 };
 
 /// Files for each refusal and place.
@@ -12,12 +12,8 @@ const ROUNDS: u64 = 100;
 
 /// Makes files for every refusal and place, and fails where one isn't refused
 /// so, or where a refusal that can stand at a place was never reached there.
-fn reach_every_place(
-    kind: &Kind,
-    numbers: &[u8],
-    make: fn(&mut Rng, u8, Place) -> Option<Damaged>,
-) {
-    for &number in numbers {
+fn reach_every_place(kind: &Kind, highest: u8, make: fn(&mut Rng, u8, Place) -> Option<Damaged>) {
+    for number in 1..=highest {
         for place in Place::ALL {
             let mut reached = 0;
             for seed in 0..ROUNDS {
@@ -37,12 +33,12 @@ fn reach_every_place(
 
 #[test]
 fn every_refusal_of_a_table_file_at_every_place() {
-    reach_every_place(&TABLE, &[1, 2, 3, 4, 5, 16], damaged_table);
+    reach_every_place(&TABLE, 5, damaged_table);
 }
 
 #[test]
 fn every_refusal_of_a_point_file_at_every_place() {
-    reach_every_place(&POINTS, &FILE_REFUSALS, damaged_points);
+    reach_every_place(&POINTS, 6, damaged_points);
 }
 
 /// The record of that number in a file.
@@ -179,12 +175,8 @@ fn refusals_come_in_their_order() {
         kind.assert_malformed(file, 2, 2);
         record_of(kind, file, last)[kind.identifier + 7] ^= 1;
         kind.assert_refused(file, 3, last);
-        record_of(kind, file, last)[..kind.identifier].fill(b' ');
-        kind.assert_refused(file, 16, last);
         record_of(kind, file, 1)[kind.identifier] ^= 1;
         kind.assert_refused(file, 2, 1);
-        record_of(kind, file, 1)[..kind.identifier].fill(b' ');
-        kind.assert_refused(file, 16, 1);
         file.push(b' ');
         kind.assert_refused(file, 1, 0);
     }

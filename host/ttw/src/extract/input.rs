@@ -18,9 +18,8 @@ use ttw::ask::Refusal;
 /// kind.
 const BLOCK: u64 = 1 << 14;
 
-/// The refusals of a trailer, and of one whose identifier is spaces.
+/// The refusal of a trailer.
 const TRAILER: u8 = 3;
-const RETIRED: u8 = 16;
 
 /// The line ends that some programs add when they transfer a file.
 const LINE_ENDS: [(&[u8], &str); 2] = [(b"\r\n", "CR LF"), (b"\n", "LF")];
@@ -144,13 +143,11 @@ impl Input {
         let trailer = self.last()?;
         let says = &trailer[self.kind.at..self.kind.at + WIDTH];
         let ends = [header, self.kind.counted(&trailer, 2)].concat();
-        let number = match self.kind.check(&ends) {
-            Ok(()) if says == count(counted).as_bytes() => return Ok(()),
-            Err(why) if why.number == RETIRED => RETIRED,
-            _ => TRAILER,
-        };
+        if says == count(counted).as_bytes() && self.kind.check(&ends).is_ok() {
+            return Ok(());
+        }
         Err(self.refused(&Refusal {
-            number,
+            number: TRAILER,
             file: self.kind.file,
             second: 0,
             detail: self.records,
