@@ -311,10 +311,11 @@ code-few code (a ∷ more) = by-test (same a.outward code) (code-few code more)
     by-test true h = omega arith
     by-test false h = omega arith
 
-more-say : (Kind : Reason → Type 0) (m limit : ℕ) (s : Series) → m ≤ limit → SeriesSays Kind m s → SeriesSays Kind limit s
-more-say Kind m limit (Unasked file why) l h = h
-more-say Kind m limit (Stopped labels bytes why) l h = (omega (arith, h.0), h.1)
-more-say Kind m limit (Done labels bytes) l h = omega arith
+more-say : (Whole Kind : Reason → Type 0) (m limit : ℕ) (s : Series) → m ≤ limit → SeriesBy Whole Kind m s
+    → SeriesBy Whole Kind limit s
+more-say Whole Kind m limit (Unasked file why) l h = h
+more-say Whole Kind m limit (Stopped labels bytes why) l h = (omega (arith, h.0), h.1)
+more-say Whole Kind m limit (Done labels bytes) l h = omega arith
 
 -- of apt views those in a code are apt
 pub code-apt : (look : Lookup) (code : List ℕ) (views : List Address) → AptViews look views → AptViews look (in_code code views)
@@ -360,7 +361,7 @@ module _ (Whole : Reason → Type 0) (s : Source) (says : AptBy Whole s) where
         by-judged : (j : Answer) → s.judged ≡ j → SeriesBy Whole Kind 1_048_575 (afterwards Unasked s.judged out next).answer
         by-judged (Value n) e =
             rw (afterwards-value Unasked out next e)
-            (more-say Kind (length s.views) 1_048_575 next.answer (says.views e).few
+            (more-say Whole Kind (length s.views) 1_048_575 next.answer (says.views e).few
             (series-of (WholeBy Whole) Kind ask (length s.views) (each n e) first count out))
         by-judged (Refused file why) e = rw (afterwards-refused Unasked out next e) (source-refused e)
 
@@ -378,7 +379,7 @@ module _ (Whole : Reason → Type 0) (s : Source) (says : AptBy Whole s) where
           by-code n e true c =
               let clean = eqb-true (outward_fault code) 0 c in
               rw (by-good-code Unasked code out next s e clean)
-              (more-say Kind (length coded) 1_048_575 next.answer
+              (more-say Whole Kind (length coded) 1_048_575 next.answer
               (code-apt s.look code s.live (says.live e)).few
               (series-of (WholeBy Whole) Kind ask (length coded) (each n e clean) first count out))
           by-code n e false c =
