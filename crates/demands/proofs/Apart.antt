@@ -17,7 +17,7 @@ use Rattle.pack.specs.Opening.{point_count}
 use Rattle.pack_runs.specs.Runs.{pack_run}
 use Rattle.pack_items.specs.Lists.{pack_list}
 use Rattle.call.specs.Call.{Lent, pair, set, a_book, source_of, Files, pair_files, set_files, lent_of, Call, of_table, of_points, of_views, of_letter, of_live, of_codes, of_main, of_main_live, of_main_codes, of_label, of_code_label, of_labels, of_code_labels, of_list, of_code_list, of_build, of_pack, of_pack_label, of_pack_labels, of_pack_list, of_pack_suffix, of_sector, of_unspace_table, of_unspace_points, of_csv_row, of_csv_rows, of_csv, of_csv_label, of_csv_labels, of_csv_list, of_book, of_book_live, of_book_event, of_book_tidy, Saying, one, run, outcome_of}
-use Rattle.demands.specs.Apart.{OfLabel, OfWhole, OfBook, WholeFor, OfItem, SeriesApart, StopsBy, Apart, SayingApart, BookApart, IsBook, book_lent, ForBook, book_run, book_code_run, book_list, book_code_list, IsList, views_listed, code_listed, pack_listed, ListStops, BookListStops}
+use Rattle.demands.specs.Apart.{OfLabel, OfWhole, OfBook, WholeFor, OfItem, SeriesApart, Apart, SayingApart, BookApart, IsBook, book_lent, ForBook, book_run, book_code_run, book_list, book_code_list, IsList, views_listed, code_listed, pack_listed, ListStops, BookListStops}
 use Rattle.csv_paf.specs.Row.{view_rows}
 use Rattle.csv_paf.specs.File.{rows_of}
 use Rattle.csv_paf.specs.Ask.{csv_labels, csv_list}

@@ -15,7 +15,7 @@ use Rattle.field.specs.Text.{text_byte}
 use Rattle.field.proofs.Tests.{and_left}
 use Rattle.field.proofs.Parts.{every_append}
 use Rattle.field_outward.proofs.Long.{outward-long, inward-long, suffix-long}
-use Rattle.refusal.specs.Refusal.{number, detail, second}
+use Rattle.refusal.specs.Refusal.{detail, second}
 use Rattle.refusal.specs.Packed.{Fits}
 use Rattle.refusal.specs.declared.Reason.{Reason}
 use Rattle.refusal.specs.declared.Reason.TheVariants.{NoSuchNumber, Combination, Room, BadRow, Uncarried}

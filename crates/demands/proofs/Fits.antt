@@ -12,7 +12,7 @@ use lib.Dec.{eqb, leb, ltb, lit≤, lit<}
 use lib.ListN.{length, drop, get_or, length-append}
 use Rattle.field.specs.Test.{elem}
 use Rattle.field_outward.specs.Outward.{outward_fault}
-use Rattle.refusal.specs.Refusal.{number, detail, second, with_view}
+use Rattle.refusal.specs.Refusal.{detail, second, with_view}
 use Rattle.refusal.specs.Packed.{word, FitsRefusal, Fits}
 use Rattle.refusal.specs.declared.Reason.{Reason}
 use Rattle.refusal.specs.declared.Reason.TheVariants.{NoSuchNumber, Combination, MissingKey, Room, BadCode}

@@ -13,7 +13,7 @@ use Rattle.field.specs.Test.{only}
 use Rattle.field.specs.Text.{part}
 use Rattle.field.proofs.Tests.{and_right}
 use Rattle.file_record.specs.Parts.{record_at}
-use Rattle.file_record.proofs.Records.{record-length, record-part, part_length}
+use Rattle.file_record.proofs.Records.{record-length, record-part}
 use Rattle.file_ends.specs.Ends.{identifier, header_ok, trailer_ok}
 use Rattle.unspace_file.specs.Unspaced.{spaces_at, whole_records, last_start, unspaced}
 use Rattle.unspace_file.proofs.Laws.{same-part}
