@@ -15,42 +15,26 @@ use Rattle.refusal.specs.declared.Verdict.{Verdict}
 use Rattle.refusal.specs.declared.Verdict.TheVariants.{Fine, Bad}
 use Rattle.refusal.specs.declared.Answer.TheVariants.{Value, Refused}
 use Rattle.refusal.specs.Verdict.{or_else}
-use Rattle.field.specs.Test.{every}
-use Rattle.csv_paf.specs.File.{behind_row, rows_of, row_fault, first_bad_row, not_quote, row_fits, all_fit, rows_judged, judged_as, csv_judged}
+use Rattle.csv_paf.specs.File.{behind_row, rows_of, row_fault, first_bad_row, row_fits, all_fit, rows_judged, judged_as, csv_judged}
 use Rattle.csv_paf.proofs.Rows.{rows_none, rows_next}
-use Rattle.csv_read.specs.Judged.{row_short, Ends}
+use Rattle.csv_read.specs.Judged.{Ends}
 use Rattle.csv_read.specs.declared.rows.Judged.{Judged}
-use Rattle.csv_read.proofs.Reading.{and_assoc}
-use Rattle.csv_read.proofs.Quotes.{plain_row, row_apart, plain-behind}
 
--- so many rows before a place have no fault; whether no field of them is too long, and whether they have no quote
+-- so many rows before a place have no fault; whether none of them is refused with 15
 pub record Checking (csv : List ℕ) (rows : ℕ) (fit : Bool) (at : ℕ) : Type 0 where
   pub within : at ≤ length csv
   pub few : rows ≤ at
   pub bad : first_bad_row 1 (rows_of csv) ≡ first_bad_row (suc rows) (rows_of (drop at csv))
-  pub plain : Bool
-  pub quotes : every not_quote csv ≡ (plain && every not_quote (drop at csv))
-  pub fits : all_fit (rows_of csv) ≡ (fit && (plain && all_fit (rows_of (drop at csv))))
+  pub fits : all_fit (rows_of csv) ≡ (fit && all_fit (rows_of (drop at csv)))
   pub many : length (rows_of csv) ≡ rows + length (rows_of (drop at csv))
 
 pub checking-start : (csv : List ℕ) → Checking csv 0 true 0
 checking-start csv =
-    record {
-      within = omega arith;
-      few = omega arith;
-      bad = refl;
-      plain = true;
-      quotes = refl;
-      fits = refl;
-      many = omega arith;
-    }
+    record { within = omega arith; few = omega arith; bad = refl; fits = refl; many = omega arith }
 
-and-four : (f p s q r : Bool) → f && (p && ((s && q) && r)) ≡ (f && s) && ((p && q) && r)
-and-four true true true q r = refl
-and-four true true false q r = refl
-and-four true false true q r = refl
-and-four true false false q r = refl
-and-four false p s q r = refl
+and_assoc : (a b c : Bool) → a && (b && c) ≡ (a && b) && c
+and_assoc true b c = refl
+and_assoc false b c = refl
 
 module _ {csv : List ℕ} {rows : ℕ} {fit : Bool} {at : ℕ} (k : Checking csv rows fit at) where
   -- no row is left
@@ -65,16 +49,8 @@ module _ {csv : List ℕ} {rows : ℕ} {fit : Bool} {at : ℕ} (k : Checking csv
     no-bad : first_bad_row 1 (rows_of csv) ≡ Fine
     no-bad = k.bad ∙ ap (first_bad_row (suc rows)) none
 
-    no-quotes : every not_quote csv ≡ k.plain
-    no-quotes =
-        k.quotes
-        ∙ (ap (λ (s : List ℕ). k.plain && every not_quote s) (drop_of_length-le csv {i = at} end) ∙ and-true k.plain)
-
-    fit_all : all_fit (rows_of csv) ≡ (fit && every not_quote csv)
-    fit_all =
-        k.fits
-        ∙ (ap (λ (rs : List (List ℕ)). fit && (k.plain && all_fit rs)) none
-        ∙ ap (λ (t : Bool). fit && t) (and-true k.plain ∙ sym no-quotes))
+    fit_all : all_fit (rows_of csv) ≡ fit
+    fit_all = k.fits ∙ (ap (λ (rs : List (List ℕ)). fit && all_fit rs) none ∙ and-true fit)
 
     rows_all : length (rows_of csv) ≡ rows
     rows_all = k.many ∙ (ap (λ (rs : List (List ℕ)). rows + length rs) none ∙ zero_more rows)
@@ -82,16 +58,16 @@ module _ {csv : List ℕ} {rows : ℕ} {fit : Bool} {at : ℕ} (k : Checking csv
         zero_more : (n : ℕ) → n + 0 ≡ n
         zero_more n = omega arith
 
-    judged-as : csv_judged csv ≡ judged_as (cond (fit && every not_quote csv) Fine (Bad Uncarried)) rows
+    judged-as : csv_judged csv ≡ judged_as (cond fit Fine (Bad Uncarried)) rows
     unfolding csv_judged
     judged-as =
         ap₂ judged_as
         (ap₂ (λ (v : Verdict) (t : Bool). or_else v (cond t Fine (Bad Uncarried))) no-bad fit_all) rows_all
 
-    pub checked-fine : fit && every not_quote csv ≡ true → Value rows ≡ csv_judged csv
+    pub checked-fine : fit ≡ true → Value rows ≡ csv_judged csv
     checked-fine e = sym (judged-as ∙ ap (λ (t : Bool). judged_as (cond t Fine (Bad Uncarried)) rows) e)
 
-    pub checked-long : fit && every not_quote csv ≡ false → Refused 0 Uncarried ≡ csv_judged csv
+    pub checked-long : fit ≡ false → Refused 0 Uncarried ≡ csv_judged csv
     checked-long e = sym (judged-as ∙ ap (λ (t : Bool). judged_as (cond t Fine (Bad Uncarried)) rows) e)
 
   -- a row is left
@@ -130,19 +106,11 @@ module _ {csv : List ℕ} {rows : ℕ} {fit : Bool} {at : ℕ} (k : Checking csv
               ∙ (ap (λ (t : Bool). cond t (first_bad_row (suc (suc rows)) (rows_of (behind_row row))) (Bad (BadRow (suc rows) (row_fault row))))
               (eq-eqb (row_fault row) 0 fine)
               ∙ ap₂ (λ (n : ℕ) (r : List ℕ). first_bad_row (suc n) (rows_of r)) (sym (add-one rows)) (sym e.behind));
-          plain = k.plain && plain_row row;
-          quotes =
-              k.quotes
-              ∙ (ap (λ (t : Bool). k.plain && t) (plain-behind row)
-              ∙ (and_assoc k.plain (plain_row row) (every not_quote (behind_row row))
-              ∙ ap (λ (r : List ℕ). (k.plain && plain_row row) && every not_quote r) (sym e.behind)));
           fits =
               k.fits
-              ∙ (ap (λ (rs : List (List ℕ)). fit && (k.plain && all_fit rs)) next
-              ∙ (ap (λ (t : Bool). fit && (k.plain && (t && all_fit (rows_of (behind_row row))))) (row_apart row fine)
-              ∙ (and-four fit k.plain (row_short row) (plain_row row) (all_fit (rows_of (behind_row row)))
-              ∙ ap₂ (λ (t : Bool) (r : List ℕ). (fit && t) && ((k.plain && plain_row row) && all_fit (rows_of r)))
-              (sym e.fits) (sym e.behind))));
+              ∙ (ap (λ (rs : List (List ℕ)). fit && all_fit rs) next
+              ∙ (and_assoc fit (row_fits row) (all_fit (rows_of (behind_row row)))
+              ∙ ap₂ (λ (t : Bool) (r : List ℕ). (fit && t) && all_fit (rows_of r)) (sym e.fits) (sym e.behind)));
           many =
               k.many
               ∙ (ap (λ (rs : List (List ℕ)). rows + length rs) next

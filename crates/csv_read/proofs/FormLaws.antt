@@ -102,8 +102,8 @@ module _ (fields : List (List ℕ)) {n k : ℕ} (e : n ≡ k) where
   pub form-at : (f : List ℕ) → get_or (forms_for fields) k no_form f ≡ get_or (forms_for fields) n no_form f
   form-at f = ap (λ (m : ℕ). get_or (forms_for fields) m no_form f) (sym e)
 
-  pub before_at : {before : List ℕ} → before ≡ get_or ([] ∷ fields) n [] → before ≡ get_or ([] ∷ fields) k []
-  before_at b = b ∙ ap (λ (m : ℕ). get_or ([] ∷ fields) m []) e
+  pub before_at : {alone : Bool} → alone ≡ blank (get_or ([] ∷ fields) n []) → alone ≡ blank (get_or ([] ∷ fields) k [])
+  before_at b = b ∙ ap (λ (m : ℕ). blank (get_or ([] ∷ fields) m [])) e
 
   pub ahead-at : {rest : List (List ℕ)} → drop n fields ≡ rest → get_or fields (k + 2) [] ≡ get_or rest 2 []
   ahead-at d = sym (get_or-drop k fields 2 []) ∙ ap (λ (s : List (List ℕ)). get_or s 2 []) (ap (λ (m : ℕ). drop m fields) (sym e) ∙ d)

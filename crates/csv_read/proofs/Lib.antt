@@ -2,5 +2,4 @@ pub mod Cut
 pub mod FormLaws
 pub mod Reading
 pub mod Formed
-pub mod Quotes
 pub mod Checked

@@ -1,6 +1,6 @@
 -- A row read field by field: where reading begins, goes on and ends.
 -- Assumes nothing.
-use Prim.Native.Nat.{ℕ, zero, suc, ◌+◌, ◌-◌, ◌≤◌, ◌<◌}
+use Prim.Native.Nat.{ℕ, zero, suc, ◌+◌, ◌≤◌, ◌<◌}
 use mathlib.Core.Path.{◌≡◌, refl, sym, ap, ap₂, subst, ◌∙◌}
 use mathlib.Core.Bool.{Bool, true, false, cond, not, ◌&&◌}
 use mathlib.Core.List.{List, [], ◌∷◌}
@@ -9,22 +9,22 @@ use native.Mathlib.Nat.{add-zero}
 use native.Mathlib.Numerals.{add-one}
 use borrow.Author.Tests.{leb-true, eqb-true, eqb-false, eq-eqb, ne_eqb}
 use lib.Dec.{eqb, leb}
-use lib.ListN.{length, take, drop, get_or}
+use lib.ListN.{length, drop, get_or}
 use lib.Seq.{drop-cons, drop-drop, get_or-drop}
 use Rattle.field.specs.Test.{every}
 use Rattle.field.proofs.Tests.{and_left, and_right}
-use Rattle.field.specs.Text.{part}
-use Rattle.csv_paf.specs.File.{fields_of, is_ended, behind_row, forms_for, field_fault, row_fault, widths}
+use Rattle.field.specs.Text.{blank, part}
+use Rattle.csv_paf.specs.File.{fields_of, is_ended, behind_row, forms_for, field_fault, row_fault, widths, field_fits, fields_fit, row_fits}
 use Rattle.csv_read.specs.declared.rows.Judged.{Judged}
 use Rattle.csv_read.specs.Cut.{more_fields, field_end}
-use Rattle.csv_read.specs.Judged.{no_form, fields_short, row_short, Reading, faulty_row, ended_row, Ends, Judges}
+use Rattle.csv_read.specs.Judged.{no_form, Reading, faulty_row, ended_row, Ends, Judges}
 use Rattle.csv_read.proofs.Cut.{end_low, fields_at, ended_at, behind-at, comma-within, fields-behind, ended-behind, row-behind, fields-none, first-as, return-ended, return-behind, return-high, other-ended}
 
 pub not-not : (t : Bool) → not (not t) ≡ t
 not-not true = refl
 not-not false = refl
 
-pub and_assoc : (a b c : Bool) → a && (b && c) ≡ (a && b) && c
+and_assoc : (a b c : Bool) → a && (b && c) ≡ (a && b) && c
 and_assoc true b c = refl
 and_assoc false b c = refl
 
@@ -51,15 +51,9 @@ module _ (csv : List ℕ) (n end : ℕ) (fits : Bool) where
 
 -- ---- field by field
 
-part_none : (csv : List ℕ) (at : ℕ) → part csv at at ≡ []
-part_none csv at =
-    let none : at - at ≡ 0 = omega arith in
-    ap (λ (n : ℕ). take n (drop at csv)) none
-
-pub reading-start : (csv : List ℕ) (at : ℕ) {before : List ℕ} → before ≡ part csv at at → at ≤ length csv
-    → Reading csv at 0 at before true
-unfolding row_fault row_short
-reading-start csv at b h =
+pub reading-start : (csv : List ℕ) (at : ℕ) → at ≤ length csv → Reading csv at 0 at true true
+unfolding row_fault row_fits
+reading-start csv at h =
     record {
       low = omega arith;
       within = h;
@@ -67,10 +61,10 @@ reading-start csv at b h =
       fault = refl;
       behind = refl;
       fits = refl;
-      last = b ∙ part_none csv at;
+      last = refl;
     }
 
-module _ {csv : List ℕ} {at n start : ℕ} {before : List ℕ} {fit : Bool} (r : Reading csv at n start before fit) where
+module _ {csv : List ℕ} {at n start : ℕ} {before fit : Bool} (r : Reading csv at n start before fit) where
   abbrev fs : List (List ℕ)
   fs = fields_of (drop at csv)
 
@@ -122,14 +116,14 @@ module _ {csv : List ℕ} {at n start : ℕ} {before : List ℕ} {fit : Bool} (r
       behind-e = r.behind ∙ (behind-at csv start ∙ ap (λ (m : ℕ). behind_row (drop m csv)) (sym is))
 
       abbrev fits-now : Bool
-      fits-now = fit && leb (length f) (get_or widths n 0)
+      fits-now = fit && field_fits (get_or widths n 0) f
 
-      fits-e : row_short (drop at csv) ≡ (fits-now && fields_short (drop (suc n) widths) rest)
+      fits-e : row_fits (drop at csv) ≡ (fits-now && fields_fit (drop (suc n) widths) rest)
       fits-e =
           r.fits
-          ∙ (ap (λ (s : List ℕ). fit && fields_short s (fields_of (drop start csv))) (drop-cons widths n 0 h)
-          ∙ (ap (λ (t : List (List ℕ)). fit && fields_short (get_or widths n 0 ∷ drop (suc n) widths) t) first
-          ∙ and_assoc fit (leb (length f) (get_or widths n 0)) (fields_short (drop (suc n) widths) rest)))
+          ∙ (ap (λ (s : List ℕ). fit && fields_fit s (fields_of (drop start csv))) (drop-cons widths n 0 h)
+          ∙ (ap (λ (t : List (List ℕ)). fit && fields_fit (get_or widths n 0 ∷ drop (suc n) widths) t) first
+          ∙ and_assoc fit (field_fits (get_or widths n 0) f) (fields_fit (drop (suc n) widths) rest)))
 
       one_less : drop (n + 1) fs ≡ rest
       one_less = sym (drop-drop 1 n fs) ∙ ap (drop 1) (r.fields ∙ first)
@@ -140,7 +134,7 @@ module _ {csv : List ℕ} {at n start : ℕ} {before : List ℕ} {fit : Bool} (r
           ∙ (sym (get_or-drop n fs 0 []) ∙ ap (λ (s : List (List ℕ)). get_or s 0 []) (r.fields ∙ first))
 
       -- a comma behind it
-      reading_step : get_or csv e 0 ≡ 44 → Reading csv at (n + 1) (e + 1) f fits-now
+      reading_step : get_or csv e 0 ≡ 44 → Reading csv at (n + 1) (e + 1) (blank f) fits-now
       reading_step comma =
           record {
             low = omega (arith, r.low, is, end_low csv start);
@@ -154,14 +148,14 @@ module _ {csv : List ℕ} {at n start : ℕ} {before : List ℕ} {fit : Bool} (r
             behind = behind-e ∙ row-behind csv e comma;
             fits =
                 fits-e
-                ∙ (ap (λ (m : ℕ). fits-now && fields_short (drop m widths) rest) (sym (add-one n))
-                ∙ ap (λ (t : List (List ℕ)). fits-now && fields_short (drop (n + 1) widths) t) (fields-behind csv e comma));
-            last = sym this ∙ ap (λ (m : ℕ). get_or ([] ∷ fs) m []) (sym (add-one n));
+                ∙ (ap (λ (m : ℕ). fits-now && fields_fit (drop m widths) rest) (sym (add-one n))
+                ∙ ap (λ (t : List (List ℕ)). fits-now && fields_fit (drop (n + 1) widths) t) (fields-behind csv e comma));
+            last = ap blank (sym this ∙ ap (λ (m : ℕ). get_or ([] ∷ fs) m []) (sym (add-one n)));
           }
 
       -- the same by what was found of it
-      pub reading-on : get_or csv e 0 ≡ 44 → {last : List ℕ} {short : Bool} → last ≡ f → short ≡ leb (length f) (get_or widths n 0)
-          → Reading csv at (n + 1) (e + 1) last (fit && short)
+      pub reading-on : get_or csv e 0 ≡ 44 → {alone fitting : Bool} → alone ≡ blank f → fitting ≡ field_fits (get_or widths n 0) f
+          → Reading csv at (n + 1) (e + 1) alone (fit && fitting)
       reading-on comma a t = rw (a, t) (reading_step comma)
 
       -- no comma behind it: the row ends
@@ -189,7 +183,7 @@ module _ {csv : List ℕ} {at n start : ℕ} {before : List ℕ} {fit : Bool} (r
             ∙ (ap (λ (m : ℕ). field_fault (drop (suc m) (forms_for fs)) (suc (suc n)) [] (is_ended (drop e csv))) e15
             ∙ ap (λ (m : ℕ). cond (is_ended (drop e csv)) 0 m) two-on)
 
-        no-fits : (s : List ℕ) → fields_short s [] ≡ true
+        no-fits : (s : List ℕ) → fields_fit s [] ≡ true
         no-fits [] = refl
         no-fits (w ∷ ws) = refl
 
@@ -197,10 +191,10 @@ module _ {csv : List ℕ} {at n start : ℕ} {before : List ℕ} {fit : Bool} (r
         and-true true = refl
         and-true false = refl
 
-        fits_all : row_short (drop at csv) ≡ fits-now
+        fits_all : row_fits (drop at csv) ≡ fits-now
         fits_all =
             fits-e
-            ∙ (ap (λ (t : List (List ℕ)). fits-now && fields_short (drop (suc n) widths) t) none
+            ∙ (ap (λ (t : List (List ℕ)). fits-now && fields_fit (drop (suc n) widths) t) none
             ∙ (ap (λ (t : Bool). fits-now && t) (no-fits (drop (suc n) widths)) ∙ and-true fits-now))
 
         faulty-judges : row_fault (drop at csv) ≡ n + 2 → Judges csv at (faulty_row (n + 2))

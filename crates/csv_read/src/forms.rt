@@ -1,5 +1,6 @@
 // Whether the bytes of a field are what it has to be.
 ghost use Rattle.std.specs.Prelude.{◌≡◌, List, [], ◌∷◌, ℕ, ◌+◌, ◌≤◌, ◌<◌, length, get_or, drop};
+ghost use Rattle.field.specs.Text.{blank, part};
 ghost use Rattle.file_compare.specs.Order.{same};
 ghost use Rattle.csv_paf.specs.File.{fields_of, is_postcode, is_outward, is_type, is_indicator, double_form, organisation_form, forms_for};
 ghost use Rattle.csv_read.specs.Judged.{no_form};
@@ -56,11 +57,11 @@ fn is_indicator(f: &[u8]) -> bool
     (f.len() == 0) | (space | yes)
 }
 
-// A double dependent locality behind the dependent one.
-fn double_formed(f: &[u8], before: &[u8]) -> bool
-    ensures { result ≡ double_form before.now f.now }
+// A double dependent locality, by whether the dependent one is blank.
+fn double_formed(f: &[u8], alone: bool) -> bool
+    ensures { (dependent : List ℕ) → alone ≡ blank dependent → result ≡ double_form dependent f.now }
 {
-    if all_are(before, 32) {
+    if alone {
         all_are(f, 32)
     } else {
         text_fault(f) == 0
@@ -84,14 +85,14 @@ fn small_ahead(csv: &[u8], start: usize) -> bool
     same_bytes(part_of(csv, second + 1, third), b"S")
 }
 
-// An organisation's name behind the department.
-fn organisation_formed(csv: &[u8], start: usize, f: &[u8], before: &[u8]) -> bool
+// An organisation's name, by whether the department is blank.
+fn organisation_formed(csv: &[u8], start: usize, f: &[u8], alone: bool) -> bool
     requires { start ≤ length csv.now }
-    ensures { (type : List ℕ)
+    ensures { (department type : List ℕ) → alone ≡ blank department
         → same type (83 ∷ []) ≡ same (get_or (fields_of (drop start csv.now)) 2 []) (83 ∷ [])
-        → result ≡ organisation_form before.now type f.now }
+        → result ≡ organisation_form department type f.now }
 {
-    if all_are(before, 32) {
+    if alone {
         return text_fault(f) == 0;
     }
     if small_ahead(csv, start) {
@@ -100,19 +101,19 @@ fn organisation_formed(csv: &[u8], start: usize, f: &[u8], before: &[u8]) -> boo
     text_fault(f) == 0
 }
 
-// Whether the n-th field of a row, counted from 0, is well formed behind the one before it.
-pub fn is_formed(csv: &[u8], start: usize, f: &[u8], n: usize, before: &[u8]) -> bool
+// Whether the n-th field of a row, counted from 0, is well formed, by whether the one before it is blank.
+pub fn is_formed(csv: &[u8], start: usize, f: &[u8], n: usize, alone: bool) -> bool
     requires { (n < 16) × (start ≤ length csv.now) }
-    ensures { (fields : List (List ℕ)) → before.now ≡ get_or ([] ∷ fields) n []
+    ensures { (fields : List (List ℕ)) → alone ≡ blank (get_or ([] ∷ fields) n [])
         → drop n fields ≡ fields_of (drop start csv.now)
         → result ≡ get_or (forms_for fields) n no_form f.now }
 {
     match n {
         0 => is_postcode(f),
         1 => filled_fault(f) == 0,
-        3 => double_formed(f, before),
+        3 => double_formed(f, alone),
         6 => are_digits(f),
-        11 => organisation_formed(csv, start, f, before),
+        11 => organisation_formed(csv, start, f, alone),
         12 => are_digits(f),
         13 => is_type(f),
         14 => is_indicator(f),

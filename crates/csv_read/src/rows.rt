@@ -1,14 +1,16 @@
 // The rows of a file, judged one by one.
 ghost use Rattle.std.specs.Prelude.{◌≡◌, ◌+◌, ◌≤◌, ◌<◌, length, get_or};
-ghost use Rattle.csv_paf.specs.File.{widths};
+ghost use Rattle.field.specs.Test.{every};
+ghost use Rattle.csv_paf.specs.File.{widths, not_quote, field_fits};
 ghost use Rattle.csv_read.specs.Judged.{faulty_row, ended_row, Judges};
 
 use crate::fields::field_end;
 use crate::forms::is_formed;
+use field_test::all_are;
 use file_record::{byte_of, part_of};
 
-// A row: its first malformed field, 0 where there is none, and then whether no field is too long, and where the row behind it
-// begins.
+// A row: its first malformed field, 0 where there is none, and then whether no field is too long or has a quote, and where
+// the row behind it begins.
 #[derive(Clone, Copy)]
 pub struct Judged {
     pub fault: usize,
@@ -44,6 +46,19 @@ fn ended_row(csv: &[u8], n: usize, end: usize, fits: bool) -> Judged
     }
 }
 
+// Whether no byte is a quote. No byte ends the loop, so that many are taken at once.
+fn no_quote(f: &[u8]) -> bool
+    ensures { result ≡ every not_quote f.now }
+{
+    let mut bad = false;
+    let mut i = 0;
+    while i < f.len() {
+        bad = bad | (f[i] == 34);
+        i += 1;
+    }
+    !bad
+}
+
 // How long the n-th field may be.
 fn width_of(n: usize) -> usize
     requires { n < 16 }
@@ -53,26 +68,34 @@ fn width_of(n: usize) -> usize
     all[n] as usize
 }
 
+fn field_fits(f: &[u8], n: usize) -> bool
+    requires { n < 16 }
+    ensures { result ≡ field_fits (get_or widths n 0) f.now }
+{
+    let plain = no_quote(f);
+    (f.len() <= width_of(n)) & plain
+}
+
 // The row that begins at a place, field by field.
 pub fn judge_row(csv: &[u8], at: usize) -> Judged
     requires { at ≤ length csv.now }
     ensures { Judges csv.now at result }
 {
     let mut fit = true;
-    let mut before = part_of(csv, at, at);
+    let mut alone = true;
     let mut start = at;
     let mut n = 0;
     while n < 16 {
         let end = field_end(csv, start);
         let f = part_of(csv, start, end);
-        if !is_formed(csv, start, f, n, before) {
+        if !is_formed(csv, start, f, n, alone) {
             return faulty(n + 1);
         }
-        fit = fit & (f.len() <= width_of(n));
+        fit = fit & field_fits(f, n);
         if byte_of(csv, end) != b',' {
             return ended_row(csv, n, end, fit);
         }
-        before = f;
+        alone = all_are(f, 32);
         start = end + 1;
         n += 1;
     }

@@ -1,9 +1,7 @@
 -- `csv_read::check_csv` meets its contract. The invariant: the rows before have no fault, and the rest decides.
 -- Assumes nothing.
-use borrow.Author.Rules.{rules}
-use Prim.Native.Nat.{◌-◌, ◌≤◌}
-use mathlib.Core.Path.{◌≡◌, sym, ap, ◌∙◌}
-use mathlib.Core.Bool.{Bool, ◌&&◌}
+use Prim.Native.Nat.{◌-◌}
+use mathlib.Core.Path.{sym, ◌∙◌}
 use native.Mathlib.Omega.{arith}
 use lib.ListN.{length}
 use Rattle.csv_read.specs.Judged.{Ends}
@@ -53,22 +51,13 @@ loop-again c =
     checking-step (at-loop c).loop-at.invariant j.loop-at-test.true
     (sym j.judge_row-row.ensures.fault ∙ c.if-row-ne0.false) (ends c)
 
-returns-2 : tie.Need-returns-then-fit-has_none invariant-loop decreases-loop
-returns-2 c =
-    let q = c in
-    let l = q in
-    checked-fine l.loop-at.invariant l.loop-at-test.false
-    (ap (λ (t : Bool). l.loop-at.fit && t) (sym q.has_none.ensures) ∙ c.if-fit-has_none.true)
+returns-2 : tie.Need-returns-then-fit invariant-loop decreases-loop
+returns-2 c = checked-fine c.loop-at.invariant c.loop-at-test.false c.if-fit.true
 
 returns-3 : tie.Need-returns invariant-loop decreases-loop
-returns-3 c =
-    let q = c in
-    let l = q in
-    checked-long l.loop-at.invariant l.loop-at-test.false
-    (ap (λ (t : Bool). l.loop-at.fit && t) (sym q.has_none.ensures) ∙ c.if-fit-has_none.false)
+returns-3 c = checked-long c.loop-at.invariant c.loop-at-test.false c.if-fit.false
 
 pub check_csv_spec : {M : Type 1} → statement M
 check_csv_spec =
     tie.close
-    (tie.spec invariant-loop decreases-loop loop-holds judge-row-requires add-rows returns loop-less loop-again (search rules) returns-2
-    returns-3)
+    (tie.spec invariant-loop decreases-loop loop-holds judge-row-requires add-rows returns loop-less loop-again returns-2 returns-3)

@@ -7,18 +7,14 @@ use Rattle.csv_read.proofs.FormLaws.{double-alone, double-beside}
 use Rattle.csv_read.proofs.forms.double_formed.Statement.{statement}
 use Rattle.csv_read.proofs.forms.double_formed.Tie as tie
 
-returns : tie.Need-returns-then-all_are
-returns c =
-    let known = c in
-    let a = known.args in
-    c.all_are-then-all_are.ensures ∙ double-alone a.before.now a.f.now (sym c.if-all_are.true ∙ known.all_are.ensures)
+returns : tie.Need-returns-then-alone
+returns c dependent e =
+    c.all_are.ensures ∙ double-alone dependent c.args.f.now (sym c.if-alone.true ∙ e)
 
-returns-2 : tie.Need-returns-else-all_are
-returns-2 c =
-    let known = c in
-    let a = known.args in
+returns-2 : tie.Need-returns-else-alone
+returns-2 c dependent e =
     ap (λ (n : ℕ). eqb n 0) c.text_fault.ensures
-    ∙ double-beside a.before.now a.f.now (sym c.if-all_are.false ∙ known.all_are.ensures)
+    ∙ double-beside dependent c.args.f.now (sym c.if-alone.false ∙ e)
 
 pub double_formed_spec : {M : Type 1} → statement M
-double_formed_spec = tie.close (tie.spec (search rules) (search rules) (search rules) returns returns-2)
+double_formed_spec = tie.close (tie.spec (search rules) (search rules) returns returns-2)

@@ -7,13 +7,12 @@ use mathlib.Core.List.{List, [], ◌∷◌}
 use lib.Dec.{eqb}
 use lib.ListN.{get_or}
 use Rattle.file_compare.specs.Order.{same}
-use Rattle.csv_paf.specs.File.{double_form, organisation_form}
 use Rattle.csv_read.proofs.FormLaws.{form-text, form-at, before_at, ahead-at}
 use Rattle.csv_read.proofs.forms.is_formed.Statement.{statement}
 use Rattle.csv_read.proofs.forms.is_formed.Tie as tie
 
 -- the arguments
-module _ (c : tie.After-shared_slice_known-3-1) where
+module _ (c : tie.After-shared_slice_known-2-1) where
   abbrev f : List ℕ
   f = c.args.f.now
 
@@ -27,9 +26,7 @@ returns-2 c fields b d =
 returns-3 : tie.Need-returns-in-3
 returns-3 c fields b d =
     let key = c.in-3.is in
-    c.double_formed.ensures
-    ∙ (ap (λ (dependent : List ℕ). double_form dependent (f c.before.before)) (before_at fields key b)
-    ∙ form-at fields key (f c.before.before))
+    c.double_formed.ensures (get_or fields 2 []) (before_at fields key b) ∙ form-at fields key (f c.before.before)
 
 returns-4 : tie.Need-returns-in-6
 returns-4 c fields b d = c.are_digits.ensures ∙ form-at fields c.in-6.is (f c.before.before)
@@ -37,10 +34,9 @@ returns-4 c fields b d = c.are_digits.ensures ∙ form-at fields c.in-6.is (f c.
 returns-5 : tie.Need-returns-in-11
 returns-5 c fields b d =
     let key = c.in-11.is in
-    c.organisation_formed.ensures (get_or fields 13 []) (ap (λ (t : List ℕ). same t (83 ∷ [])) (ahead-at fields key d))
-    ∙ (ap (λ (department : List ℕ). organisation_form department (get_or fields 13 []) (f c.before.before))
-    (before_at fields key b)
-    ∙ form-at fields key (f c.before.before))
+    c.organisation_formed.ensures (get_or fields 10 []) (get_or fields 13 []) (before_at fields key b)
+    (ap (λ (t : List ℕ). same t (83 ∷ [])) (ahead-at fields key d))
+    ∙ form-at fields key (f c.before.before)
 
 returns-6 : tie.Need-returns-in-12
 returns-6 c fields b d = c.are_digits-in-12.ensures ∙ form-at fields c.in-12.is (f c.before.before)
