@@ -112,6 +112,11 @@ of_row =
     65 ∷ 10 ∷ 49 ∷ 50 ∷ 32 ∷ 81 ∷ 85 ∷ 65 ∷ 82 ∷ 82 ∷ 89 ∷ 32 ∷ 76 ∷ 65 ∷ 78 ∷ 69 ∷ 10 ∷ 72 ∷ 65 ∷ 82 ∷ 84 ∷ 87 ∷
     69 ∷ 76 ∷ 76 ∷ 32 ∷ 66 ∷ 65 ∷ 89 ∷ 10 ∷ 65 ∷ 66 ∷ 49 ∷ 32 ∷ 57 ∷ 90 ∷ 90 ∷ 10 ∷ []
 
-pub row-label-1 : csv_label row 1 (replicate 38 0) ≡ said (Value 38) of_row
+pub row-label-1 : csv_label row 1 of_row ≡ room_outcome of_row of_row
 unfolding csv_label csv_judged row_label rows_of row_fault row_fits is_postcode text_fault filled_fault outward_fault class allowed inward_fault inward_letter suffix_fault row_resolved row_elements forbidden_in value digit_value numeric_like number_text lines_of label_of room_outcome
 row-label-1 = refl
+
+-- the same into a buffer of 38 bytes, which it fills
+pub row-label-1-filled : csv_label row 1 (replicate 38 0) ≡ said (Value 38) of_row
+unfolding csv_label csv_judged row_label rows_of row_fault row_fits is_postcode text_fault filled_fault outward_fault class allowed inward_fault inward_letter suffix_fault row_resolved row_elements forbidden_in value digit_value numeric_like number_text lines_of label_of room_outcome
+row-label-1-filled = refl

@@ -96,10 +96,14 @@ read_back = refl
 pub sixty-eight : length row ≡ 68
 sixty-eight = refl
 
--- into a buffer of 54 bytes; the two behind the label stay
-pub label-back : csv_label row 1 (replicate 54 0) ≡ said (Value 52) (label ++ (0 ∷ 0 ∷ []))
+pub label-back : csv_label row 1 [] ≡ room_outcome label []
 unfolding csv_label csv_judged row_label rows_of row_fault row_fits is_postcode text_fault filled_fault outward_fault class allowed inward_fault inward_letter suffix_fault row_resolved row_elements forbidden_in value digit_value numeric_like number_text lines_of label_of room_outcome
 label-back = refl
+
+-- into a buffer of 54 bytes; the two behind the label stay
+pub label-back-roomy : csv_label row 1 (replicate 54 0) ≡ said (Value 52) (label ++ (0 ∷ 0 ∷ []))
+unfolding csv_label csv_judged row_label rows_of row_fault row_fits is_postcode text_fault filled_fault outward_fault class allowed inward_fault inward_letter suffix_fault row_resolved row_elements forbidden_in value digit_value numeric_like number_text lines_of label_of room_outcome
+label-back-roomy = refl
 
 -- the buffer is a byte too short
 pub label-short : csv_label row 1 (replicate 51 0) ≡ said (Refused 0 (Room 52)) (replicate 51 0)
