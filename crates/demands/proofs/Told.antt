@@ -57,11 +57,15 @@ row-disjoint why other stop whole same =
     (λ (low : (11 ≤ number other) × (number other ≤ 12)). omega (arith, low.1, h, same)) whole)
     stop
 
-csv-disjoint : Disjoint OfCsv OfCsvLabel
-csv-disjoint why other stop whole same =
-    ⊎_elim (λ (h : number why ≡ 7). omega (arith, h, whole.0, same))
-    (⊎_elim (λ (h : number why ≡ 8). omega (arith, h, whole.0, same)) (λ (h : number why ≡ 10). omega (arith, h, whole.0, same)))
-    stop
+csv-disjoint : Disjoint OfCsv OfLabel
+csv-disjoint why other label whole same = omega (arith, label.1, whole.0, same)
+
+-- no key of a row is missing: 9 is none of its stops
+csv-label-disjoint : Disjoint OfCsv OfCsvLabel
+csv-label-disjoint why other stop =
+    csv-disjoint why other
+    (⊎_elim (λ (h : number why ≡ 7). (omega arith, omega arith))
+    (⊎_elim (λ (h : number why ≡ 8). (omega arith, omega arith)) (λ (h : number why ≡ 10). (omega arith, omega arith))) stop)
 
 item-disjoint : Disjoint OfCsv OfItem
 item-disjoint why other item whole same =
@@ -196,7 +200,7 @@ csv-same-told call other rows_written rows_printed alike c d out another before 
 csv-same-told call other rows_written rows_listed alike c d out another before e = absurd alike
 csv-same-told call other rows_printed rows_written alike c d out another before e = absurd alike
 csv-same-told call other rows_printed rows_printed alike c d out another before e =
-    csv-told OfCsv OfCsvLabel csv-disjoint before call other _ _ (tells call c out) (tells other d another)
+    csv-told OfCsv OfCsvLabel csv-label-disjoint before call other _ _ (tells call c out) (tells other d another)
     (csv-apart call rows_printed out) (csv-apart other rows_printed another) e
 csv-same-told call other rows_printed rows_listed alike c d out another before e = absurd alike
 csv-same-told call other rows_listed rows_written alike c d out another before e = absurd alike

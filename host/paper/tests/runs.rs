@@ -1,11 +1,58 @@
 //! Runs of labels: equal to asking for each in turn, in buffers of every length.
 
-mod turns;
-
 use paper::make::{bad_outward, damaged_packs, full_draft, pair, worked_pair, Pair, Rng, BUILT};
 use paper::{code_label, code_labels, label, labels, pack_label, pack_labels, packed_run};
 use paper::{Refusal, Run};
-use turns::{compare, BEFORE};
+
+/// What a buffer holds before a run.
+const BEFORE: u8 = 0xA5;
+
+/// The same labels asked for one by one, each behind those before it; none of
+/// these calls may refuse the whole.
+fn in_turn(
+    first: u64,
+    count: u64,
+    out: &mut [u8],
+    one: impl Fn(u64, &mut [u8]) -> Result<usize, Refusal>,
+) -> Run {
+    let mut bytes = 0;
+    for written in 0..count {
+        match one(first + written, &mut out[bytes..]) {
+            Ok(length) => bytes += length,
+            Err(why) => {
+                return Run {
+                    labels: written,
+                    bytes,
+                    stop: Some(why),
+                }
+            }
+        }
+    }
+    Run {
+        labels: count,
+        bytes,
+        stop: None,
+    }
+}
+
+/// Runs and single calls from every number around those that there are, as many
+/// labels as there are and more, in a buffer of that length.
+#[track_caller]
+fn compare(
+    numbers: u64,
+    room: usize,
+    run: impl Fn(u64, u64, &mut [u8]) -> Result<Run, Refusal>,
+    one: impl Fn(u64, &mut [u8]) -> Result<usize, Refusal>,
+) {
+    for first in (0..=numbers + 1).chain([u64::MAX]) {
+        for count in (0..=numbers + 1).chain([u64::MAX]) {
+            let (mut ours, mut turned) = (vec![BEFORE; room], vec![BEFORE; room]);
+            let answer = run(first, count, &mut ours);
+            assert_eq!(answer, Ok(in_turn(first, count, &mut turned, &one)));
+            assert!(ours == turned, "{count} from {first} in {room} bytes");
+        }
+    }
+}
 
 #[test]
 fn a_run_is_each_label_in_turn() {

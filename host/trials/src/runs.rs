@@ -5,7 +5,7 @@ use crate::agree::{lent, telling};
 use crate::rooms::refusal;
 use paper::{packed_run, Refusal, Run};
 use std::hint::black_box;
-use ttw::{ask, calls};
+use ttw::calls;
 
 /// Labels from number `first` on, so many, in a buffer of so many bytes.
 #[derive(Clone, Copy, Debug)]
@@ -144,25 +144,6 @@ pub(crate) fn item(
     }
     out[..text.len()].copy_from_slice(&text);
     text.len() as u64
-}
-
-/// A run over all of so many views in one call, each of at most 499 bytes, as the second program has it: what is written.
-#[track_caller]
-pub fn all_at_once(
-    views: usize,
-    library: impl FnOnce(&mut [u8]) -> Result<ask::Run, ask::Refusal>,
-    plain: impl FnOnce(&mut [u8]) -> Result<Run, Refusal>,
-) -> Vec<u8> {
-    let (mut ours, mut theirs) = (vec![7; 499 * views], vec![7; 499 * views]);
-    let run = library(&mut ours).expect("accepted files");
-    let plain = plain(&mut theirs).expect("accepted files");
-    assert_eq!((run.labels, run.bytes), (plain.labels, plain.bytes));
-    assert_eq!(run.labels, views as u64);
-    let stop = run.stop.map(|stop| (stop.number, stop.detail));
-    assert_eq!(stop, Some((7, 0)));
-    assert!(ours == theirs, "the buffers differ");
-    ours.truncate(run.bytes);
-    ours
 }
 
 /// What a run leaves behind.

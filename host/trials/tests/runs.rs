@@ -4,7 +4,7 @@ use paper::make::{self, Pair, Rng, BUILT};
 use paper::{packed, Refusal};
 use trials::around::{around, Around};
 use trials::packs::{built, codes, draft, mend, resident, row};
-use trials::runs::{all_at_once, code_labels, labels, pack_labels, Asked};
+use trials::runs::{code_labels, labels, pack_labels, Asked};
 use trials::samples;
 use ttw::{ask, calls};
 
@@ -121,7 +121,15 @@ fn damaged_files_refuse_the_whole() {
     let mut rng = Rng::new(205);
     let mut blamed = [0usize; 3];
     for _ in 0..1_500 {
-        let Pair { table, points, .. } = make::scratched_pair(&mut rng, 20);
+        let Pair {
+            mut table,
+            mut points,
+            ..
+        } = make::pair(&mut rng, 20);
+        if rng.one_in(2) {
+            make::scratch(&mut rng, &mut table);
+        }
+        make::scratch(&mut rng, &mut points);
         let one = calls::label(&table, &points, 1, &mut [0; LABEL]);
         let file = one >> 52 & 15;
         blamed[file as usize] += 1;
@@ -212,11 +220,17 @@ fn a_run_over_the_largest_files() {
         views,
         ..
     } = make::exact_pair(&mut Rng::new(8), 20_000, 20_000);
-    all_at_once(
-        views.len(),
-        |out| ask::labels(&table, &points, 1, u64::MAX, out),
-        |out| paper::labels(&table, &points, 1, u64::MAX, out),
+    let room = LABEL * views.len();
+    let (mut ours, mut theirs) = (vec![7; room], vec![7; room]);
+    let run = ask::labels(&table, &points, 1, u64::MAX, &mut ours).expect("accepted files");
+    let plain = paper::labels(&table, &points, 1, u64::MAX, &mut theirs).expect("accepted files");
+    assert_eq!((run.labels, run.bytes), (plain.labels, plain.bytes));
+    assert_eq!(run.labels, views.len() as u64);
+    assert_eq!(
+        run.stop.map(|stop| (stop.number, stop.detail)),
+        Some((7, 0))
     );
+    assert!(ours == theirs, "the buffers differ");
 }
 
 /// A pack of one point so many times.

@@ -183,16 +183,21 @@ fn bash_offers_the_options_that_help_names() {
 }
 
 #[test]
-fn bash_offers_what_is_done_with_a_set_or_a_book_and_then_files() {
+fn bash_offers_what_is_done_with_a_set_and_then_files() {
     let folder = Folder::new();
     folder.put("code list", b"");
     let verbs = ["check", "codes", "labels", "pack", "csv", "extract"];
     assert_eq!(set(offered(&folder, &["ttw", "main", ""])), set(verbs));
     assert_eq!(offered(&folder, &["ttw", "main", "co"]), ["codes"]);
-    let verbs = ["new", "add", "list", "labels", "pack", "tidy"];
-    assert_eq!(set(offered(&folder, &["ttw", "book", ""])), set(verbs));
     let files = offered(&folder, &["ttw", "main", "codes", "co"]);
     assert_eq!(set(files), set(["code list", "completion"]));
+}
+
+#[test]
+fn bash_offers_what_is_done_with_a_book() {
+    let verbs = ["new", "add", "list", "labels", "pack", "tidy"];
+    let offers = offered(&Folder::new(), &["ttw", "book", ""]);
+    assert_eq!(set(offers), set(verbs));
 }
 
 #[test]

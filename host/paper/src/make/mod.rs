@@ -35,11 +35,11 @@ pub use damage::{
 pub use editions::{Edition, BUILT, EDITIONS, FIRST, SECOND};
 pub use pack_damage::{damaged_packs, DamagedPack};
 pub use packs::{full_draft, pack_draft, worked_pack, PackDraft, PackPoint, PackRow};
-pub use pairs::{archived, exact_pair, long_pair, pair, scratched_pair, worked_pair, Pair};
+pub use pairs::{archived, exact_pair, long_pair, pair, worked_pair, Pair};
 pub use records::{
     main_file_of, padded, point_file, point_file_of, space_points, space_table, table_file,
     table_file_of, End, Follower, Organisation, TableRow, View,
 };
 pub use rng::Rng;
 pub use sets::{exact_set, joined_key, long_file, long_set, main_set, set_of_pair, MainSet};
-pub use whole::{longest_view, whole_view, with_each_text, Change, FORBIDDEN, MISSING};
+pub use whole::{whole_view, Change, FORBIDDEN, MISSING};

@@ -1,7 +1,7 @@
 use super::texts::{descriptor, organisation, place, po_box, premises};
 use super::{
-    inward, outward, point_file, scratch, space_points, space_table, suffix, table_file, End,
-    Follower, Rng, TableRow, View,
+    inward, outward, point_file, space_points, space_table, suffix, table_file, End, Follower, Rng,
+    TableRow, View,
 };
 
 /// A table file and a point file that are both accepted, and what they were
@@ -98,17 +98,6 @@ pub fn worked_pair() -> Pair {
         ..first.clone()
     };
     Pair::new(rows, vec![first, second])
-}
-
-/// A random pair of which the point file is scratched, and every second time the
-/// table file too.
-pub fn scratched_pair(rng: &mut Rng, most_records: usize) -> Pair {
-    let mut pair = pair(rng, most_records);
-    if rng.one_in(2) {
-        scratch(rng, &mut pair.table);
-    }
-    scratch(rng, &mut pair.points);
-    pair
 }
 
 /// A random accepted pair of at most so many records a file (at least 2).

@@ -3,6 +3,4 @@
 mod back;
 mod read;
 mod samples;
-#[path = "../turns/mod.rs"]
-mod turns;
 mod written;

@@ -1,6 +1,5 @@
 //! Files of rows: accepted or refused, their labels, runs and listings.
 
-use crate::turns::compare;
 use paper::csv::{check, label, labels, list};
 use paper::make::{csv_file, csv_rows, damaged_csv, full_csv_row, CsvRow, Rng};
 use paper::{packed, packed_run, Refusal};
@@ -211,7 +210,7 @@ fn a_listing() {
     assert_eq!(told(4, 0, 0), (0, String::new()));
 }
 
-/// Runs are each row in turn, in what is left.
+/// Runs and listings are each row in turn, in what is left.
 #[test]
 fn runs_are_each_row_in_turn() {
     let mut stops = [0; 16];
@@ -220,14 +219,25 @@ fn runs_are_each_row_in_turn() {
         let count = rng.below(8);
         let csv = csv_file(&csv_rows(rng, count));
         for room in [0, rng.below(400), 520 * 8] {
-            let runs = compare(
-                count as u64,
-                room,
-                |first, count, out| labels(&csv, first, count, out),
-                |row, out| label(&csv, row, out),
-            );
-            for run in runs {
-                stops[run.stop.map_or(0, |why| usize::from(why.number))] += 1;
+            for (first, many) in [(1, 9), (0, 1), (1, 2), (rng.below(9), rng.below(9))] {
+                let (first, many) = (first as u64, many as u64);
+                let (mut ours, mut turned) = (vec![7; room], vec![7; room]);
+                let (mut told, mut bytes) = (0, 0);
+                let answer = packed_run(labels(&csv, first, many, &mut ours), &mut told);
+                let mut expected = many;
+                for written in 0..many {
+                    match label(&csv, first + written, &mut turned[bytes..]) {
+                        Ok(length) => bytes += length,
+                        Err(why) => {
+                            let second = written;
+                            expected = Refusal { second, ..why }.packed();
+                            break;
+                        }
+                    }
+                }
+                assert_eq!((answer, told), (expected, bytes as u64));
+                assert!(ours == turned);
+                stops[(answer >> 56) as usize] += 1;
             }
         }
     }

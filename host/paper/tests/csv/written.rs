@@ -1,13 +1,14 @@
 //! Rows written from a pair of files and from a Mainfile set.
 
-use crate::turns::{compare, BEFORE};
 use paper::csv::{main_row, main_rows, row, rows};
 use paper::make::{
-    longest_view, main_set, padded, pair, set_of_pair, worked_pair, Pair, Rng, TableRow, View,
-    FORBIDDEN, MISSING,
+    main_set, padded, pair, set_of_pair, worked_pair, Pair, Rng, TableRow, View, FORBIDDEN, MISSING,
 };
-use paper::make::{whole_view, with_each_text, MainSet, Organisation};
-use paper::{label, Refusal};
+use paper::make::{whole_view, MainSet, Organisation};
+use paper::{label, packed_run, Refusal};
+
+/// What a buffer holds before a call.
+const BEFORE: u8 = 0xA5;
 
 /// The row of a view in a buffer of so many bytes, and the whole buffer.
 fn in_room(pair: &Pair, view: u64, room: usize) -> (Result<usize, Refusal>, Vec<u8>) {
@@ -100,7 +101,28 @@ fn the_number_has_no_leading_zeros_and_zero_is_empty() {
 /// The longest row has 499 bytes: all fields at their limits, the UDPRN empty.
 #[test]
 fn the_longest_row() {
-    let (rows, view) = longest_view(19, 19);
+    let nines = |length| "9".repeat(length);
+    let rows = vec![
+        TableRow::locality(1, &nines(30), &nines(35), &nines(35)),
+        TableRow::thoroughfare(2, &nines(60)),
+        TableRow::descriptor(3, &nines(19)),
+        TableRow::building(6, &nines(50)),
+        TableRow::sub_building(7, &nines(30)),
+    ];
+    let view = View {
+        outward: "EC1N".to_string(),
+        locality: 1,
+        thoroughfare: 2,
+        descriptor: 3,
+        dependent_thoroughfare: 2,
+        dependent_descriptor: 3,
+        building_number: 9_999,
+        building: 6,
+        sub_building: 7,
+        po_box: nines(6),
+        ..View::default()
+    };
+    let view = view.small_user(1, &nines(60), &nines(60));
     let row = row_of(rows, view).expect("a row");
     assert_eq!(row.len(), 499);
 }
@@ -109,11 +131,28 @@ fn the_longest_row() {
 /// its descriptor.
 #[test]
 fn what_a_row_cannot_carry_is_refused_with_15() {
+    let (rows, view) = everything();
+    let texts = rows.iter().map(|row| row.texts.len());
+    let places: Vec<(usize, usize)> = texts
+        .enumerate()
+        .flat_map(|(row, count)| (0..count).map(move |text| (row, text)))
+        .collect();
+    assert_eq!(places.len(), 9);
     for mark in [",", "\"", "A,B", "A\"", "\"A\""] {
-        let all = with_each_text(mark);
-        assert_eq!(all.len(), 12);
-        for (rows, view) in all {
-            assert_eq!(row_of(rows, view), Err(Refusal::new(15, 0)));
+        for (row, text) in &places {
+            let mut rows = rows.clone();
+            rows[*row].texts[*text] = mark.to_string();
+            assert_eq!(row_of(rows, view.clone()), Err(Refusal::new(15, 0)));
+        }
+        for view in [
+            view.clone().small_user(5, mark, ""),
+            view.clone().large_user("", mark),
+            View {
+                po_box: mark.to_string(),
+                ..view.clone()
+            },
+        ] {
+            assert_eq!(row_of(rows.clone(), view), Err(Refusal::new(15, 0)));
         }
     }
 }
@@ -187,28 +226,66 @@ fn a_run_is_each_row_in_turn() {
     for seed in 0..200 {
         let rng = &mut Rng::new(seed);
         let pair = pair(rng, 16);
-        let made = main_set(rng, 12);
-        let (Pair { table, points, .. }, set) = (&pair, made.set());
+        let set = main_set(rng, 12);
         for room in [0, rng.below(300), 499 * 12] {
-            let of_pair = compare(
-                pair.views.len() as u64,
+            let Pair {
+                table,
+                points,
+                views,
+                ..
+            } = &pair;
+            compare(
+                views.len() as u64,
                 room,
-                |first, count, out| rows(table, points, first, count, out),
+                &mut stops,
+                |first, count, out, bytes| {
+                    packed_run(rows(table, points, first, count, out), bytes)
+                },
                 |view, out| row(table, points, view, out),
             );
-            let of_set = compare(
-                made.addresses.len() as u64,
+            let set = set.set();
+            compare(
+                set[6].len() as u64 / 88 - 2,
                 room,
-                |first, count, out| main_rows(set, first, count, out),
+                &mut stops,
+                |first, count, out, bytes| packed_run(main_rows(set, first, count, out), bytes),
                 |view, out| main_row(set, view, out),
             );
-            for run in of_pair.into_iter().chain(of_set) {
-                stops[run.stop.map_or(0, |why| usize::from(why.number))] += 1;
-            }
         }
     }
     for number in [0, 7, 8, 9, 10, 15] {
         assert!(stops[number] > 20, "{number}: {stops:?}");
+    }
+}
+
+/// Runs from every number around those that there are, beside single rows.
+fn compare(
+    numbers: u64,
+    room: usize,
+    stops: &mut [usize; 16],
+    run: impl Fn(u64, u64, &mut [u8], &mut u64) -> u64,
+    one: impl Fn(u64, &mut [u8]) -> Result<usize, Refusal>,
+) {
+    for first in 0..=numbers + 1 {
+        for count in (0..=numbers + 1).chain([u64::MAX]) {
+            let (mut ours, mut turned) = (vec![BEFORE; room], vec![BEFORE; room]);
+            let (mut told, mut bytes) = (4711, 0);
+            let answer = run(first, count, &mut ours, &mut told);
+            let mut expected = count;
+            for written in 0..count {
+                match one(first + written, &mut turned[bytes..]) {
+                    Ok(length) => bytes += length,
+                    Err(why) => {
+                        let second = written;
+                        expected = Refusal { second, ..why }.packed();
+                        break;
+                    }
+                }
+            }
+            assert_eq!((answer, told), (expected, bytes as u64));
+            assert!(ours == turned, "{count} from {first} in {room} bytes");
+            stops[(answer >> 56) as usize] += 1;
+        }
     }
 }
 

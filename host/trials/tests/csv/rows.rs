@@ -1,10 +1,10 @@
 //! Rows written from a pair of files and from a Mainfile set: answer and buffer.
 
-use paper::make::{self, longest_view, main_set, with_each_text, worked_pair, Pair, Rng};
+use paper::make::{self, main_set, whole_view, worked_pair, Pair, Rng, TableRow, View};
 use trials::around::Around;
 use trials::csv::{main_row, main_rows, row, rows};
 use trials::rooms::{label_rooms, refusal};
-use trials::runs::{all_at_once, Asked};
+use trials::runs::Asked;
 use trials::{agree, main_sets, samples};
 
 /// Room for any row.
@@ -89,29 +89,77 @@ fn buffers_of_every_length() {
 /// Every field at its limit: 499 bytes with joined thoroughfares of 80, refused where one has 81.
 #[test]
 fn the_longest_row_and_one_byte_more() {
-    for (descriptor, dependent, expected) in
-        [(19, 19, ROW as u64), (20, 19, 15 << 56), (19, 20, 15 << 56)]
-    {
-        let (rows, view) = longest_view(descriptor, dependent);
-        let Pair { table, points, .. } = &Pair::new(rows, vec![view]);
-        assert_eq!(label_rooms(|room| row(table, points, 1, room)), expected);
+    let nines = |length| "9".repeat(length);
+    for (descriptor, expected) in [(19, ROW as u64), (20, 15 << 56)] {
+        let rows = vec![
+            TableRow::locality(1, &nines(30), &nines(35), &nines(35)),
+            TableRow::thoroughfare(2, &nines(60)),
+            TableRow::descriptor(3, &nines(descriptor)),
+            TableRow::descriptor(4, &nines(19)),
+            TableRow::building(6, &nines(50)),
+            TableRow::sub_building(7, &nines(30)),
+        ];
+        let view = View {
+            outward: "EC1N".to_string(),
+            locality: 1,
+            thoroughfare: 2,
+            descriptor: 4,
+            dependent_thoroughfare: 2,
+            dependent_descriptor: 3,
+            building_number: 9_999,
+            building: 6,
+            sub_building: 7,
+            po_box: nines(6),
+            ..View::default()
+        };
+        let swapped = View {
+            descriptor: 3,
+            dependent_descriptor: 4,
+            ..view.clone()
+        };
+        for view in [view, swapped] {
+            let view = view.small_user(1, &nines(60), &nines(60));
+            let Pair { table, points, .. } = &Pair::new(rows.clone(), vec![view]);
+            assert_eq!(label_rooms(|room| row(table, points, 1, room)), expected);
+        }
     }
 }
 
 /// Each text byte in each text: a comma and a quote are refused, no other.
 #[test]
 fn every_byte_of_every_text() {
+    let (rows, view) = whole_view();
+    let view = view.small_user(5, "BAY BATTERIES", "STORES");
     let bytes = (33..=126u8).filter(|byte| !byte.is_ascii_lowercase());
     for byte in bytes {
         let text = format!("X{}", char::from(byte));
-        let expected = match byte {
-            b',' | b'"' => 15,
-            _ => 0,
-        };
-        for (rows, view) in with_each_text(&text) {
+        let refused = byte == b',' || byte == b'"';
+        let with_rows = |rows: Vec<TableRow>, view: View| {
             let Pair { table, points, .. } = &Pair::new(rows, vec![view]);
-            assert_eq!(refusal(row(table, points, 1, ROW)), expected, "{text}");
+            let answer = row(table, points, 1, ROW);
+            assert_eq!(refusal(answer), if refused { 15 } else { 0 }, "{text}");
+        };
+        for index in 0..rows.len() {
+            for place in 0..rows[index].texts.len() {
+                let mut rows = rows.clone();
+                rows[index].texts[0] = "HOLT".to_string();
+                if place > 0 {
+                    rows[index].texts[1] = "NORTH END".to_string();
+                }
+                rows[index].texts[place] = text.clone();
+                with_rows(rows, view.clone());
+            }
         }
+        with_rows(rows.clone(), view.clone().small_user(5, &text, "STORES"));
+        with_rows(rows.clone(), view.clone().large_user("", &text));
+        let po_box = text.clone();
+        with_rows(
+            rows.clone(),
+            View {
+                po_box,
+                ..view.clone()
+            },
+        );
     }
 }
 
@@ -120,7 +168,15 @@ fn damaged_files_come_first() {
     let mut rng = Rng::new(807);
     let mut blamed = [0usize; 3];
     for _ in 0..1_000 {
-        let Pair { table, points, .. } = make::scratched_pair(&mut rng, 20);
+        let Pair {
+            mut table,
+            mut points,
+            ..
+        } = make::pair(&mut rng, 20);
+        if rng.one_in(2) {
+            make::scratch(&mut rng, &mut table);
+        }
+        make::scratch(&mut rng, &mut points);
         let answer = row(&table, &points, 1, ROW);
         let file = answer >> 52 & 15;
         blamed[file as usize] += 1;
@@ -150,10 +206,13 @@ fn a_run_over_the_largest_files() {
         views,
         ..
     } = &pair;
-    let csv = all_at_once(
-        views.len(),
-        |out| ttw::ask::csv_rows(table, points, 1, u64::MAX, out),
-        |out| paper::csv::rows(table, points, 1, u64::MAX, out),
-    );
-    assert_eq!(ttw::ask::csv(&csv), Ok(views.len() as u64));
+    let room = ROW * views.len();
+    let (mut ours, mut theirs) = (vec![7; room], vec![7; room]);
+    let run = ttw::ask::csv_rows(table, points, 1, u64::MAX, &mut ours).expect("files");
+    let plain = paper::csv::rows(table, points, 1, u64::MAX, &mut theirs).expect("files");
+    assert_eq!((run.labels, run.bytes), (plain.labels, plain.bytes));
+    assert_eq!(run.labels, views.len() as u64);
+    assert!(ours == theirs, "the buffers differ");
+    let csv = &ours[..run.bytes];
+    assert_eq!(ttw::ask::csv(csv), Ok(run.labels));
 }

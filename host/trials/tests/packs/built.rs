@@ -267,11 +267,15 @@ fn damaged_files_come_first() {
     let mut rng = Rng::new(73);
     let mut blamed = [0usize; 3];
     for _ in 0..1_500 {
-        let pair = make::scratched_pair(&mut rng, 20);
-        let Pair { table, points, .. } = &pair;
+        let pair = make::pair(&mut rng, 20);
+        let (mut table, mut points) = (pair.table.clone(), pair.points.clone());
+        if rng.one_in(2) {
+            make::scratch(&mut rng, &mut table);
+        }
+        make::scratch(&mut rng, &mut points);
         let code = codes(&pair).pop().unwrap_or(b"AB1 ".to_vec());
         for code in [code.as_slice(), b"ab1 "] {
-            let answer = pack_rooms(|room| agree::build(table, points, code, room));
+            let answer = pack_rooms(|room| agree::build(&table, &points, code, room));
             if refusal(answer) != 0 {
                 blamed[(answer >> 52 & 15) as usize] += 1;
             }
