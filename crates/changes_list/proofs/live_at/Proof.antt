@@ -1,20 +1,31 @@
 -- `changes_list::live_at` meets its contract. Assumes nothing.
 use borrow.Author.Rules.{rules}
+use Prim.Native.Nat.{ℕ}
 use mathlib.Core.Path.{◌≡◌, refl, sym, ap, ◌∙◌}
+use mathlib.Core.List.{List}
+use native.Mathlib.Omega.{arith}
 use borrow.Author.Tests.{eq-eqb, ne_eqb}
+use Rattle.field_outward.specs.Outward.{outward_fault}
+use Rattle.refusal.specs.declared.Reason.TheVariants.{BadCode}
+use Rattle.refusal.specs.declared.Answer.TheVariants.{Value, Refused}
+use Rattle.changes_views.specs.Views.{wanted_count}
 use Rattle.changes_list.specs.Listing.{live_at}
 use Rattle.changes_list.proofs.live_at.Statement.{statement}
 use Rattle.changes_list.proofs.live_at.Tie as tie
 
-returns : tie.Need-returns-then-outward_fault-eq0
-unfolding live_at
-returns c =
-    let t = c in
-    rw c.count_wanted.ensures (simp (eq-eqb _ 0 (sym t.outward_fault.ensures ∙ t.if-outward_fault-eq0.true)))
+module _ (points code : List ℕ) where
+  counted : outward_fault code ≡ 0 → Value (wanted_count code points) ≡ live_at points code
+  unfolding live_at
+  counted clean = simp (eq-eqb (outward_fault code) 0 clean)
 
-returns-2 : tie.Need-returns-else-outward_fault-eq0
-unfolding live_at
-returns-2 c = simp (ne_eqb _ 0 (rw c.outward_fault.ensures at c.if-outward_fault-eq0.false))
+  malformed : (outward_fault code ≡ 0 → ⊥) → Refused 0 BadCode ≡ live_at points code
+  unfolding live_at
+  malformed fault = simp (ne_eqb (outward_fault code) 0 fault)
 
+-- a goal is not called by the test that leads to it, so that another test is refused for what it means
 pub live_at_spec : {M : Type 1} → statement M
-live_at_spec = tie.close (tie.spec (search rules) (search rules) returns returns-2)
+live_at_spec =
+    tie.close
+    (tie.spec (search rules) (search rules)
+    (λ c. ap Value c.count_wanted.ensures ∙ counted c.args.points.now c.args.code.now (omega arith))
+    (λ c. malformed c.args.points.now c.args.code.now (λ z. omega arith)))

@@ -1,37 +1,43 @@
 -- `source_keys::refusal_in` meets its contract. Assumes nothing.
 use borrow.Author.Rules.{rules}
+use Prim.Native.Nat.{ℕ}
 use mathlib.Core.Path.{◌≡◌, refl, sym, ap, ◌∙◌}
+use mathlib.Core.List.{List}
+use native.Mathlib.Omega.{arith}
 use borrow.Author.Tests.{eq-eqb, ne_eqb}
-use Rattle.source.specs.Delivery.{refusal_in}
+use Rattle.refusal.specs.declared.Reason.TheVariants.{Combination, MissingKey}
+use Rattle.refusal.specs.declared.Verdict.TheVariants.{Fine, Bad}
+use Rattle.source.specs.declared.DeliveryPoint.{DeliveryPoint}
+use Rattle.source.specs.Delivery.{forbidden_in, missing_in, refusal_in}
 use Rattle.source_keys.proofs.refusal_in.Statement.{statement}
 use Rattle.source_keys.proofs.refusal_in.Tie as tie
 
-returns : tie.Need-returns-then-rule-ne0
-unfolding refusal_in
-returns c =
-    let f = c in
-    rw f.forbidden_in-rule.ensures (simp (ne_eqb _ 0 (rw f.forbidden_in-rule.ensures at c.if-rule-ne0.true)))
+module _ (p : DeliveryPoint) (rows : List ℕ) (rule field : ℕ) (ruled : rule ≡ forbidden_in p) (lacking : field ≡ missing_in p rows)
+  where
+    forbidden-mix : (rule ≡ 0 → ⊥) → Bad (Combination rule 0) ≡ refusal_in p rows
+    unfolding refusal_in
+    forbidden-mix some = rw ruled (simp (ne_eqb _ 0 (rw ruled at some)))
 
-returns-2 : tie.Need-returns-then-field-ne0
-unfolding refusal_in
-returns-2 c =
-    let m = c in
-    let t = m in
-    rw m.missing_in-field.ensures
-    (simp (
-      eq-eqb _ 0 (rw t.forbidden_in-rule.ensures at t.if-rule-ne0.false),
-      ne_eqb _ 0 (rw m.missing_in-field.ensures at c.if-field-ne0.true),
-    ))
+    key-missing : rule ≡ 0 → (field ≡ 0 → ⊥) → Bad (MissingKey field 0) ≡ refusal_in p rows
+    unfolding refusal_in
+    key-missing none some = rw lacking (simp (eq-eqb _ 0 (rw ruled at none), ne_eqb _ 0 (rw lacking at some)))
 
-returns-3 : tie.Need-returns
-unfolding refusal_in
-returns-3 c =
-    let m = c in
-    let t = m in
-    simp (
-      eq-eqb _ 0 (rw t.forbidden_in-rule.ensures at t.if-rule-ne0.false),
-      eq-eqb _ 0 (rw m.missing_in-field.ensures at c.if-field-ne0.false),
-    )
+    none-refused : rule ≡ 0 → field ≡ 0 → Fine ≡ refusal_in p rows
+    unfolding refusal_in
+    none-refused none nothing = simp (eq-eqb _ 0 (rw ruled at none), eq-eqb _ 0 (rw lacking at nothing))
 
+-- no goal is called by its test, so that another test is refused for what it means
 pub refusal_in_spec : {M : Type 1} → statement M
-refusal_in_spec = tie.close (tie.spec (search rules) returns (search rules) returns-2 returns-3)
+refusal_in_spec =
+    tie.close
+    (tie.spec (search rules)
+    (λ c.
+    forbidden-mix c.args.p c.args.found.rows c.forbidden_in-rule.result (missing_in c.args.p c.args.found.rows)
+    c.forbidden_in-rule.ensures refl (λ z. omega arith))
+    (search rules)
+    (λ c.
+    key-missing c.args.p c.args.found.rows c.forbidden_in-rule.result c.missing_in-field.result c.forbidden_in-rule.ensures
+    c.missing_in-field.ensures (omega arith) (λ z. omega arith))
+    (λ c.
+    none-refused c.args.p c.args.found.rows c.forbidden_in-rule.result c.missing_in-field.result
+    c.forbidden_in-rule.ensures c.missing_in-field.ensures (omega arith) (omega arith)))
