@@ -21,14 +21,6 @@ returns c =
     let a = n.args in
     refusal-room a.heading.now a.reason a.out.now (sym n.number_of-number.ensures ∙ ten.if-number-eq10.true) c.detail_of.ensures
 
-returns-2 : tie.Need-returns-then-number-eq7
-returns-2 c =
-    let other = c in
-    let n = other in
-    let a = n.args in
-    refusal-none a.heading.now a.reason a.out.now (rw n.number_of-number.ensures at other.if-number-eq10.false)
-    (sym n.number_of-number.ensures ∙ c.if-number-eq7.true)
-
 slice-aggregate-both-texts : tie.Need-slice_bounds-both_texts-end
 slice-aggregate-both-texts c = sym (length-take-le _ _ c.refused_line-line.ensures.within)
 
@@ -47,10 +39,13 @@ returns-3 c =
     let a = n.args in
     rw line.refused_line-line.ensures.is at written.both_texts.ensures
     ∙ refusal-line a.heading.now a.reason a.out.now (rw n.number_of-number.ensures at other.if-number-eq10.false)
-    (rw n.number_of-number.ensures at there.if-number-eq7.false)
+    (λ z. omega arith)
 
+-- the goal of 7 is not called by its test, so that another test is refused for what it means
 pub over_refusal_spec : {M : Type 1} → statement M
 over_refusal_spec =
     tie.close
-    (tie.spec (search rules) (search rules) add-needed returns returns-2 (search rules) (search rules)
+    (tie.spec (search rules) (search rules) add-needed returns
+    (λ c. refusal-none c.args.heading.now c.args.reason c.args.out.now (λ z. omega arith) (omega arith))
+    (search rules) (search rules)
     slice-aggregate-both-texts both-texts-requires (search rules) returns-3)
