@@ -18,33 +18,20 @@ decreases-loop text at i₀ i = length text - i
 loop-holds : tie.Need-loop-i-init invariant-loop decreases-loop
 loop-holds c = (c.requires, refl)
 
-returns : tie.Need-returns-then-text-i-eq10 invariant-loop decreases-loop
-returns c =
-    let at-loop = c in
-    omega (
-      arith,
-      at-loop.loop-i.invariant.1,
-      end-here at-loop.args.text.now at-loop.loop-i.i c.loop-i-test.true c.if-text-i-eq10.true,
-    )
-
-loop-again : tie.Need-loop-i-preserved invariant-loop decreases-loop
-loop-again c =
-    let at-loop = c in (
-      omega arith,
-      sym
-          (end-behind at-loop.args.text.now at-loop.loop-i.i c.loop-i-test.true
-          c.if-text-i-eq10.false)
-          ∙ at-loop.loop-i.invariant.1,
-    )
-
-returns-2 : tie.Need-returns invariant-loop decreases-loop
-returns-2 c =
-    let at-loop = c in
-    omega (
-      arith,
-      at-loop.loop-i.invariant.1,
-      end_none at-loop.args.text.now at-loop.loop-i.i c.loop-i-test.false,
-    )
-
+-- no goal is called by its test, so that another byte is refused for what it means
 pub line_end_spec : {M : Type 1} → statement M
-line_end_spec = tie.close (tie.spec invariant-loop decreases-loop loop-holds (λ c. omega arith) returns (λ c. omega arith) (λ c. omega arith) loop-again returns-2)
+line_end_spec =
+    tie.close
+    (tie.spec invariant-loop decreases-loop loop-holds (λ c. omega arith)
+    (λ c.
+    omega (
+      arith,
+      c.loop-i.invariant.1,
+      end-here c.args.text.now c.loop-i.i (omega arith) (omega arith),
+    ))
+    (λ c. omega arith) (λ c. omega arith)
+    (λ c. (
+      omega arith,
+      sym (end-behind c.args.text.now c.loop-i.i (omega arith) (λ z. omega arith)) ∙ c.loop-i.invariant.1,
+    ))
+    (λ c. omega (arith, c.loop-i.invariant.1, end_none c.args.text.now c.loop-i.i (omega arith))))
