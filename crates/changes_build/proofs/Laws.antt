@@ -50,10 +50,6 @@ module _ {table points code : List ℕ} where
       → MarksAll table (packed_in points code) marks v marked
   marks-whole m = record { said = m.said; marks_all = m.marks_all }
 
-  pub marks-pair : {marks marked : List ℕ} {v : Verdict} → MarksAll table (packed_in points code) marks v marked
-      → MarksViews table points code marks v marked
-  marks-pair m = record { said = m.said; marks_all = m.marks_all }
-
   pub marked-whole : {marks : List ℕ} → Marked table points code marks → any.Marked table (packed_in points code) marks
   marked-whole m =
       record { none_refused = m.none_refused; fresh = m.fresh; no_marks = m.no_marks; long = m.long; marked = m.marked }

@@ -72,21 +72,20 @@ module _ (points : List ℕ) where
   codes-kept : codes_in new ≡ codes_in points
   codes-kept = ap tally (codes-at-kept (wanted_in [] new) ∙ ap (live_codes points) (wanted-kept points []))
 
-  views_same : views_answer new ≡ after (checked point_format points) (Value (wanted_count [] points))
+  views_same : views_answer new ≡ views_answer points
   unfolding views_answer
   views_same = ap₂ after judged-kept (ap Value (count_kept []))
 
-  letters-same : (view : ℕ) → letter_answer new view ≡ after (checked point_format points) (letter_at points (wanted_at [] points view))
+  letters-same : (view : ℕ) → letter_answer new view ≡ letter_answer points view
   unfolding letter_answer
   letters-same view =
       ap₂ after judged-kept (letter-at-kept (wanted_at [] new view) ∙ ap (letter_at points) (place_kept view))
 
-  live_same : (code : List ℕ) → live_answer new code ≡ after (checked point_format points) (live_at points code)
+  live_same : (code : List ℕ) → live_answer new code ≡ live_answer points code
   unfolding live_answer
   live_same code = ap₂ after judged-kept (live-at-kept code)
 
-  codes_same : (out : List ℕ)
-      → codes_outcome new out ≡ afterwards Refused (checked point_format points) out (entries_outcome (codes_in points) out)
+  codes_same : (out : List ℕ) → codes_outcome new out ≡ codes_outcome points out
   unfolding codes_outcome
   codes_same out =
       ap₂ (λ (a : Answer) (o : Outcome Answer). afterwards Refused a out o) judged-kept

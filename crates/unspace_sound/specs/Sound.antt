@@ -1,11 +1,9 @@
 -- What rewriting keeps: the reader accepts "its output exactly when" it accepts "its input, with the same labels" (document 02,
 -- No. 9), for every byte string.
 -- Assumes nothing.
-use Rattle.std.specs.Prelude.{ℕ, ◌≡◌, List, [], length, get_or}
+use Rattle.std.specs.Prelude.{ℕ, ◌≡◌, List, length, get_or}
 use Rattle.file_record.specs.Names.Table
 use Rattle.file_record.specs.Names.Point
-use Rattle.refusal.specs.declared.Answer.TheVariants.{Value, Refused}
-use Rattle.refusal.specs.Outcome.{after, afterwards}
 use Rattle.file.specs.Check.{checked}
 use Rattle.file.specs.Formats.{table_format, point_format}
 use Rattle.ask.specs.Source.{Source}
@@ -14,11 +12,9 @@ use Rattle.ask.specs.Runs.{views_run, code_run}
 use Rattle.ask.specs.Lists.{views_list, code_list}
 use Rattle.csv_paf.specs.Row.{view_row, view_rows}
 use Rattle.pack.specs.Cutting.{pack_built}
-use Rattle.changes_views.specs.Views.{wanted_count, wanted_at}
-use Rattle.changes_list.specs.Listing.{views_answer, letter_at, letter_answer, live_at, live_answer}
+use Rattle.changes_list.specs.Listing.{views_answer, letter_answer, live_answer}
 use Rattle.changes_pair.specs.Pair.{pair_of}
-use Rattle.tally_bytes.specs.Entries.{entries_outcome}
-use Rattle.changes_codes.specs.Codes.{codes_in, codes_outcome}
+use Rattle.changes_codes.specs.Codes.{codes_outcome}
 use Rattle.unspace_file.specs.Unspaced.{unspaced, unspaced_count, Outside}
 
 -- the rewritten files
@@ -42,15 +38,12 @@ pub record SameAnswers (new old : Source) : Type 0 where
   pub row_runs : (first count : ℕ) (out : List ℕ) → view_rows new first count out ≡ view_rows old first count out
   pub packs : (code out : List ℕ) → pack_built new code out ≡ pack_built old code out
 
--- what is asked of a point file alone: the refusal of the file as it came first, then what was listed
+-- what is asked of a point file alone is the same of the rewritten one: its refusal, or what is listed
 pub record SameLists (points : List ℕ) : Type 0 where
-  pub views : views_answer (new_points points) ≡ after (checked point_format points) (Value (wanted_count [] points))
-  pub letters : (view : ℕ)
-      → letter_answer (new_points points) view ≡ after (checked point_format points) (letter_at points (wanted_at [] points view))
-  pub live : (code : List ℕ) → live_answer (new_points points) code ≡ after (checked point_format points) (live_at points code)
-  pub codes : (out : List ℕ)
-      → codes_outcome (new_points points) out
-      ≡ afterwards Refused (checked point_format points) out (entries_outcome (codes_in points) out)
+  pub views : views_answer (new_points points) ≡ views_answer points
+  pub letters : (view : ℕ) → letter_answer (new_points points) view ≡ letter_answer points view
+  pub live : (code : List ℕ) → live_answer (new_points points) code ≡ live_answer points code
+  pub codes : (out : List ℕ) → codes_outcome (new_points points) out ≡ codes_outcome points out
 
 pub record Sound (table points : List ℕ) : Type 0 where
   -- how many records, or the first refusal with its details
