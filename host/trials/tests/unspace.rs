@@ -147,7 +147,6 @@ fn damaged_files_with_spaces_and_without() {
             }
         }
     }
-    println!("{rewritten:?}");
     assert!(rewritten.iter().all(|times| *times > 100), "{rewritten:?}");
 }
 
