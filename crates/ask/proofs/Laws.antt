@@ -9,8 +9,7 @@ use borrow.Author.Tests.{eq-eqb, ne_eqb}
 use Rattle.field_outward.specs.Outward.{outward_fault}
 use Rattle.refusal.specs.declared.Reason.{Reason}
 use Rattle.refusal.specs.declared.Reason.TheVariants.{BadCode}
-use Rattle.refusal.specs.declared.Answer.TheVariants.{Value, Refused}
-use Rattle.refusal.specs.Outcome.{Outcome, said, afterwards}
+use Rattle.refusal.specs.Outcome.{Outcome, said}
 use Rattle.refusal.proofs.Outcomes.{afterwards-value, afterwards-refused}
 use Rattle.file_compare.specs.Order.{same}
 use Rattle.source.specs.Address.{Lookup, Address}
@@ -22,6 +21,8 @@ use Rattle.item.specs.Item.{Heading, item_outcome}
 use Rattle.ask.specs.Source.{Source, in_code}
 use Rattle.ask.specs.Labels.{kth, kth_label, code_first, by_code}
 use Rattle.ask.specs.Lists.{resolved_of, kth_item}
+use Rattle.std.specs.Prelude.{Ok}
+use Rattle.refusal.specs.Answer.{refusal}
 
 -- what holds of each address holds of those in a code
 pub in-code-all : (P : Address → Type 0) (code : List ℕ) (views : List Address) → AllOf P views
@@ -67,13 +68,13 @@ module _ {A : Type 0} (whole : ℕ → Reason → A) (code out : List ℕ) (next
   code-bad e = rw (ne_eqb (outward_fault code) 0 e)
 
   module _ (s : Source) where
-    module _ {n : ℕ} (taken : s.judged ≡ Value n) where
+    module _ {n : ℕ} (taken : s.judged ≡ Ok n) where
       pub by-good-code : outward_fault code ≡ 0 → by_code whole s code out next ≡ next
       by-good-code e = afterwards-value whole out _ taken ∙ code-good e
 
       pub by-bad-code : (outward_fault code ≡ 0 → ⊥) → by_code whole s code out next ≡ said (whole 0 BadCode) out
       by-bad-code e = afterwards-value whole out _ taken ∙ code-bad e
 
-    pub by-refused : {file : ℕ} {why : Reason} → s.judged ≡ Refused file why
+    pub by-refused : {file : ℕ} {why : Reason} → s.judged ≡ refusal file why
         → by_code whole s code out next ≡ said (whole file why) out
     by-refused e = afterwards-refused whole out _ e

@@ -5,13 +5,12 @@ use Rattle.std.proofs.Math.Option.{Option, none, some}
 use Rattle.field_outward.specs.Outward.{outward_fault}
 use Rattle.refusal.specs.declared.Reason.{Reason}
 use Rattle.refusal.specs.declared.Reason.TheVariants.{NoSuchNumber, BadCode}
-use Rattle.refusal.specs.declared.Answer.{Answer}
-use Rattle.refusal.specs.declared.Answer.TheVariants.{Refused}
 use Rattle.refusal.specs.Outcome.{Outcome, said, afterwards}
 use Rattle.source.specs.Address.{Lookup, Address}
 use Rattle.source.specs.Resolve.{resolve}
 use Rattle.label.specs.Label.{resolved_outcome}
 use Rattle.ask.specs.Source.{Source, in_code}
+use Rattle.refusal.specs.Answer.{Answer, refusal}
 
 -- the k-th of some addresses, counted from 1
 abbrev pub kth : List Address → ℕ → Option Address
@@ -22,7 +21,7 @@ kth (a ∷ more) (suc (suc k)) = kth more (suc k)
 
 -- its label, or its refusal; "7: no view or point of that number"
 abbrev pub label_outcome : Lookup → Option Address → List ℕ → Outcome Answer
-label_outcome look none out = said (Refused 0 NoSuchNumber) out
+label_outcome look none out = said (refusal 0 NoSuchNumber) out
 label_outcome look (some a) out = resolved_outcome (resolve look a) out
 
 unfoldable pub kth_label : Lookup → List Address → ℕ → List ℕ → Outcome Answer
@@ -38,8 +37,8 @@ by_code whole s code out next = afterwards whole s.judged out (code_first whole 
 
 -- the label of a view
 unfoldable pub view_label : Source → (view : ℕ) → List ℕ → Outcome Answer
-view_label s view out = afterwards Refused s.judged out (kth_label s.look s.views view out)
+view_label s view out = afterwards refusal s.judged out (kth_label s.look s.views view out)
 
 -- the label of the k-th live view in a code
 unfoldable pub code_label : Source → List ℕ → (k : ℕ) → List ℕ → Outcome Answer
-code_label s code k out = by_code Refused s code out (kth_label s.look (in_code code s.live) k out)
+code_label s code k out = by_code refusal s code out (kth_label s.look (in_code code s.live) k out)

@@ -2,17 +2,15 @@
 -- Assumes nothing.
 use Rattle.std.specs.Prelude.{ℕ, List, []}
 use Rattle.std.proofs.Math.Option.{Option, none, some}
-use Rattle.refusal.specs.declared.Answer.{Answer}
-use Rattle.refusal.specs.declared.Answer.TheVariants.{Refused}
 use Rattle.refusal.specs.Outcome.{Outcome, afterwards}
 use Rattle.source.specs.Address.{Lookup, Address}
 use Rattle.source.specs.Resolve.{Resolved, resolve}
 use Rattle.item.specs.Item.{Heading, item_outcome}
-use Rattle.run.specs.declared.Series.{Series}
-use Rattle.run.specs.declared.Series.TheVariants.{Unasked}
 use Rattle.run.specs.Series.{run_from}
 use Rattle.ask.specs.Source.{Source, in_code}
 use Rattle.ask.specs.Labels.{kth, by_code}
+use Rattle.refusal.specs.Answer.{Answer, refusal}
+use Rattle.run.specs.Series.{Series}
 
 -- ---- under any heading
 
@@ -25,20 +23,20 @@ kth_item heading look addresses k out = item_outcome (heading k) (resolved_of lo
 
 -- the item of a view
 unfoldable pub view_item : Heading → Source → (view : ℕ) → List ℕ → Outcome Answer
-view_item heading s view out = afterwards Refused s.judged out (kth_item heading s.look s.views view out)
+view_item heading s view out = afterwards refusal s.judged out (kth_item heading s.look s.views view out)
 
 -- the item of the k-th live view in a code
 unfoldable pub code_item : Heading → Source → List ℕ → (k : ℕ) → List ℕ → Outcome Answer
 code_item heading s code k out =
-    by_code Refused s code out (kth_item heading s.look (in_code code s.live) k out)
+    by_code refusal s code out (kth_item heading s.look (in_code code s.live) k out)
 
 -- "answer, `*bytes` and memory as for runs"
 unfoldable pub views_listed : Heading → Source → (first count : ℕ) → List ℕ → Outcome Series
-views_listed heading s first count out = afterwards Unasked s.judged out (run_from (view_item heading s) first count out)
+views_listed heading s first count out = afterwards refusal s.judged out (run_from (view_item heading s) first count out)
 
 unfoldable pub code_listed : Heading → Source → List ℕ → (first count : ℕ) → List ℕ → Outcome Series
 code_listed heading s code first count out =
-    by_code Unasked s code out (run_from (code_item heading s code) first count out)
+    by_code refusal s code out (run_from (code_item heading s code) first count out)
 
 -- ---- under the source's own
 

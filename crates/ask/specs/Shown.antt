@@ -2,10 +2,10 @@
 -- Assumes nothing.
 use Rattle.std.specs.Prelude.{ℕ, Bool, true, false, List}
 use Rattle.refusal.specs.Outcome.{Outcome}
-use Rattle.run.specs.declared.Series.{Series}
 use Rattle.ask.specs.Source.{Source}
 use Rattle.ask.specs.Runs.{views_run, code_run}
 use Rattle.ask.specs.Lists.{views_list, code_list}
+use Rattle.run.specs.Series.{Series}
 
 abbrev pub views_shown : (listed : Bool) → Source → (first count : ℕ) → List ℕ → Outcome Series
 views_shown true s first count out = views_list s first count out

@@ -2,8 +2,8 @@
 -- Assumes nothing.
 use Rattle.std.specs.Prelude.{ℕ, cond, List, [], ◌∷◌}
 use Rattle.file_compare.specs.Order.{same}
-use Rattle.refusal.specs.declared.Answer.{Answer}
 use Rattle.source.specs.Address.{Lookup, Address}
+use Rattle.refusal.specs.Answer.{Answer}
 
 pub record Source : Type 0 where
   -- whether it is accepted at all, or the first refusal of its files

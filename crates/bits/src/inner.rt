@@ -9,7 +9,7 @@ pub fn mark(bits: &mut [u32], at: usize)
 {
     let j = at / 32;
     if j < bits.len() {
-        bits[j] = bits[j] | (1 << (at % 32));
+        bits[j] |= 1 << (at % 32);
     }
 }
 
@@ -18,6 +18,5 @@ pub fn is_marked(bits: &[u32], at: usize) -> bool
     requires { at / 32 < length bits.now }
     ensures { result ≡ marked bits.now at }
 {
-    let j = at / 32;
-    (bits[j] >> (at % 32)) % 2 == 1
+    (bits[at / 32] >> (at % 32)) % 2 == 1
 }

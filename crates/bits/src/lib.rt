@@ -10,12 +10,7 @@ ghost use Rattle.bits.specs.Bits.{bits_from, passed_from, next_marked};
 fn bits_from(bits: &[u32], at: usize) -> u32
     ensures { result ≡ bits_from bits.now at }
 {
-    let j = at / 32;
-    if j < bits.len() {
-        bits[j] >> (at % 32)
-    } else {
-        0
-    }
+    bits.get(at / 32).map_or(0, |word| *word >> (at % 32))
 }
 
 // How many places are passed from one that is not marked: where no bit is left in its number, all to the number's end.

@@ -7,7 +7,6 @@ use mathlib.Core.List.{List, [], ◌∷◌}
 use mathlib.Core.Option.{some}
 use native.Mathlib.Omega.{arith}
 use lib.ListN.{length}
-use Rattle.refusal.specs.declared.Answer.{Answer}
 use Rattle.refusal.specs.Outcome.{Outcome}
 use Rattle.book.specs.Layout.{slots, slot_width, count_at, book_length, slot_at, count_of, zeros}
 use Rattle.book.specs.Book.{is_book}
@@ -17,6 +16,7 @@ use Rattle.book.specs.Agrees.{StepAgrees, empty_book, stepped, answered, EventsF
 use Rattle.book.proofs.Laid.{slot-here, zeros-long, zeros-only, zeros-part, zeros-number, zeros-place}
 use Rattle.book.proofs.Good.{Good, good-same, facts-book}
 use Rattle.book.proofs.Steps.{event-means}
+use Rattle.refusal.specs.Answer.{Answer}
 
 -- slots that are all free
 none-good : Good (λ s. zeros slot_width) 0

@@ -10,7 +10,6 @@ use lib.Dec.{ltb, eqb}
 use lib.ListN.{length}
 use Rattle.refusal.specs.declared.Reason.TheVariants.{Later}
 use Rattle.refusal.specs.declared.LaterReason.TheVariants.{InsertedTwice, NoFreeSlot}
-use Rattle.refusal.specs.declared.Answer.TheVariants.{Value, Refused}
 use Rattle.refusal.specs.Outcome.{said}
 use Rattle.book.specs.Layout.{slots, slot_width, slot_at, count_of, laid}
 use Rattle.book.specs.Book.{identity, keeper}
@@ -44,6 +43,8 @@ use Rattle.book.proofs.Count.{free-test}
 use Rattle.book.proofs.Listed.{present-last}
 use Rattle.book.proofs.OnePut.{PutFine, put-wide, put-good, put-present, put-others}
 use Rattle.book.proofs.Again.{laid-book, laid-means, means-long, means-kept, means-unkept}
+use Rattle.std.specs.Prelude.{Ok}
+use Rattle.refusal.specs.Answer.{refusal}
 
 module _ (book : List ℕ) (facts : BookFacts book) (e : Present) (keep : Keepable e) where
   abbrev slot : ℕ → List ℕ
@@ -95,7 +96,7 @@ module _ (book : List ℕ) (facts : BookFacts book) (e : Present) (keep : Keepab
         (ap (at_place (slot_inserted book e)) last
         ∙ put-present slot n facts.good (free_in slot) new (suc n) e (suc n) fine)
 
-    inserted-agrees : Changed (said (Value (suc n)) (laid (slot_inserted book e) (suc n))) (suc n) (means book ++ (e ∷ []))
+    inserted-agrees : Changed (said (Ok (suc n)) (laid (slot_inserted book e) (suc n))) (suc n) (means book ++ (e ∷ []))
     inserted-agrees =
         record {
           answer = refl;
@@ -106,7 +107,7 @@ module _ (book : List ℕ) (facts : BookFacts book) (e : Present) (keep : Keepab
   -- ---- the three outcomes
 
   module _ (kept : is_kept book id ≡ true) where
-    outcome-twice : insertion book e ≡ said (Refused 0 (Later InsertedTwice)) book
+    outcome-twice : insertion book e ≡ said (refusal 0 (Later InsertedTwice)) book
     unfolding insertion
     outcome-twice = simp kept
 
@@ -130,7 +131,7 @@ module _ (book : List ℕ) (facts : BookFacts book) (e : Present) (keep : Keepab
     room-test = ap (λ k. ltb k slots) (means-long book facts) ∙ sym (free-test slot n facts.good)
 
     module _ (none : ltb (free_in slot) slots ≡ false) where
-      outcome-full : insertion book e ≡ said (Refused 0 (Later NoFreeSlot)) book
+      outcome-full : insertion book e ≡ said (refusal 0 (Later NoFreeSlot)) book
       unfolding insertion
       outcome-full = simp (unkept, none)
 
@@ -141,7 +142,7 @@ module _ (book : List ℕ) (facts : BookFacts book) (e : Present) (keep : Keepab
       full-agrees = subst₂ (StepAgrees book) (sym outcome-full) (sym step-full) refl
 
     module _ (one : ltb (free_in slot) slots ≡ true) where
-      outcome-value : insertion book e ≡ said (Value (suc n)) (laid (slot_inserted book e) (suc n))
+      outcome-value : insertion book e ≡ said (Ok (suc n)) (laid (slot_inserted book e) (suc n))
       unfolding insertion
       outcome-value = simp (unkept, one)
 

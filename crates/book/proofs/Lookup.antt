@@ -9,8 +9,6 @@ use borrow.Author.Tests.{ltb-true, ltb-false, eq-eqb, ne_eqb}
 use lib.Dec.{eqb}
 use Rattle.refusal.specs.declared.Reason.TheVariants.{Later}
 use Rattle.refusal.specs.declared.LaterReason.TheVariants.{NotPresent}
-use Rattle.refusal.specs.declared.Answer.{Answer}
-use Rattle.refusal.specs.declared.Answer.TheVariants.{Value, Refused}
 use Rattle.refusal.specs.Outcome.{Outcome, said}
 use Rattle.book.specs.Layout.{slots, slot_at}
 use Rattle.book.specs.Book.{keeper}
@@ -19,10 +17,12 @@ use Rattle.book.specs.Event.{Step, unchanged, changed, place_from, place_kept, i
 use Rattle.book.specs.Agrees.{Changed, StepAgrees}
 use Rattle.book.proofs.Good.{BookFacts, keeps-used, keeper-of}
 use Rattle.book.proofs.Again.{means-kept, means-unkept}
+use Rattle.std.specs.Prelude.{Ok}
+use Rattle.refusal.specs.Answer.{Answer, refusal}
 
 module _ (book : List ℕ) (facts : BookFacts book) (id : List ℕ) (memory : List ℕ) (next : ℕ → List Present) where
   abbrev outcome : Outcome Answer
-  outcome = cond (is_kept book id) (said (Value (place_kept book id)) memory) (said (Refused 0 (Later NotPresent)) book)
+  outcome = cond (is_kept book id) (said (Ok (place_kept book id)) memory) (said (refusal 0 (Later NotPresent)) book)
 
   abbrev step : Step
   step =
@@ -31,7 +31,7 @@ module _ (book : List ℕ) (facts : BookFacts book) (id : List ℕ) (memory : Li
 
   pub lookup-agrees :
       (keeper (slot_at book) id < slots
-      → Changed (said (Value (place_kept book id)) memory) (place_kept book id) (next (place_kept book id)))
+      → Changed (said (Ok (place_kept book id)) memory) (place_kept book id) (next (place_kept book id)))
       → StepAgrees book outcome step
   lookup-agrees there = by-test (is_kept book id) refl
     where

@@ -30,7 +30,6 @@ use Rattle.changes_views.proofs.Laws.{
   wanted-at-none,
 }
 use Rattle.refusal.specs.declared.Reason.TheVariants.{NoSuchNumber}
-use Rattle.refusal.specs.declared.Answer.TheVariants.{Value, Refused}
 use Rattle.refusal.specs.Outcome.{said}
 use Rattle.book.specs.Layout.{zeros}
 use Rattle.book.specs.Book.{identity, followed, well_kept, is_book, book_judged}
@@ -53,6 +52,8 @@ use Rattle.book.specs.Agrees.{Keepable, EventFine, NamedAgrees}
 use Rattle.book.proofs.Laid.{zeros-long, zeros-only}
 use Rattle.book.proofs.Good.{and_yes}
 use Rattle.book.proofs.Steps.{event-means}
+use Rattle.std.specs.Prelude.{Ok}
+use Rattle.refusal.specs.Answer.{refusal}
 
 -- a view that is wanted is one; the next that is wanted is
 wanted-view : (code rec : List ℕ) → wanted code rec ≡ true → is_view rec ≡ true
@@ -183,7 +184,7 @@ done-agrees : (book : List ℕ) → is_book book ≡ true → (o : Option Event)
 done-agrees book is none fine = refl
 done-agrees book is (some e) fine = event-means book is e fine
 
-module _ (book points : List ℕ) (view n : ℕ) (is : is_book book ≡ true) (accepts : checked point_format points ≡ Value n) where
+module _ (book points : List ℕ) (view n : ℕ) (is : is_book book ≡ true) (accepts : checked point_format points ≡ Ok n) where
   abbrev place : ℕ
   place = wanted_at [] points view
 
@@ -192,7 +193,7 @@ module _ (book points : List ℕ) (view n : ℕ) (is : is_book book ≡ true) (a
   asked = simp (is, accepts)
 
   -- "7: no view or point of that number"
-  pub call_none : place ≡ 0 → event_outcome book points view ≡ said (Refused 0 NoSuchNumber) book
+  pub call_none : place ≡ 0 → event_outcome book points view ≡ said (refusal 0 NoSuchNumber) book
   call_none e = asked ∙ simp (eq-eqb place 0 e)
 
   pub call-means : FollowersFine points → (place ≡ 0 → ⊥)

@@ -10,7 +10,6 @@ use lib.Dec.{ltb, eqb}
 use lib.ListN.{length}
 use Rattle.field.specs.Test.{only}
 use Rattle.file_compare.proofs.Order.{by_bytes}
-use Rattle.refusal.specs.declared.Answer.TheVariants.{Value}
 use Rattle.refusal.specs.Outcome.{said}
 use Rattle.book.specs.Layout.{slots, slot_width, slot_at, count_of, place_of, view_of, zeros, laid}
 use Rattle.book.specs.Book.{identity, well_kept, keeper}
@@ -30,6 +29,7 @@ use Rattle.book.proofs.Good.{Good, BookFacts, keeps-used, keeper-of, at_place, p
 use Rattle.book.proofs.Listed.{present-without}
 use Rattle.book.proofs.Again.{laid-book, laid-means}
 use Rattle.book.proofs.Lookup.{lookup-agrees}
+use Rattle.std.specs.Prelude.{Ok}
 
 -- the place that fell to q where p went
 raised : (p q : ℕ) → ℕ
@@ -200,7 +200,7 @@ module _ (book : List ℕ) (facts : BookFacts book) (id : List ℕ) where
     unfolding means
     listed = fall-listed slot p n (n - 1) facts.good size facts.few used within
 
-    removed-agrees : Changed (said (Value p) (laid after (n - 1))) p (without p (means book))
+    removed-agrees : Changed (said (Ok p) (laid after (n - 1))) p (without p (means book))
     removed-agrees =
         record {
           answer = refl;

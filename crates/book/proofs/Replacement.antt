@@ -8,7 +8,6 @@ use native.Mathlib.Omega.{arith}
 use borrow.Author.Tests.{eq-eqb, ne_eqb}
 use lib.Dec.{eqb}
 use lib.ListN.{length}
-use Rattle.refusal.specs.declared.Answer.TheVariants.{Value}
 use Rattle.refusal.specs.Outcome.{said}
 use Rattle.book.specs.Layout.{slots, slot_width, slot_at, count_of, place_of, view_of, laid}
 use Rattle.book.specs.Book.{identity, keeper}
@@ -22,6 +21,7 @@ use Rattle.book.proofs.Listed.{present-replaced}
 use Rattle.book.proofs.OnePut.{PutFine, put_in, put-wide, put-good, put-present, put-others}
 use Rattle.book.proofs.Again.{laid-book, laid-means}
 use Rattle.book.proofs.Lookup.{lookup-agrees}
+use Rattle.std.specs.Prelude.{Ok}
 
 module _ (book : List ℕ) (facts : BookFacts book) (e : Present) (keep : Keepable e) where
   abbrev slot : ℕ → List ℕ
@@ -105,7 +105,7 @@ module _ (book : List ℕ) (facts : BookFacts book) (e : Present) (keep : Keepab
         put-others slot n facts.good t new p e n fine (1 + i) (omega arith) (omega arith) (λ y. z (omega (arith, again))))
         ∙ ap (λ q. replaced q e (present_from slot n 1)) next)
 
-    replaced-agrees : Changed (said (Value p) (laid after n)) p (replaced p e (means book))
+    replaced-agrees : Changed (said (Ok p) (laid after n)) p (replaced p e (means book))
     replaced-agrees =
         record {
           answer = refl;

@@ -9,7 +9,6 @@ use borrow.Author.Tests.{lt-ltb, ltb-true}
 use lib.Dec.{ltb}
 use lib.ListN.{length}
 use Rattle.field.specs.Test.{only}
-use Rattle.refusal.specs.declared.Answer.TheVariants.{Value}
 use Rattle.refusal.specs.Outcome.{said}
 use Rattle.book.specs.Layout.{slots, slot_width, slot_at, count_of, place_of, view_of, follower_of, zeros, laid}
 use Rattle.book.specs.Book.{identity, well_kept, holder, is_book, book_judged}
@@ -19,6 +18,7 @@ use Rattle.book.specs.Agrees.{Tidied}
 use Rattle.book.proofs.Laid.{slot-long, zeros-long, zeros-only, zeros-place, laid-slot, laid-count}
 use Rattle.book.proofs.Good.{Good, BookFacts, book-facts, holder-of, holder-found, at_place, present-slot, present-each}
 use Rattle.book.proofs.Again.{laid-book, laid-means}
+use Rattle.std.specs.Prelude.{Ok}
 
 module _ (f : ℕ → List ℕ) (n : ℕ) (good : Good f n) (few : n ≤ slots) where
   abbrev tidied : ℕ → List ℕ
@@ -115,7 +115,7 @@ module _ (book : List ℕ) (is : is_book book ≡ true) where
   good : Good (slot_tidied book) n
   good = tidy-good slot n facts.good facts.few
 
-  outcome-is : tidy_outcome book ≡ said (Value n) (laid (slot_tidied book) n)
+  outcome-is : tidy_outcome book ≡ said (Ok n) (laid (slot_tidied book) n)
   unfolding tidy_outcome book_judged
   outcome-is = simp is
 

@@ -5,13 +5,13 @@ use Rattle.std.proofs.Math.Option.{Option, none, some}
 use Rattle.file_record.specs.Names.Point
 use Rattle.refusal.specs.declared.Reason.TheVariants.{Later}
 use Rattle.refusal.specs.declared.LaterReason.TheVariants.{Unpaired}
-use Rattle.refusal.specs.declared.Answer.{Answer}
-use Rattle.refusal.specs.declared.Answer.TheVariants.{Value, Refused}
 use Rattle.refusal.specs.Outcome.{Outcome, said}
 use Rattle.book.specs.Layout.{book_length, slot_at, count_of, place_of, zeros}
 use Rattle.book.specs.Book.{well_kept, is_book}
 use Rattle.book.specs.Meaning.{Present, means}
 use Rattle.book.specs.Event.{Event, insert, remove, replace, Step, unchanged, changed, step_of, event_done}
+use Rattle.std.specs.Prelude.{Ok}
+use Rattle.refusal.specs.Answer.{Answer, refusal}
 
 -- what a book may keep: a live view and what follows it, two records
 pub record Keepable (e : Present) : Type 0 where
@@ -27,23 +27,23 @@ EventFine (replace e) = Keepable e
 
 -- an accepted call: the place concerned, and a book again, which means what is present then
 pub record Changed (outcome : Outcome Answer) (place : ℕ) (present : List Present) : Type 0 where
-  pub answer : outcome.answer ≡ Value place
+  pub answer : outcome.answer ≡ Ok place
   pub book : is_book outcome.memory ≡ true
   pub meaning : means outcome.memory ≡ present
 
 -- what came of a book is what a step says; "a refused call leaves the book as it was"
 abbrev pub StepAgrees : (book : List ℕ) → Outcome Answer → Step → Type 0
-StepAgrees book outcome (unchanged why) = outcome ≡ said (Refused 0 why) book
+StepAgrees book outcome (unchanged why) = outcome ≡ said (refusal 0 why) book
 StepAgrees book outcome (changed place present) = Changed outcome place present
 
 -- what came of a view that is there: 19 where it names no event, else the step of the event that it names
 abbrev pub NamedAgrees : (book : List ℕ) → Outcome Answer → Option Event → Type 0
-NamedAgrees book outcome none = outcome ≡ said (Refused 0 (Later Unpaired)) book
+NamedAgrees book outcome none = outcome ≡ said (refusal 0 (Later Unpaired)) book
 NamedAgrees book outcome (some e) = StepAgrees book outcome (step_of e (means book))
 
 -- a tidied book: "places 1, 2 and so on stand in the first slots, in order; value the count", and it means the same
 pub record Tidied (book : List ℕ) (outcome : Outcome Answer) : Type 0 where
-  pub answer : outcome.answer ≡ Value (count_of book)
+  pub answer : outcome.answer ≡ Ok (count_of book)
   pub book_again : is_book outcome.memory ≡ true
   pub meaning : means outcome.memory ≡ means book
   pub count : count_of outcome.memory ≡ count_of book
@@ -69,8 +69,8 @@ stepped present (unchanged why) = present
 stepped present (changed place next) = next
 
 abbrev pub answered : Step → Answer
-answered (unchanged why) = Refused 0 why
-answered (changed place next) = Value place
+answered (unchanged why) = refusal 0 why
+answered (changed place next) = Ok place
 
 abbrev pub present_after : List Present → List Event → List Present
 present_after present [] = present

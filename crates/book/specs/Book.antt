@@ -11,10 +11,10 @@ use Rattle.file.specs.Formats.{needed, follows}
 use Rattle.changes_views.specs.Views.{is_view, is_live}
 use Rattle.refusal.specs.declared.Reason.TheVariants.{Later}
 use Rattle.refusal.specs.declared.LaterReason.TheVariants.{NotABook}
-use Rattle.refusal.specs.declared.Answer.{Answer}
-use Rattle.refusal.specs.declared.Answer.TheVariants.{Value, Refused}
 use Rattle.book.specs.Layout.{slots, book_length, slot_at, count_of, place_of, view_of, follower_of}
 use Rattle.book.specs.Search.{first_from, all_from}
+use Rattle.std.specs.Prelude.{Ok}
+use Rattle.refusal.specs.Answer.{Answer, refusal}
 
 -- "A delivery point is known by postcode type, address key and organisation key": bytes 24 to 40 of a record
 abbrev pub identity : (rec : List ℕ) → List ℕ
@@ -74,4 +74,4 @@ is_book book =
 
 -- how many delivery points it has; 28
 unfoldable pub book_judged : List ℕ → Answer
-book_judged book = cond (is_book book) (Value (count_of book)) (Refused 0 (Later NotABook))
+book_judged book = cond (is_book book) (Ok (count_of book)) (refusal 0 (Later NotABook))

@@ -13,13 +13,13 @@ use Rattle.pack.specs.Numbers.{bytes_of}
 use Rattle.refusal.specs.declared.Reason.{Reason}
 use Rattle.refusal.specs.declared.Reason.TheVariants.{NoSuchNumber, Later}
 use Rattle.refusal.specs.declared.LaterReason.TheVariants.{InsertedTwice, NotPresent, Unpaired, NoFreeSlot}
-use Rattle.refusal.specs.declared.Answer.{Answer}
-use Rattle.refusal.specs.declared.Answer.TheVariants.{Value, Refused}
 use Rattle.refusal.specs.Outcome.{Outcome, said, afterwards}
 use Rattle.book.specs.Layout.{slots, slot_width, view_at, slot_at, count_of, place_of, zeros, laid}
 use Rattle.book.specs.Search.{first_from}
 use Rattle.book.specs.Book.{identity, used, holder, keeper, book_judged}
 use Rattle.book.specs.Meaning.{Present}
+use Rattle.std.specs.Prelude.{Ok}
+use Rattle.refusal.specs.Answer.{Answer, refusal}
 
 pub data Event : Type 0 where
   insert : Present → Event
@@ -146,24 +146,24 @@ module _ (book : List ℕ) where
 
   unfoldable pub insertion : Present → Outcome Answer
   insertion e =
-      cond (is_kept (identity e.view)) (said (Refused 0 (Later InsertedTwice)) book)
+      cond (is_kept (identity e.view)) (said (refusal 0 (Later InsertedTwice)) book)
       (cond (ltb (free_in (slot_at book)) slots)
-      (said (Value (suc (count_of book))) (laid (slot_inserted e) (suc (count_of book))))
-      (said (Refused 0 (Later NoFreeSlot)) book))
+      (said (Ok (suc (count_of book))) (laid (slot_inserted e) (suc (count_of book))))
+      (said (refusal 0 (Later NoFreeSlot)) book))
 
   unfoldable pub removal : (id : List ℕ) → Outcome Answer
   removal id =
-      cond (is_kept id) (said (Value (place_kept id)) (laid (slot_removed (place_kept id)) (count_of book - 1)))
-      (said (Refused 0 (Later NotPresent)) book)
+      cond (is_kept id) (said (Ok (place_kept id)) (laid (slot_removed (place_kept id)) (count_of book - 1)))
+      (said (refusal 0 (Later NotPresent)) book)
 
   unfoldable pub replacement : Present → Outcome Answer
   replacement e =
       cond (is_kept (identity e.view))
-      (said (Value (place_kept (identity e.view))) (laid (slot_replaced (place_kept (identity e.view)) e) (count_of book)))
-      (said (Refused 0 (Later NotPresent)) book)
+      (said (Ok (place_kept (identity e.view))) (laid (slot_replaced (place_kept (identity e.view)) e) (count_of book)))
+      (said (refusal 0 (Later NotPresent)) book)
 
   abbrev pub event_done : Option Event → Outcome Answer
-  event_done none = said (Refused 0 (Later Unpaired)) book
+  event_done none = said (refusal 0 (Later Unpaired)) book
   event_done (some (insert e)) = insertion e
   event_done (some (remove id)) = removal id
   event_done (some (replace e)) = replacement e
@@ -171,15 +171,15 @@ module _ (book : List ℕ) where
   -- "7: no view or point of that number"
   abbrev pub event_from : (points : List ℕ) → (place : ℕ) → Outcome Answer
   event_from points place =
-      cond (eqb place 0) (said (Refused 0 NoSuchNumber) book) (event_done (event_at points place))
+      cond (eqb place 0) (said (refusal 0 NoSuchNumber) book) (event_done (event_at points place))
 
   -- "28; the point file's own refusals; 7; 19; 17, 18, 20"
   unfoldable pub event_outcome : (points : List ℕ) → (view : ℕ) → Outcome Answer
   event_outcome points view =
-      afterwards Refused (book_judged book) book
-      (afterwards Refused (checked point_format points) book (event_from points (wanted_at [] points view)))
+      afterwards refusal (book_judged book) book
+      (afterwards refusal (checked point_format points) book (event_from points (wanted_at [] points view)))
 
   -- "places 1, 2 and so on stand in the first slots, in order; value the count. 28."
   unfoldable pub tidy_outcome : Outcome Answer
   tidy_outcome =
-      afterwards Refused (book_judged book) book (said (Value (count_of book)) (laid slot_tidied (count_of book)))
+      afterwards refusal (book_judged book) book (said (Ok (count_of book)) (laid slot_tidied (count_of book)))

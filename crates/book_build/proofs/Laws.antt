@@ -9,7 +9,6 @@ use lib.ListN.{length}
 use Rattle.field_outward.specs.Outward.{outward_fault}
 use Rattle.refusal.specs.declared.Reason.TheVariants.{Later}
 use Rattle.refusal.specs.declared.LaterReason.TheVariants.{NotABook}
-use Rattle.refusal.specs.declared.Answer.TheVariants.{Value, Refused}
 use Rattle.refusal.proofs.Answers.{refused-value}
 use Rattle.refusal.proofs.Outcomes.{Both, both_values}
 use Rattle.file.specs.Check.{checked}
@@ -33,6 +32,8 @@ use Rattle.book_sound.proofs.Size.{pack-small}
 use Rattle.book_build.specs.Chosen.{packed_all}
 use Rattle.book_build.specs.Ready.{Judged, MayPack}
 use Rattle.book_build.proofs.Packed.{all_say, all-within}
+use Rattle.std.specs.Prelude.{Ok}
+use Rattle.refusal.specs.Answer.{refusal}
 
 -- ---- the delivery points of a code, in order of place
 
@@ -122,15 +123,15 @@ module _ (book table code : List ℕ) (j : Judged book table code) where
 
 -- ---- book and table file together
 
-is-book : (book : List ℕ) (n : ℕ) → book_judged book ≡ Value n → is_book book ≡ true
+is-book : (book : List ℕ) (n : ℕ) → book_judged book ≡ Ok n → is_book book ≡ true
 unfolding book_judged
 is-book book n e = by-test (is_book book) e
   where
-    by-test : (t : Bool) → cond t (Value (count_of book)) (Refused 0 (Later NotABook)) ≡ Value n → t ≡ true
+    by-test : (t : Bool) → cond t (Ok (count_of book)) (refusal 0 (Later NotABook)) ≡ Ok n → t ≡ true
     by-test true q = refl
     by-test false q = absurd (refused-value 0 n (Later NotABook) q)
 
-pub judged : (book table code : List ℕ) {n : ℕ} → (book_of book table).judged ≡ Value n → outward_fault code ≡ 0
+pub judged : (book table code : List ℕ) {n : ℕ} → (book_of book table).judged ≡ Ok n → outward_fault code ≡ 0
     → Judged book table code
 judged book table code taken clean =
     let both : Both (book_judged book) (checked table_format table) =

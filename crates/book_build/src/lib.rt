@@ -20,7 +20,7 @@ ghost use Rattle.book_build.specs.Ready.{chosen_pack, Judged, MayPack};
 
 use book_source::check_source;
 use pack_read::NewestPack;
-use refusal::{Answer, Reason, Verdict};
+use refusal::{Answer, Reason};
 
 // The most records of a table file.
 const RECORDS: usize = 20000;
@@ -46,13 +46,10 @@ fn write_if_room(
     let points = NewestPack::POINT * chosen.len();
     let needed = of_table.bytes + of_book.bytes + points + NewestPack::TRAILER;
     if out.len() < needed {
-        return Answer::Refused {
-            file: 0,
-            reason: Reason::Room { needed },
-        };
+        return Err(Reason::Room { needed }.into());
     }
     let rows = of_table.rows + of_book.rows;
-    Answer::Value(whole::write_pack(table, refs, book, chosen, starts, code, rows, out))
+    Ok(whole::write_pack(table, refs, book, chosen, starts, code, rows, out))
 }
 
 // The pack of chosen delivery points.
@@ -64,10 +61,8 @@ fn cut_chosen(table: &[u8], book: &[u8], chosen: &[u32], code: &[u8], out: &mut 
     let mut refs = [0u32; RECORDS];
     shelf_find::inner::fill_refs(table, changes_source::table_shelf(), &mut refs);
     let mut starts = [0u32; RECORDS];
-    match walks::mark_chosen(table, &refs, book, chosen, &mut starts) {
-        Verdict::Fine => write_if_room(table, &refs, book, chosen, code, &mut starts, out),
-        Verdict::Bad(reason) => Answer::Refused { file: 0, reason },
-    }
+    walks::mark_chosen(table, &refs, book, chosen, &mut starts)?;
+    write_if_room(table, &refs, book, chosen, code, &mut starts, out)
 }
 
 // The pack of a code from a book and a table file that are accepted.
@@ -87,16 +82,9 @@ pub fn build_pack(book: &[u8], table: &[u8], code: &[u8], out: &mut [u8]) -> Ans
     ensures { said result out.new
         ≡ pack_built (book_of book.now table.now) code.now out.old }
 {
-    match check_source(book, table) {
-        Answer::Value(_) => {
-            if field_outward::outward_fault(code) != 0 {
-                return Answer::Refused {
-                    file: 0,
-                    reason: Reason::BadCode,
-                };
-            }
-            cut(book, table, code, out)
-        }
-        Answer::Refused { file, reason } => Answer::Refused { file, reason },
+    check_source(book, table)?;
+    if field_outward::outward_fault(code) != 0 {
+        return Err(Reason::BadCode.into());
     }
+    cut(book, table, code, out)
 }

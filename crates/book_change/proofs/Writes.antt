@@ -1,20 +1,17 @@
--- Laws of slots written: one, then another behind it, then the count.
+-- Laws of slots written, and of the count behind them.
 -- Assumes nothing.
 use Prim.Native.Nat.{ℕ, suc, ◌+◌, ◌-◌, ◌*◌, ◌≤◌, ◌<◌}
-use mathlib.Core.Path.{◌≡◌, refl, sym, ap, ap₂, subst, ◌∙◌}
-use mathlib.Core.Bool.{Bool, true, false, cond}
+use mathlib.Core.Path.{◌≡◌, refl, sym, ap, ap₂, ◌∙◌}
+use mathlib.Core.Bool.{true, cond}
 use mathlib.Core.List.{List, [], ◌++◌, append_assoc, append-nil}
-use mathlib.Core.Logic.{⊎_elim}
 use native.Mathlib.Omega.{arith}
-use native.Mathlib.Nat.{eq-or-lt_of_le}
-use borrow.Author.Tests.{eq-eqb, ne_eqb, eqb-true, lt-ltb, le-ltb}
-use lib.Dec.{eqb, ltb}
+use lib.Dec.{eqb}
 use lib.ListN.{length, take, drop, replicate, take-append-drop, length-append, length-drop, length-replicate, drop_of_length-le}
 use lib.Seq.{drop-drop, drop-append-le}
 use Rattle.label.specs.Put.{Put}
 use Rattle.pack.specs.Numbers.{bytes_of}
-use Rattle.book.specs.Layout.{slots, slot_width, count_at, book_length, slot_at, count_of, place_of, zeros, laid}
-use Rattle.book.specs.Event.{free_in, lowered, slot_bytes, slot_inserted, slot_removed, slot_replaced, slot_tidied}
+use Rattle.book.specs.Layout.{slots, slot_width, count_at, slot_at, count_of, place_of, laid}
+use Rattle.book.specs.Event.{free_in, slot_bytes, slot_inserted}
 use Rattle.book.specs.Book.{holder, is_book}
 use Rattle.book.specs.Meaning.{Present}
 use Rattle.book.proofs.Laid.{slot-here, slot-long, laid-is, put-slot-long, put-slot, put-count-long, put_count, put-count-slot}
@@ -73,38 +70,7 @@ module _ (book exit : List ℕ) (s : ℕ) (at : SlotIn book s) where
         (ap (λ (l : List ℕ). text ++ l) split
         ∙ sym (append_assoc text back (drop (start + length (text ++ back)) book))))
 
--- a slot that stays
-pub set_same : {book : List ℕ} {s : ℕ} → SlotIn book s → SlotSet (slot_at book s) s book book
-set_same {book} {s} at = record { long = at.long; slot = λ t h. by-test t (eqb t s) refl }
-  where
-    by-test : (t : ℕ) (e : Bool) → eqb t s ≡ e → slot_at book t ≡ cond (eqb t s) (slot_at book s) (slot_at book t)
-    by-test t true e = rw e (ap (slot_at book) (eqb-true t s e))
-    by-test t false e = rw e refl
-
--- the same bytes, said otherwise
-pub set-as : {l m entry exit : List ℕ} {s : ℕ} → l ≡ m → SlotSet l s entry exit → SlotSet m s entry exit
-set-as {entry = entry} {exit = exit} {s = s} e v = subst (λ (z : List ℕ). SlotSet z s entry exit) e v
-
 module _ {f : ℕ → List ℕ} {entry : List ℕ} where
-  pub upto-none : length entry ≡ book_length → Upto f 0 entry entry
-  upto-none long = record { long = long; done = λ s h. absurd (omega arith); rest = λ s h k. refl }
-
-  -- a slot more
-  pub upto-more : {n : ℕ} {mid exit : List ℕ} → Upto f n entry mid → SlotSet (f n) n mid exit → n < slots → Upto f (n + 1) entry exit
-  upto-more {n} {mid} {exit} u v low =
-      record {
-        long = v.long;
-        done =
-            λ s h.
-            ⊎_elim (λ (e : s ≡ n). v.slot s (omega arith) ∙ rw (eq-eqb s n e) (ap f (sym e)))
-            (λ (l : s < n). v.slot s (omega arith) ∙ rw (ne_eqb s n (λ e. omega arith)) (u.done s l))
-            (eq-or-lt_of_le (let k : s ≤ n = omega arith in k));
-        rest = λ s h k. v.slot s k ∙ rw (ne_eqb s n (λ e. omega arith)) (u.rest s (omega arith) k);
-      }
-
-  pub upto_all : {n : ℕ} {mid : List ℕ} → slots ≤ n → n ≤ slots → Upto f n entry mid → Upto f slots entry mid
-  upto_all {n} {mid} h k u = subst (λ (m : ℕ). Upto f m entry mid) (let z : n ≡ slots = omega arith in z) u
-
   -- all slots and the count
   pub upto-laid : (c : ℕ) {r : ℕ} {mid exit : List ℕ} → Upto f slots entry mid → Put (bytes_of 2 c) mid count_at r exit
       → exit ≡ laid f c
@@ -125,42 +91,6 @@ module _ (book mid : List ℕ) (e : Present) {count free : ℕ} where
             v.slot s h ∙ ap₂ (λ (n k : ℕ). cond (eqb s k) (slot_bytes n e) (slot_at book s)) p q;
         rest = λ s h k. absurd (omega arith);
       }
-
--- what becomes of a slot, by its place
-module _ (book : List ℕ) (p s : ℕ) where
-  pub removed-own : place_of (slot_at book s) ≡ p → slot_removed book p s ≡ zeros slot_width
-  removed-own e = rw (eq-eqb (place_of (slot_at book s)) p e)
-
-  module _ (other : place_of (slot_at book s) ≡ p → ⊥) where
-    pub removed-later : p < place_of (slot_at book s) → slot_removed book p s ≡ lowered (slot_at book s)
-    removed-later h = rw (ne_eqb (place_of (slot_at book s)) p other, lt-ltb p (place_of (slot_at book s)) h)
-
-    pub removed-earlier : place_of (slot_at book s) ≤ p → slot_removed book p s ≡ slot_at book s
-    removed-earlier h = rw (ne_eqb (place_of (slot_at book s)) p other, le-ltb p (place_of (slot_at book s)) h)
-
-  pub replaced-own : (e : Present) → place_of (slot_at book s) ≡ p → slot_replaced book p e s ≡ slot_bytes p e
-  replaced-own e h = rw (eq-eqb (place_of (slot_at book s)) p h)
-
-  pub replaced-other : (e : Present) → (place_of (slot_at book s) ≡ p → ⊥) → slot_replaced book p e s ≡ slot_at book s
-  replaced-other e n = rw (ne_eqb (place_of (slot_at book s)) p n)
-
--- a slot that is as it was becomes the same
-module _ (book mid : List ℕ) (s : ℕ) (as-was : slot_at mid s ≡ slot_at book s) (p : ℕ) where
-  pub removed-like : slot_removed mid p s ≡ slot_removed book p s
-  removed-like =
-      ap
-      (λ (slot : List ℕ). cond (eqb (place_of slot) p) (zeros slot_width) (cond (ltb p (place_of slot)) (lowered slot) slot))
-      as-was
-
-  pub replaced-like : (e : Present) → slot_replaced mid p e s ≡ slot_replaced book p e s
-  replaced-like e = ap (λ (slot : List ℕ). cond (eqb (place_of slot) p) (slot_bytes p e) slot) as-was
-
-module _ (book : List ℕ) (s : ℕ) where
-  pub tidied-some : s < count_of book → slot_tidied book s ≡ slot_at book (holder (slot_at book) (suc s))
-  tidied-some h = rw (lt-ltb s (count_of book) h)
-
-  pub tidied-none : count_of book ≤ s → slot_tidied book s ≡ zeros slot_width
-  tidied-none h = rw (le-ltb s (count_of book) h)
 
 -- of a book each place up to its count is held
 pub held_below : (book : List ℕ) → is_book book ≡ true → (p : ℕ) → 1 ≤ p → p ≤ count_of book → holder (slot_at book) p < slots

@@ -1,6 +1,7 @@
 -- What the writers do to the bytes of a book.
 -- Assumes nothing.
 use Rattle.std.specs.Prelude.{ℕ, ◌≤◌, ◌<◌, ◌≡◌, cond, List, eqb, length}
+use denote.MutBor.{MutBor}
 use Rattle.file_record.specs.Names.Point
 use Rattle.book.specs.Layout.{slots, book_length, slot_at}
 use Rattle.book.specs.Meaning.{Present}
@@ -28,3 +29,8 @@ pub record Upto (f : ℕ → List ℕ) (n : ℕ) (entry exit : List ℕ) : Type 
   pub long : length exit ≡ book_length
   pub done : (s : ℕ) → s < n → slot_at exit s ≡ f s
   pub rest : (s : ℕ) → n ≤ s → s < slots → slot_at exit s ≡ slot_at entry s
+
+-- a step gives a slot that is as it was the bytes that f says
+abbrev pub Gives : (step : MutBor (List ℕ) → ℕ → MutBor (List ℕ) → Type 0) → (f : ℕ → List ℕ) → (entry : List ℕ) → Type 0
+Gives step f entry =
+    (b b' : MutBor (List ℕ)) (s : ℕ) → SlotIn b.now s → slot_at b.now s ≡ slot_at entry s → step b s b' → SlotSet (f s) s b.now b'.now

@@ -3,12 +3,12 @@
 ghost use Rattle.std.specs.Prelude.{◌≡◌, true, length};
 ghost use Rattle.refusal.specs.Outcome.{said};
 ghost use Rattle.refusal.specs.declared.Reason.TheVariants.{Later};
-ghost use Rattle.refusal.specs.declared.Answer.TheVariants.{Refused};
 ghost use Rattle.book.specs.Layout.{book_length, count_of, laid};
 ghost use Rattle.book.specs.Book.{is_book};
 ghost use Rattle.book.specs.Event.{slot_tidied, insertion, removal, replacement};
 ghost use Rattle.book_check.specs.Identity.{identity_length};
 ghost use Rattle.book_change.specs.Slotted.{Records, present};
+ghost use Rattle.refusal.specs.Answer.{refusal};
 
 use crate::all::{remove_all, replace_all, tidy_all};
 use crate::slot::keep_in;
@@ -20,12 +20,9 @@ use label_pieces::inner::bytes_at;
 use refusal::{Answer, LaterReason, Reason};
 
 fn refused(why: LaterReason) -> Answer
-    ensures { result ≡ Refused 0 (Later why) }
+    ensures { result ≡ refusal 0 (Later why) }
 {
-    Answer::Refused {
-        file: 0,
-        reason: Reason::Later(why),
-    }
+    Err(Reason::Later(why).into())
 }
 
 // The lowest free slot gets the records and the place behind all others.
@@ -45,7 +42,7 @@ pub fn insert(book: &mut [u8], view: &[u8], follower: &[u8]) -> Answer
     let count = count_of(book) + 1;
     keep_in(book, free, count, view, follower);
     short_at(count, Book::COUNT, book);
-    Answer::Value(count)
+    Ok(count)
 }
 
 // The slot of a delivery point is zeroed, and later places fall by one.
@@ -61,7 +58,7 @@ pub fn remove(book: &mut [u8], id: &[u8]) -> Answer
     let place = place_in(book, s);
     remove_all(book, place);
     short_at(above(count, 1), Book::COUNT, book);
-    Answer::Value(place)
+    Ok(place)
 }
 
 // The slot of a delivery point gets other records, and keeps its place.
@@ -78,7 +75,7 @@ pub fn replace(book: &mut [u8], view: &[u8], follower: &[u8]) -> Answer
     let place = place_in(book, s);
     replace_all(book, place, view, follower);
     short_at(count, Book::COUNT, book);
-    Answer::Value(place)
+    Ok(place)
 }
 
 // Places 1, 2 and so on stand in the first slots: the value is the count.

@@ -14,7 +14,6 @@ use Rattle.file.specs.Formats.{needed, follows}
 use Rattle.changes_views.specs.Views.{is_view, is_live}
 use Rattle.refusal.specs.declared.Reason.TheVariants.{Later}
 use Rattle.refusal.specs.declared.LaterReason.TheVariants.{NotABook}
-use Rattle.refusal.specs.declared.Answer.TheVariants.{Value, Refused}
 use Rattle.book.specs.Layout.{slots, book_length, slot_at, count_of, place_of, view_of, follower_of}
 use Rattle.book.specs.Search.{all_from}
 use Rattle.book.specs.Book.{
@@ -30,6 +29,8 @@ use Rattle.book.specs.Book.{
   is_book,
   book_judged,
 }
+use Rattle.std.specs.Prelude.{Ok}
+use Rattle.refusal.specs.Answer.{refusal}
 
 module _ (rec next : List ℕ) where
   pub followed-none : needed rec ≡ 0 → followed rec next ≡ only 0 next
@@ -114,10 +115,10 @@ module _ (book : List ℕ) where
   unfolding is_book
   book-long e = eqb-true (length book) book_length (and_left (eqb (length book) book_length) _ e)
 
-  pub judged-book : is_book book ≡ true → book_judged book ≡ Value (count_of book)
+  pub judged-book : is_book book ≡ true → book_judged book ≡ Ok (count_of book)
   unfolding book_judged
   judged-book e = simp e
 
-  pub judged-other : is_book book ≡ false → book_judged book ≡ Refused 0 (Later NotABook)
+  pub judged-other : is_book book ≡ false → book_judged book ≡ refusal 0 (Later NotABook)
   unfolding book_judged
   judged-other e = simp e

@@ -1,6 +1,6 @@
 -- Slots as parts of a book.
 -- Assumes nothing.
-use Prim.Native.Nat.{ℕ, ◌+◌, ◌-◌, ◌*◌, ◌/◌, ◌≤◌, ◌<◌}
+use Prim.Native.Nat.{ℕ, ◌+◌, ◌*◌, ◌/◌, ◌≤◌, ◌<◌}
 use mathlib.Core.Path.{◌≡◌, refl, sym, ap, ◌∙◌}
 use mathlib.Core.Bool.{Bool, true, false}
 use mathlib.Core.List.{List}
@@ -33,8 +33,13 @@ module _ (book : List ℕ) (s : ℕ) (long : length book ≡ book_length) (h : s
       rw front at (slot-part 0 2 (omega arith)) in
       ap (number_from 0) (sym parts)
 
-  pub slot-identity : part book (s * slot_width + 25) (s * slot_width + 42) ≡ identity (view_of (slot_at book s))
+  slot-identity : part book (s * slot_width + 25) (s * slot_width + 42) ≡ identity (view_of (slot_at book s))
   slot-identity = sym (part-part (slot_at book s) 2 168 23 40 (omega arith) ∙ slot-part 25 42 (omega arith))
+
+  -- the same by where it starts and ends
+  pub identity-part : (from to : ℕ) → from ≡ s * slot_width + 25 → to ≡ s * slot_width + 42
+      → part book from to ≡ identity (view_of (slot_at book s))
+  identity-part from to e f = rw (e, f) slot-identity
 
   pub identity-long : length (identity (view_of (slot_at book s))) ≡ identity_length
   identity-long =

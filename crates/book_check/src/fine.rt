@@ -83,12 +83,5 @@ pub fn all_fine(book: &[u8]) -> bool
     requires { length book.now ≡ book_length }
     ensures { result ≡ all_from (slot_fine (slot_at book.now)) slots 0 }
 {
-    let mut s = 0;
-    while s < Book::SLOTS {
-        if !is_fine(book, s) {
-            return false;
-        }
-        s += 1;
-    }
-    true
+    (0..Book::SLOTS).all(|s| is_fine(book, s))
 }

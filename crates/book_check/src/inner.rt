@@ -1,5 +1,5 @@
 // Slots of bytes that are as long as a book, read and searched.
-ghost use Rattle.std.specs.Prelude.{◌≡◌, ◌<◌, length};
+ghost use Rattle.std.specs.Prelude.{◌≡◌, ℕ, true, false, ◌≤◌, ◌<◌, length};
 ghost use Rattle.book.specs.Layout.{slots, book_length, slot_at, count_of, place_of, view_of, follower_of};
 ghost use Rattle.book.specs.Book.{identity, keeps, holder, keeper};
 ghost use Rattle.book.specs.Event.{free_in};
@@ -77,19 +77,27 @@ fn is_keeper(book: &[u8], s: usize, id: &[u8]) -> bool
     used & file_compare::same_bytes(kept, id)
 }
 
+// The first slot that passes a test, behind the last where none does.
+fn first_slot<F: Fn(usize) -> bool>(test: F) -> usize
+    requires { (s : ℕ) → s < slots → F.pre test s }
+    ensures within { result ≤ slots }
+    ensures before { (s : ℕ) → s < result → F.post test s false }
+    ensures found { result < slots → F.post test result true }
+{
+    for s in 0..Book::SLOTS {
+        if test(s) {
+            return s;
+        }
+    }
+    Book::SLOTS
+}
+
 // The slot that keeps a delivery point, the first if there are more; behind the last where there is none.
 pub fn keeper_of(book: &[u8], id: &[u8]) -> usize
     requires { (length book.now ≡ book_length) × (length id.now ≡ identity_length) }
     ensures { result ≡ keeper (slot_at book.now) id.now }
 {
-    let mut s = 0;
-    while s < Book::SLOTS {
-        if is_keeper(book, s, id) {
-            return s;
-        }
-        s += 1;
-    }
-    s
+    first_slot(|s| is_keeper(book, s, id))
 }
 
 // The slot that has a place, likewise.
@@ -97,14 +105,7 @@ pub fn holder_of(book: &[u8], place: usize) -> usize
     requires { length book.now ≡ book_length }
     ensures { result ≡ holder (slot_at book.now) place }
 {
-    let mut s = 0;
-    while s < Book::SLOTS {
-        if place_in(book, s) == place {
-            return s;
-        }
-        s += 1;
-    }
-    s
+    first_slot(|s| place_in(book, s) == place)
 }
 
 // The lowest free slot, likewise.
@@ -112,12 +113,5 @@ pub fn free_slot(book: &[u8]) -> usize
     requires { length book.now ≡ book_length }
     ensures { result ≡ free_in (slot_at book.now) }
 {
-    let mut s = 0;
-    while s < Book::SLOTS {
-        if place_in(book, s) == 0 {
-            return s;
-        }
-        s += 1;
-    }
-    s
+    first_slot(|s| place_in(book, s) == 0)
 }

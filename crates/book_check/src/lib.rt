@@ -36,10 +36,7 @@ pub fn check_book(book: &[u8]) -> Answer
     ensures { result ≡ book_judged book.now }
 {
     if is_book(book) {
-        return Answer::Value(count_of(book));
+        return Ok(count_of(book));
     }
-    Answer::Refused {
-        file: 0,
-        reason: Reason::Later(LaterReason::NotABook),
-    }
+    Err(Reason::Later(LaterReason::NotABook).into())
 }

@@ -39,12 +39,10 @@ fn mark_all(book: &[u8], count: usize, marks: &mut [u8]) -> bool
     ensures answer { result ≡ all_from (well_placed (slot_at book.now) count) slots 0 }
     ensures marked { result ≡ true → Marked (slot_at book.now) slots marks.new }
 {
-    let mut s = 0;
-    while s < Book::SLOTS {
+    for s in 0..Book::SLOTS {
         if !mark_place(book, count, s, marks) {
             return false;
         }
-        s += 1;
     }
     true
 }
@@ -54,14 +52,7 @@ fn all_marked(marks: &[u8], count: usize) -> bool
     requires { count < length marks.now }
     ensures { result ≡ all_from (is_marked marks.now) count 1 }
 {
-    let mut n = 0;
-    while n < count {
-        n += 1;
-        if marks[n] == 0 {
-            return false;
-        }
-    }
-    true
+    marks[1..=count].iter().all(|mark| *mark != 0)
 }
 
 // Whether each slot is placed well, and each place up to the count is there.

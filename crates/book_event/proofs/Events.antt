@@ -17,7 +17,6 @@ use Rattle.file_compare.specs.Order.{same}
 use Rattle.file.specs.Formats.{needed}
 use Rattle.refusal.specs.declared.Reason.TheVariants.{NoSuchNumber, Later}
 use Rattle.refusal.specs.declared.LaterReason.TheVariants.{NotABook}
-use Rattle.refusal.specs.declared.Answer.TheVariants.{Value, Refused}
 use Rattle.refusal.specs.Outcome.{said}
 use Rattle.refusal.proofs.Answers.{refused-value}
 use Rattle.changes_views.specs.Views.{last_of, wanted_at, wanted_count}
@@ -28,6 +27,8 @@ use Rattle.book.specs.Event.{Event, insert, remove, replace, present_at, record_
 use Rattle.book_check.specs.Identity.{identity_length}
 use Rattle.book_check.proofs.Kept.{judged-other}
 use Rattle.book_change.specs.Slotted.{present}
+use Rattle.std.specs.Prelude.{Ok}
+use Rattle.refusal.specs.Answer.{refusal}
 
 -- the place of a view is one of those between header and trailer
 pub wanted-place : (points : List ℕ) (view : ℕ) → 1 ≤ wanted_at [] points view → wanted_at [] points view < last_of points
@@ -111,14 +112,14 @@ module _ (points : List ℕ) (place : ℕ) where
       event-none n = simp (ne_eqb letter 73 not-i, ne_eqb letter 68 not-d, ne_eqb letter 66 n)
 
 module _ (book points : List ℕ) (place : ℕ) where
-  pub from-none : place ≡ 0 → event_from book points place ≡ said (Refused 0 NoSuchNumber) book
+  pub from-none : place ≡ 0 → event_from book points place ≡ said (refusal 0 NoSuchNumber) book
   from-none e = rw (eq-eqb place 0 e)
 
   pub from_some : (place ≡ 0 → ⊥) → event_from book points place ≡ event_done book (event_at points place)
   from_some n = rw (ne_eqb place 0 n)
 
 -- what is judged by a value is a book
-pub judged-is : (book : List ℕ) {n : ℕ} → book_judged book ≡ Value n → is_book book ≡ true
+pub judged-is : (book : List ℕ) {n : ℕ} → book_judged book ≡ Ok n → is_book book ≡ true
 judged-is book {n} v = by-test (is_book book) refl
   where
     by-test : (t : Bool) → is_book book ≡ t → is_book book ≡ true

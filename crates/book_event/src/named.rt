@@ -4,11 +4,11 @@ ghost use Rattle.std.proofs.Math.Option.{none, some};
 ghost use Rattle.refusal.specs.Outcome.{said};
 ghost use Rattle.refusal.specs.declared.Reason.TheVariants.{Later};
 ghost use Rattle.refusal.specs.declared.LaterReason.TheVariants.{Unpaired};
-ghost use Rattle.refusal.specs.declared.Answer.TheVariants.{Refused};
 ghost use Rattle.changes_views.specs.Views.{last_of};
 ghost use Rattle.book.specs.Layout.{book_length};
 ghost use Rattle.book.specs.Event.{present_at, next_view, paired, event_at, insertion, replacement, event_done, event_from};
 ghost use Rattle.book.specs.Event.{replace as replaceBy};
+ghost use Rattle.refusal.specs.Answer.{refusal};
 
 use book_change::inner::{insert, remove, replace};
 use changes_views::{last_of, next_wanted};
@@ -65,12 +65,9 @@ fn is_paired(points: &[u8], place: usize, next: usize) -> bool
 }
 
 fn unpaired() -> Answer
-    ensures { result ≡ Refused 0 (Later Unpaired) }
+    ensures { result ≡ refusal 0 (Later Unpaired) }
 {
-    Answer::Refused {
-        file: 0,
-        reason: Reason::Later(LaterReason::Unpaired),
-    }
+    Err(Reason::Later(LaterReason::Unpaired).into())
 }
 
 // A B: its C is the next view.
@@ -112,10 +109,7 @@ pub fn event_from(book: &mut [u8], points: &[u8], place: usize) -> Answer
     ensures { said result book.new ≡ event_from book.old points.now place }
 {
     if place == 0 {
-        return Answer::Refused {
-            file: 0,
-            reason: Reason::NoSuchNumber,
-        };
+        return Err(Reason::NoSuchNumber.into());
     }
     event_at(book, points, place)
 }

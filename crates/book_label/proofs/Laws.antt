@@ -8,8 +8,6 @@ use native.Mathlib.Omega.{arith}
 use borrow.Author.Tests.{eq-eqb, ne_eqb}
 use lib.ListN.{length, take, drop}
 use Rattle.refusal.specs.declared.Reason.TheVariants.{NoSuchNumber}
-use Rattle.refusal.specs.declared.Answer.{Answer}
-use Rattle.refusal.specs.declared.Answer.TheVariants.{Value, Refused}
 use Rattle.refusal.specs.Outcome.{said}
 use Rattle.refusal.proofs.Answers.{refused-value}
 use Rattle.refusal.proofs.Outcomes.{answer-of}
@@ -29,17 +27,19 @@ use Rattle.book_source.specs.Source.{place_line}
 use Rattle.book_source.specs.Starts.{records_at, place_before, start_among, Inside}
 use Rattle.book_source.proofs.Records.{two_records}
 use Rattle.book_label.specs.Shown.{resolved_from, shown_of, shown_from, Standing}
+use Rattle.std.specs.Prelude.{Ok}
+use Rattle.refusal.specs.Answer.{Answer, refusal}
 
 -- what is answered with its bytes fits
 shown-within : (listed : Bool) (place : ℕ) (r : Resolved) (out : List ℕ) (b : ℕ)
-    → (shown_of listed place r out).answer ≡ Value b
+    → (shown_of listed place r out).answer ≡ Ok b
     → b ≤ length (shown_of listed place r out).memory
 shown-within true place r out b e = room_within (place_line place ++ resolved_text r) out b e
 shown-within false place (elements x) out b e = room_within (label_of x) out b e
 shown-within false place (refused why) out b e = absurd (refused-value 0 b why e)
 
 module _ (listed : Bool) (table book : List ℕ) (at : ℕ) (out : List ℕ) where
-  pub shown-none : at ≡ 0 → shown_from listed table book at out ≡ said (Refused 0 NoSuchNumber) out
+  pub shown-none : at ≡ 0 → shown_from listed table book at out ≡ said (refusal 0 NoSuchNumber) out
   unfolding shown_from
   shown-none e = rw (eq-eqb at 0 e)
 
@@ -49,7 +49,7 @@ module _ (listed : Bool) (table book : List ℕ) (at : ℕ) (out : List ℕ) whe
   shown-some there = rw (ne_eqb at 0 there)
 
   -- what is answered with its bytes is a delivery point's, and fits
-  module _ (b : ℕ) (e : (shown_from listed table book at out).answer ≡ Value b) where
+  module _ (b : ℕ) (e : (shown_from listed table book at out).answer ≡ Ok b) where
     pub shown-there : at ≡ 0 → ⊥
     shown-there z = refused-value 0 b NoSuchNumber (sym (answer-of (shown-none z)) ∙ e)
 

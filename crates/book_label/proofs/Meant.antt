@@ -9,8 +9,6 @@ use native.Mathlib.Omega.{arith}
 use Rattle.field_outward.specs.Outward.{outward_fault}
 use Rattle.refusal.specs.declared.Reason.TheVariants.{Later}
 use Rattle.refusal.specs.declared.LaterReason.TheVariants.{NotABook}
-use Rattle.refusal.specs.declared.Answer.{Answer}
-use Rattle.refusal.specs.declared.Answer.TheVariants.{Value, Refused}
 use Rattle.refusal.specs.Outcome.{Outcome}
 use Rattle.refusal.proofs.Answers.{refused-value}
 use Rattle.refusal.proofs.Outcomes.{afterwards-value, Both, both_values}
@@ -39,6 +37,8 @@ use Rattle.book_source.specs.Starts.{records_at, place_before, address_from, add
 use Rattle.book_source.proofs.Walked.{all-starts, code-starts, starts-inside}
 use Rattle.book_label.specs.Shown.{shown_among}
 use Rattle.book_label.proofs.Laws.{shown-none, shown-some}
+use Rattle.std.specs.Prelude.{Ok}
+use Rattle.refusal.specs.Answer.{Answer, refusal}
 
 -- the k-th of some that start where they are said to
 pub kth-start : (book starts : List ℕ) → AllInside book starts → (k : ℕ)
@@ -96,15 +96,15 @@ module _ (table book starts : List ℕ) (all : AllInside book starts) where
 
 -- ---- where the book and the table file are accepted
 
-pub is-book : (book : List ℕ) {n : ℕ} → book_judged book ≡ Value n → is_book book ≡ true
+pub is-book : (book : List ℕ) {n : ℕ} → book_judged book ≡ Ok n → is_book book ≡ true
 unfolding book_judged
 is-book book {n} = by-test (is_book book)
   where
-    by-test : (t : Bool) → cond t (Value (count_of book)) (Refused 0 (Later NotABook)) ≡ Value n → t ≡ true
+    by-test : (t : Bool) → cond t (Ok (count_of book)) (refusal 0 (Later NotABook)) ≡ Ok n → t ≡ true
     by-test true e = refl
     by-test false e = absurd (refused-value 0 n (Later NotABook) e)
 
-module _ (book table : List ℕ) {n : ℕ} (taken : (book_of book table).judged ≡ Value n) where
+module _ (book table : List ℕ) {n : ℕ} (taken : (book_of book table).judged ≡ Ok n) where
   both : Both (book_judged book) (checked table_format table)
   both = both_values (book_judged book) (checked table_format table) taken
 
@@ -123,7 +123,7 @@ module _ (book table : List ℕ) {n : ℕ} (taken : (book_of book table).judged 
   view-label k out =
       label-is-kth table book (starts_in [] book) (starts-inside book facts []) k out
       ∙ (ap (λ (views : List Address). kth_label (table_lookup table) views k out) (sym (all-starts book facts))
-      ∙ sym (afterwards-value Refused out _ taken))
+      ∙ sym (afterwards-value refusal out _ taken))
 
   view-item : (k : ℕ) (out : List ℕ)
       → shown_among true table book (starts_in [] book) k out
@@ -134,7 +134,7 @@ module _ (book table : List ℕ) {n : ℕ} (taken : (book_of book table).judged 
       ∙ (ap
       (λ (views : List Address). kth_item (headings (book_of book table).heading views) (table_lookup table) views k out)
       (sym (all-starts book facts))
-      ∙ sym (afterwards-value Refused out _ taken))
+      ∙ sym (afterwards-value refusal out _ taken))
 
   pub asks-views : AsksViews (book_of book table) (λ listed. shown_among listed table book (starts_in [] book))
   asks-views = record { items = view-item; labels = view-label }
@@ -149,7 +149,7 @@ module _ (book table : List ℕ) {n : ℕ} (taken : (book_of book table).judged 
     code-label k out =
         label-is-kth table book (starts_in code book) (starts-inside book facts code) k out
         ∙ (ap (λ (views : List Address). kth_label (table_lookup table) views k out) (sym in-code)
-        ∙ sym (by-good-code Refused code out _ (book_of book table) taken clean))
+        ∙ sym (by-good-code refusal code out _ (book_of book table) taken clean))
 
     code-item : (k : ℕ) (out : List ℕ)
         → shown_among true table book (starts_in code book) k out
@@ -160,7 +160,7 @@ module _ (book table : List ℕ) {n : ℕ} (taken : (book_of book table).judged 
         ∙ (ap
         (λ (views : List Address). kth_item (headings (book_of book table).heading views) (table_lookup table) views k out)
         (sym in-code)
-        ∙ sym (by-good-code Refused code out _ (book_of book table) taken clean))
+        ∙ sym (by-good-code refusal code out _ (book_of book table) taken clean))
 
     pub asks-code : AsksCode (book_of book table) code (λ listed. shown_among listed table book (starts_in code book))
     asks-code = record { items = code-item; labels = code-label }

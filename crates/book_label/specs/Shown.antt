@@ -3,8 +3,6 @@
 -- Assumes nothing.
 use Rattle.std.specs.Prelude.{ℕ, ◌≡◌, Bool, true, false, cond, List, ◌++◌, eqb}
 use Rattle.refusal.specs.declared.Reason.TheVariants.{NoSuchNumber}
-use Rattle.refusal.specs.declared.Answer.{Answer}
-use Rattle.refusal.specs.declared.Answer.TheVariants.{Refused}
 use Rattle.refusal.specs.Outcome.{Outcome, said}
 use Rattle.file.specs.Accepted.{Accepted}
 use Rattle.file.specs.Formats.{table_format}
@@ -15,6 +13,7 @@ use Rattle.run.specs.Series.{Asking}
 use Rattle.changes_label.specs.Places.{resolved_at}
 use Rattle.book_source.specs.Source.{place_line}
 use Rattle.book_source.specs.Starts.{records_at, place_before, start_among, Inside}
+use Rattle.refusal.specs.Answer.{Answer, refusal}
 
 -- what a delivery point of the book resolves to
 abbrev pub resolved_from : (table book : List ℕ) → (at : ℕ) → Resolved
@@ -28,7 +27,7 @@ shown_of false place r out = resolved_outcome r out
 -- "7: no view or point of that number" where none starts
 unfoldable pub shown_from : (listed : Bool) → (table book : List ℕ) → (at : ℕ) → List ℕ → Outcome Answer
 shown_from listed table book at out =
-    cond (eqb at 0) (said (Refused 0 NoSuchNumber) out)
+    cond (eqb at 0) (said (refusal 0 NoSuchNumber) out)
     (shown_of listed (place_before book at) (resolved_from table book at) out)
 
 -- of the k-th of some

@@ -7,7 +7,7 @@ ghost use Rattle.book_source.specs.Source.{book_of};
 
 use crate::walk::walk;
 use book_source::check_source;
-use refusal::{Answer, Reason};
+use refusal::Reason;
 use run::Series;
 
 // So many places from one on.
@@ -22,10 +22,8 @@ pub fn of_places<'a>(
     ensures { said result out.new
         ≡ views_shown listed (book_of book.now table.now) first count out.old }
 {
-    match check_source(book, table) {
-        Answer::Value(_) => walk(table, book, &book[..0], listed, first, count, out),
-        Answer::Refused { file, reason } => Series::Unasked { file, reason },
-    }
+    check_source(book, table)?;
+    walk(table, book, &book[..0], listed, first, count, out)
 }
 
 // So many delivery points of a code from the k-th on.
@@ -41,16 +39,9 @@ pub fn in_code<'a>(
     ensures { said result out.new ≡ code_shown listed (book_of book.now table.now)
         code.now first count out.old }
 {
-    match check_source(book, table) {
-        Answer::Value(_) => {
-            if field_outward::outward_fault(code) != 0 {
-                return Series::Unasked {
-                    file: 0,
-                    reason: Reason::BadCode,
-                };
-            }
-            walk(table, book, code, listed, first, count, out)
-        }
-        Answer::Refused { file, reason } => Series::Unasked { file, reason },
+    check_source(book, table)?;
+    if field_outward::outward_fault(code) != 0 {
+        return Err(Reason::BadCode.into());
     }
+    walk(table, book, code, listed, first, count, out)
 }

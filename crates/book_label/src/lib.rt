@@ -22,10 +22,8 @@ pub fn label_of_place<'a>(book: &'a [u8], table: &'a [u8], place: usize, out: &m
     ensures { said result out.new
         ≡ view_label (book_of book.now table.now) place out.old }
 {
-    match check_source(book, table) {
-        Answer::Value(_) => walk::label_among(table, book, &book[..0], place, out),
-        Answer::Refused { file, reason } => Answer::Refused { file, reason },
-    }
+    check_source(book, table)?;
+    walk::label_among(table, book, &book[..0], place, out)
 }
 
 // The label of the k-th delivery point that is present in a code.
@@ -39,18 +37,11 @@ pub fn label_in_code<'a>(
     ensures { said result out.new
         ≡ code_label (book_of book.now table.now) code.now k out.old }
 {
-    match check_source(book, table) {
-        Answer::Value(_) => {
-            if field_outward::outward_fault(code) != 0 {
-                return Answer::Refused {
-                    file: 0,
-                    reason: Reason::BadCode,
-                };
-            }
-            walk::label_among(table, book, code, k, out)
-        }
-        Answer::Refused { file, reason } => Answer::Refused { file, reason },
+    check_source(book, table)?;
+    if field_outward::outward_fault(code) != 0 {
+        return Err(Reason::BadCode.into());
     }
+    walk::label_among(table, book, code, k, out)
 }
 
 // So many labels from a place on.
@@ -115,16 +106,9 @@ pub fn list_in_code<'a>(
 pub fn live_in(book: &[u8], code: &[u8]) -> Answer
     ensures { result ≡ book_live book.now code.now }
 {
-    match book_check::check_book(book) {
-        Answer::Value(_) => {
-            if field_outward::outward_fault(code) != 0 {
-                return Answer::Refused {
-                    file: 0,
-                    reason: Reason::BadCode,
-                };
-            }
-            Answer::Value(book_source::inner::starts_in(book, code).many)
-        }
-        Answer::Refused { file, reason } => Answer::Refused { file, reason },
+    book_check::check_book(book)?;
+    if field_outward::outward_fault(code) != 0 {
+        return Err(Reason::BadCode.into());
     }
+    Ok(book_source::inner::starts_in(book, code).many)
 }

@@ -1,7 +1,6 @@
 // What is shown of a delivery point of a book that is not judged again: its label, or in a listing its item.
-ghost use Rattle.std.specs.Prelude.{◌≡◌, true, false, ◌≤◌, length};
+ghost use Rattle.std.specs.Prelude.{◌≡◌, true, false};
 ghost use Rattle.refusal.specs.Outcome.{said};
-ghost use Rattle.run.specs.Series.{asked_behind};
 ghost use Rattle.book_label.specs.Shown.{shown_from, Standing};
 
 use changes_label::inner::label_there;
@@ -18,10 +17,7 @@ pub fn label_from<'a>(table: &'a [u8], book: &'a [u8], at: usize, out: &mut [u8]
         ≡ shown_from false table.now book.now at out.old }
 {
     if at == 0 {
-        return Answer::Refused {
-            file: 0,
-            reason: Reason::NoSuchNumber,
-        };
+        return Err(Reason::NoSuchNumber.into());
     }
     label_there(table, &book[at..at + RECORDS], 0, out)
 }
@@ -33,10 +29,7 @@ fn item_from<'a>(table: &'a [u8], book: &'a [u8], at: usize, out: &mut [u8]) -> 
         ≡ shown_from true table.now book.now at out.old }
 {
     if at == 0 {
-        return Answer::Refused {
-            file: 0,
-            reason: Reason::NoSuchNumber,
-        };
+        return Err(Reason::NoSuchNumber.into());
     }
     let line = worded_line(b"place", book_source::inner::place_before(book, at));
     let bytes = line.bytes;
@@ -48,7 +41,7 @@ fn item_from<'a>(table: &'a [u8], book: &'a [u8], at: usize, out: &mut [u8]) -> 
 }
 
 // The item of a delivery point, or its label alone.
-fn shown_from<'a>(
+pub fn shown_from<'a>(
     table: &'a [u8],
     book: &'a [u8],
     at: usize,
@@ -63,20 +56,4 @@ fn shown_from<'a>(
         return item_from(table, book, at, out);
     }
     label_from(table, book, at, out)
-}
-
-// The same behind so many bytes.
-pub fn shown_behind<'a>(
-    table: &'a [u8],
-    book: &'a [u8],
-    at: usize,
-    listed: bool,
-    behind: usize,
-    out: &mut [u8],
-) -> Answer
-    requires { (behind ≤ length out.old) × Standing table.now book.now at }
-    ensures { said result out.new ≡ asked_behind behind out.old
-        (shown_from listed table.now book.now at) }
-{
-    shown_from(table, book, at, listed, &mut out[behind..])
 }

@@ -8,7 +8,6 @@ use native.Mathlib.Omega.{arith}
 use borrow.Author.Tests.{eqb-true, ne_eqb}
 use lib.Dec.{eqb}
 use lib.ListN.{length, get_or}
-use Rattle.refusal.specs.declared.Verdict.TheVariants.{Fine}
 use Rattle.field.proofs.Tests.{and_left, and_right}
 use Rattle.file_record.proofs.Records.{part_length, record-length}
 use Rattle.file_fault.specs.Point.{point_fault}
@@ -30,6 +29,7 @@ use Rattle.book.specs.Meaning.{Present, present_from, means}
 use Rattle.book.proofs.Good.{BookFacts, holder-of}
 use Rattle.book_source.specs.Source.{addresses_from, addresses_of}
 use Rattle.book_source.proofs.Walked.{held}
+use Rattle.refusal.specs.Verdict.{fine}
 
 -- a follower that is due stands there
 follower-kept : (rec next : List ℕ) → followed rec next ≡ true → (needed rec ≡ 0 → ⊥)
@@ -87,7 +87,7 @@ unfolding addresses_of
 book-rises book = rises-from 0 1 (means book) (omega arith)
 
 pub addresses-sound : (look : Lookup) (book code : List ℕ) → BookFacts book
-    → first_bad look (in_code code (addresses_of book)) ≡ Fine
+    → first_bad look (in_code code (addresses_of book)) ≡ fine
     → AddressesSound look code 0 (in_code code (addresses_of book))
 addresses-sound look book code facts =
     code-sound look code (addresses_of book) (book-rises book) (book-fields book facts)

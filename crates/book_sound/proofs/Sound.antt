@@ -4,7 +4,6 @@ use Prim.Native.Nat.{ℕ}
 use mathlib.Core.Path.{◌≡◌}
 use mathlib.Core.List.{List}
 use Rattle.field_outward.specs.Outward.{outward_fault}
-use Rattle.refusal.specs.declared.Verdict.TheVariants.{Fine}
 use Rattle.file.specs.Formats.{table_format}
 use Rattle.file.specs.Accepted.{Accepted}
 use Rattle.ask.specs.Source.{in_code}
@@ -16,9 +15,10 @@ use Rattle.book.proofs.Good.{BookFacts}
 use Rattle.book_source.specs.Source.{addresses_of}
 use Rattle.book_sound.proofs.Addresses.{addresses-sound}
 use Rattle.book_sound.proofs.Size.{pack-small}
+use Rattle.refusal.specs.Verdict.{fine}
 
 pub book-sound : (book table code : List ℕ) → BookFacts book → Accepted table_format table → outward_fault code ≡ 0
-    → first_bad (table_lookup table) (in_code code (addresses_of book)) ≡ Fine
+    → first_bad (table_lookup table) (in_code code (addresses_of book)) ≡ fine
     → Sound (table_lookup table) (in_code code (addresses_of book)) code
 book-sound book table code facts t e fine =
     record {

@@ -6,7 +6,8 @@ use mathlib.Core.Bool.{Bool, true, false, cond, ◌&&◌, ◌||◌}
 use mathlib.Core.List.{List, [], ◌∷◌, ◌++◌}
 use native.Mathlib.Omega.{arith}
 use lib.Dec.{eqb}
-use lib.ListN.{length, take, set}
+use lib.ListN.{length, get_or, take, set}
+use lib.Seq.{get_or-take}
 use Rattle.field_outward.specs.Outward.{outward_fault}
 use Rattle.field.proofs.Tests.{and_left, and_right}
 use Rattle.changes_views.specs.Views.{is_view, is_live, in_code, is_empty, wanted}
@@ -19,7 +20,7 @@ use Rattle.book.specs.Book.{followed, well_kept, holder}
 use Rattle.book.specs.Meaning.{present_from, means}
 use Rattle.book.proofs.Good.{holder-of, holder-found, BookFacts}
 use Rattle.book_source.specs.Source.{addresses_from, addresses_of}
-use Rattle.book_source.specs.Starts.{start_of, place_before, start_of_place, address_from, addresses_at, wanted_from, starts_from, starts_in, start_among, Inside, AllInside}
+use Rattle.book_source.specs.Starts.{start_of, place_before, start_of_place, address_from, addresses_at, wanted_from, starts_from, starts_in, start_among, Inside, AllInside, ByPlace}
 use Rattle.book_source.proofs.Records.{slot-inside, slot-view, slot-follower, slot-place}
 
 module _ (book : List ℕ) (facts : BookFacts book) where
@@ -30,6 +31,12 @@ module _ (book : List ℕ) (facts : BookFacts book) where
   held p h k =
       let (s, low, e) = facts.good.held p h k in
       subst (λ q. holder slot q < slots) e (omega (arith, holder-found slot s low))
+
+  -- the i-th of those by place, of which so many are taken
+  pub taken_is : (places : List ℕ) → ByPlace book places → (n i : ℕ) → n ≡ count_of book → i < n
+      → get_or (take n places) i 0 ≡ start_of_place book (suc i)
+  taken_is places by n i e h =
+      get_or-take n places i 0 h ∙ by i (omega (arith, e, facts.few)) (held (suc i) (omega arith) (omega (arith, e)))
 
   pub place_inside : (p : ℕ) → 1 ≤ p → p ≤ count_of book → Inside book (start_of_place book p)
   place_inside p h k = slot-inside book facts.long (holder slot p) (held p h k)

@@ -3,8 +3,6 @@
 -- Assumes nothing.
 use Rattle.std.specs.Prelude.{ℕ, suc, cond, List, [], ◌∷◌, eqb, length}
 use Rattle.refusal.specs.declared.Reason.TheVariants.{BadCode}
-use Rattle.refusal.specs.declared.Answer.{Answer}
-use Rattle.refusal.specs.declared.Answer.TheVariants.{Value, Refused}
 use Rattle.refusal.specs.Outcome.{after}
 use Rattle.field_outward.specs.Outward.{outward_fault}
 use Rattle.file.specs.Check.{checked}
@@ -16,6 +14,8 @@ use Rattle.item.specs.Lines.{worded}
 use Rattle.ask.specs.Source.{Source, in_code}
 use Rattle.book.specs.Book.{book_judged}
 use Rattle.book.specs.Meaning.{Present, means}
+use Rattle.std.specs.Prelude.{Ok}
+use Rattle.refusal.specs.Answer.{Answer, refusal}
 
 -- those that are present, numbered on from place p
 abbrev pub addresses_from : (p : ℕ) → List Present → List Address
@@ -48,4 +48,4 @@ book_of book table =
 unfoldable pub book_live : (book code : List ℕ) → Answer
 book_live book code =
     after (book_judged book)
-    (cond (eqb (outward_fault code) 0) (Value (length (in_code code (addresses_of book)))) (Refused 0 BadCode))
+    (cond (eqb (outward_fault code) 0) (Ok (length (in_code code (addresses_of book)))) (refusal 0 BadCode))

@@ -16,9 +16,7 @@ fn by_place(book: &[u8]) -> [u32; 256]
     ensures { ByPlace book.now result }
 {
     let mut starts = [0u32; 256];
-    let mut s = Book::SLOTS;
-    while s > 0 {
-        s -= 1;
+    for s in (0..Book::SLOTS).rev() {
         let place = book_check::inner::place_in(book, s);
         if place != 0 {
             starts[place - 1] = (s * Book::SLOT + Book::VIEW) as u32;
@@ -36,13 +34,11 @@ pub fn starts_in(book: &[u8], code: &[u8]) -> Starts
     let count = pack_read::inner::number_within(book, Book::COUNT, 2);
     let mut at = [0u32; 256];
     let mut many = 0;
-    let mut i = 0;
-    while i < count {
-        let start = places[i] as usize;
-        i += 1;
+    for &place in &places[..count] {
+        let start = place as usize;
         let records = &book[start..start + RECORDS];
         if changes_views::is_wanted(file_record::point_record(records, 0), code) {
-            at[many] = start as u32;
+            at[many] = place;
             many += 1;
         }
     }

@@ -19,8 +19,6 @@ pub struct Starts {
 pub fn check_source(book: &[u8], table: &[u8]) -> Answer
     ensures { result ≡ (book_of book.now table.now).judged }
 {
-    match book_check::check_book(book) {
-        Answer::Value(_) => file_check::check_table(table),
-        Answer::Refused { file, reason } => Answer::Refused { file, reason },
-    }
+    book_check::check_book(book)?;
+    file_check::check_table(table)
 }

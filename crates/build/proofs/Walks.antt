@@ -2,24 +2,21 @@
 -- Assumes nothing.
 use Prim.Native.Nat.{ℕ, suc, ◌+◌, ◌≤◌}
 use mathlib.Core.Path.{◌≡◌, refl, sym, ap, subst, ◌∙◌}
-use mathlib.Core.Bool.{Bool, true, false, cond, not}
+use mathlib.Core.Bool.{Bool, true, false, cond}
 use mathlib.Core.List.{List, [], ◌∷◌}
 use native.Mathlib.Omega.{arith}
 use native.Mathlib.Nat.{zero-add}
-use borrow.Author.Tests.{ne_eqb}
-use lib.Dec.{eqb}
 use lib.ListN.{length, length-append}
 use Rattle.refusal.specs.Refusal.{with_view}
 use Rattle.refusal.specs.declared.Reason.{Reason}
-use Rattle.refusal.specs.declared.Verdict.TheVariants.{Fine, Bad}
-use Rattle.source.specs.declared.DeliveryPoint.{DeliveryPoint}
 use Rattle.source.specs.Delivery.{refusal_in}
 use Rattle.shelf.specs.Stock.{Stock}
 use Rattle.label.specs.Put.{Put}
 use Rattle.label.proofs.Going.{Going, going-room, going_step}
 use Rattle.build.specs.Plan.{Packed, rows_of, first_refused, mark_rows, mark_all, organisation_row, organisation_rows, organisation_count}
 use Rattle.build.specs.Bytes.{point_in, points_in}
-use Rattle.build.proofs.Laws.{no-organisation, an-organisation}
+use Rattle.std.specs.Prelude.{Err}
+use Rattle.refusal.specs.Verdict.{fine}
 
 -- of all, `left` are to look at yet: none before them is refused, and what those refer to is marked
 pub record Marking (st : Stock) (all : List Packed) (entry : List ℕ) (left : List Packed) (marks : List ℕ) : Type 0 where
@@ -35,16 +32,16 @@ module _ {st : Stock} {all : List Packed} {entry marks : List ℕ} where
   marking-as e m = subst (λ (ds : List Packed). Marking st all entry ds marks) e m
 
   module _ {d : Packed} {ds : List Packed} (m : Marking st all entry (d ∷ ds) marks) where
-    pub marking-stop : (why : Reason) → refusal_in d.point (rows_of st d.point) ≡ Bad why
-        → first_refused st all ≡ Bad (with_view d.view why)
+    pub marking-stop : (why : Reason) → refusal_in d.point (rows_of st d.point) ≡ Err why
+        → first_refused st all ≡ Err (with_view d.view why)
     marking-stop why e = m.refused ∙ simp e
 
-    pub marking-on : {next : List ℕ} → refusal_in d.point (rows_of st d.point) ≡ Fine
+    pub marking-on : {next : List ℕ} → refusal_in d.point (rows_of st d.point) ≡ fine
         → next ≡ mark_rows (rows_of st d.point) marks → Marking st all entry ds next
     marking-on e is =
         record { refused = m.refused ∙ simp e; marked = m.marked ∙ ap (mark_all st ds) (sym is) }
 
-  pub marking-end : Marking st all entry [] marks → (Fine ≡ first_refused st all) × (marks ≡ mark_all st all entry)
+  pub marking-end : Marking st all entry [] marks → (fine ≡ first_refused st all) × (marks ≡ mark_all st all entry)
   marking-end m = (sym m.refused, sym m.marked)
 
 -- of all, `left` are to count yet: those before them have so many organisations, in so many bytes

@@ -5,12 +5,12 @@ use Rattle.field.specs.Test.{elem}
 use Rattle.field.specs.Text.{text_in}
 use Rattle.refusal.specs.Refusal.{with_view}
 use Rattle.refusal.specs.Verdict.{or_else}
-use Rattle.refusal.specs.declared.Verdict.{Verdict}
-use Rattle.refusal.specs.declared.Verdict.TheVariants.{Fine, Bad}
 use Rattle.source.specs.declared.DeliveryPoint.{DeliveryPoint}
 use Rattle.source.specs.Delivery.{asked_of, rows_for, refusal_in}
 use Rattle.shelf.specs.Stock.{Stock}
 use Rattle.pack.specs.Layout.{texts_bytes}
+use Rattle.std.specs.Prelude.{Ok, Err}
+use Rattle.refusal.specs.Verdict.{Verdict, fine}
 
 -- a delivery point that is packed, with its number among the views
 pub record Packed : Type 0 where
@@ -23,8 +23,8 @@ rows_of st p = rows_for st.row (asked_of p)
 
 -- a refusal "together with its view number"
 abbrev pub numbered_refusal : ℕ → Verdict → Verdict
-numbered_refusal view Fine = Fine
-numbered_refusal view (Bad why) = Bad (with_view view why)
+numbered_refusal view (Ok _) = fine
+numbered_refusal view (Err why) = Err (with_view view why)
 
 -- refusal 8 or 9 of a delivery point that is packed
 abbrev pub refusal_of : Stock → Packed → Verdict
@@ -32,7 +32,7 @@ refusal_of st d = numbered_refusal d.view (refusal_in d.point (rows_of st d.poin
 
 -- "of the first live view in that code that has one"
 abbrev pub first_refused : Stock → List Packed → Verdict
-first_refused st [] = Fine
+first_refused st [] = fine
 first_refused st (d ∷ ds) = or_else (refusal_of st d) (first_refused st ds)
 
 -- whether one of these refers to row i

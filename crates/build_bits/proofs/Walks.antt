@@ -1,22 +1,20 @@
 -- Walks over the marked rows of a shelf, one after the other: rows that are not marked are passed, and have no bytes.
 -- Assumes nothing.
 use Prim.Native.Nat.{ℕ, zero, suc, ◌+◌, ◌*◌, ◌-◌, ◌≤◌, ◌<◌, min}
-use mathlib.Core.Path.{◌≡◌, refl, sym, ap, ap₂, ◌∙◌}
+use mathlib.Core.Path.{◌≡◌, refl, sym, ap, ◌∙◌}
 use mathlib.Core.Bool.{Bool, true, false, cond}
 use mathlib.Core.List.{List, [], ◌++◌}
 use native.Mathlib.Omega.{arith}
 use borrow.Author.Tests.{leb-true, leb-false}
 use lib.Dec.{leb}
-use lib.ListN.{length, get_or, set}
-use Rattle.bits.specs.Bits.{marked, next_marked}
+use lib.ListN.{length, get_or}
+use Rattle.bits.specs.Bits.{next_marked}
 use Rattle.bits.proofs.Next.{Next, next-is, next-end}
 use Rattle.shelf.specs.Stock.{Stock}
-use Rattle.shelf.proofs.Search.{filled_on}
-use Rattle.build_place.specs.declared.inner.Sums.{Sums}
-use Rattle.build.specs.Rows.{row_bytes_at, is_marked, bytes_to, count_to, all_bytes, all_count}
+use Rattle.build.specs.Rows.{row_bytes_at, is_marked, bytes_to, count_to}
 use Rattle.build.specs.Bytes.{used_rows}
 use Rattle.build.proofs.Laws.{rows_left, rows_step, rows_end}
-use Rattle.build_bits.specs.Marks.{bit_marks, SumsIn, Blocks}
+use Rattle.build_bits.specs.Marks.{bit_marks}
 use Rattle.build_bits.proofs.Marks.{bits-marked}
 
 -- ---- rows without a mark
@@ -191,49 +189,3 @@ pub record Filling (st : Stock) (marks : List ℕ) (start : ℕ) (blocks : List 
   pub few : rows ≤ from
   pub short : bytes ≤ 104 * from
   pub each : (j : ℕ) → 0 ≤ j → j < k → get_or blocks j 0 ≡ start + bytes_to st marks (64 * j)
-
-module _ (st : Stock) (marks : List ℕ) (start : ℕ) where
-  pub filling-start : (blocks : List ℕ) → Filling st marks start blocks 0 0 1 0
-  filling-start blocks =
-      let none : min 1 st.last - 1 ≡ 0 = omega arith in
-      record {
-        place = omega arith;
-        count = sym (ap (count_to marks) none);
-        size = sym (ap (bytes_to st marks) none);
-        few = omega arith;
-        short = omega arith;
-        each = λ j p q. absurd (omega arith);
-      }
-
-  module _ {blocks : List ℕ} {rows bytes from k : ℕ} (f : Filling st marks start blocks rows bytes from k) where
-    pub filling-on : {r : Sums} → from < st.last → k < length blocks
-        → SumsIn st marks from (min (from + 64) st.last) r
-        → Filling st marks start (set blocks k (start + bytes)) (rows + r.rows) (bytes + r.bytes) (from + 64) (k + 1)
-    filling-on {r} h long sums =
-        let here : min from st.last ≡ from = omega arith in
-        let front : min from st.last - 1 ≡ 64 * k = omega (arith, here, f.place) in
-        let count = f.count ∙ ap (λ n. count_to marks (n - 1)) here in
-        let size = f.size ∙ ap (λ n. bytes_to st marks (n - 1)) here in
-        record {
-          place = omega (arith, f.place);
-          count = omega (arith, count, sums.rows);
-          size = omega (arith, size, sums.bytes);
-          few = omega (arith, f.few, sums.few);
-          short = omega (arith, f.short, sums.short);
-          each =
-              filled_on blocks (λ j. start + bytes_to st marks (64 * j)) 0 k (start + bytes) long
-              (ap (start +◌) (f.size ∙ ap (bytes_to st marks) front)) f.each;
-        }
-
-    module _ (h : st.last ≤ from) where
-      all : min from st.last ≡ st.last
-      all = omega arith
-
-      pub filled-count : rows ≡ all_count st marks
-      filled-count = f.count ∙ ap (λ n. count_to marks (n - 1)) all
-
-      pub filled-size : bytes ≡ all_bytes st marks
-      filled-size = f.size ∙ ap (λ n. bytes_to st marks (n - 1)) all
-
-      pub filled-blocks : Blocks st marks start blocks
-      filled-blocks = record { each = λ j l. f.each j (omega arith) (omega (arith, f.place)) }

@@ -54,15 +54,12 @@ pub fn place_rows(file: &[u8], s: Shelf, bits: &[u32], blocks: &mut [u32], start
     let last = last_of(file, s);
     let mut rows = 0;
     let mut bytes = 0;
-    let mut from = 1;
-    let mut k = 0;
-    while from < last {
+    for k in 0..(last + 62) / 64 {
         blocks[k] = (start + bytes) as u32;
+        let from = 64 * k + 1;
         let sums = sums_in(file, s, bits, from, field::lesser(from + 64, last));
         rows += sums.rows;
         bytes += sums.bytes;
-        from += 64;
-        k += 1;
     }
     Sums { rows, bytes }
 }

@@ -4,6 +4,7 @@ ghost use Rattle.field.specs.Text.{part, text_in};
 ghost use Rattle.label.specs.Put.{Put};
 ghost use Rattle.pack.specs.Layout.{texts_bytes};
 ghost use Rattle.pack.specs.Numbers.{bytes_of};
+ghost use Rattle.pack.specs.Sectors.{counts_bytes};
 ghost use Rattle.build.specs.Bytes.{sized, two_texts};
 
 use label_pieces::inner::{byte_at, bytes_at};
@@ -24,6 +25,18 @@ pub fn word_at(n: usize, at: usize, out: &mut [u8]) -> usize
 {
     let i = short_at(n / 65536, at, out);
     short_at(n, i, out)
+}
+
+// The last four of each of these, one behind the other.
+pub fn words_at(ns: &[usize], at: usize, out: &mut [u8]) -> usize
+    requires { at + length (counts_bytes ns.now) ≤ length out.old }
+    ensures { Put (counts_bytes ns.now) out.old at result out.new }
+{
+    let mut end = at;
+    for &n in ns {
+        end = word_at(n, end, out);
+    }
+    end
 }
 
 // The bytes that a record has from `start` up to `end`.

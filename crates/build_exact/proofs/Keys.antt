@@ -10,9 +10,6 @@ use borrow.Author.Tests.{eq-eqb, ne_eqb, eqb-true, eqb-false}
 use lib.Dec.{eqb}
 use Rattle.field.specs.Test.{elem}
 use Rattle.field.proofs.Tests.{and-false}
-use Rattle.refusal.specs.Verdict.{or_else}
-use Rattle.refusal.specs.declared.Verdict.{Verdict}
-use Rattle.refusal.specs.declared.Verdict.TheVariants.{Fine, Bad}
 use Rattle.refusal.specs.declared.Reason.TheVariants.{Combination, MissingKey}
 use Rattle.source.specs.Address.{Lookup, Address, present, Asked, key_kinds, asked_by, keys_of, ref}
 use Rattle.source.specs.Resolve.{forbidden, lacks, missing_from, missing, elements_of, elements, refused, resolve}
@@ -26,10 +23,11 @@ use Rattle.pack_carries.proofs.Rows.{and_both}
 use Rattle.build.specs.Plan.{Packed, refers_to}
 use Rattle.build_exact.specs.Started.{AllSay, none_says, one_says}
 use Rattle.build_exact.proofs.Refused.{lacks-row}
+use Rattle.refusal.specs.Verdict.{fine}
 
 -- ---- addresses that are not refused
 
-none_missing : (look : Lookup) (a : Address) → bad_of a.view (resolve look a) ≡ Fine → missing look a ≡ 0
+none_missing : (look : Lookup) (a : Address) → bad_of a.view (resolve look a) ≡ fine → missing look a ≡ 0
 unfolding resolve
 none_missing look a e = by_tests (eqb (forbidden a) 0) (eqb (missing look a) 0) refl e
   where
@@ -37,7 +35,7 @@ none_missing look a e = by_tests (eqb (forbidden a) 0) (eqb (missing look a) 0) 
         → bad_of a.view
         (cond t (cond u (elements (elements_of look a)) (refused (MissingKey (missing look a) 0)))
         (refused (Combination (forbidden a) 0)))
-        ≡ Fine
+        ≡ fine
         → missing look a ≡ 0
     by_tests true true q e = eqb-true (missing look a) 0 q
     by_tests true false q e = let z : ◌≡◌ {A = ℕ} 0 1 = cc in absurd (omega arith)
@@ -81,12 +79,12 @@ module _ (st : Stock) (g : Good st) where
       by_tests true false false p q e h later = later e h
       by_tests false u v p q e h later = later e h
 
-  pub referred-finds : (r : ℕ) (as' : List Address) → first_bad (look_in st) as' ≡ Fine → refers r as' ≡ true → Finds st r
+  pub referred-finds : (r : ℕ) (as' : List Address) → first_bad (look_in st) as' ≡ fine → refers r as' ≡ true → Finds st r
   referred-finds r [] e h = absurd (true≢false (sym h))
   referred-finds r (a ∷ as') e h =
       by-test (refers_in r (keys_of a)) refl h (referred-finds r as' both.1)
     where
-      both : (bad_of a.view (resolve (look_in st) a) ≡ Fine) × (first_bad (look_in st) as' ≡ Fine)
+      both : (bad_of a.view (resolve (look_in st) a) ≡ fine) × (first_bad (look_in st) as' ≡ fine)
       both = both-fine (bad_of a.view (resolve (look_in st) a)) (first_bad (look_in st) as') e
 
       by-test : (t : Bool) → refers_in r (keys_of a) ≡ t → t || refers r as' ≡ true → (refers r as' ≡ true → Finds st r)

@@ -7,7 +7,6 @@ use mathlib.Core.List.{List, [], ◌∷◌}
 use mathlib.Core.Option.{none, some}
 use lib.Dec.{eqb}
 use Rattle.refusal.specs.declared.Reason.{Reason}
-use Rattle.refusal.specs.declared.Verdict.TheVariants.{Fine, Bad}
 use Rattle.refusal.specs.declared.Reason.TheVariants.{Combination, MissingKey}
 use Rattle.source.specs.Address.{named, lacking, none_needed, Address, present, key_kinds, key_numbers, asked_by, ref, Elements}
 use Rattle.source.specs.Resolve.{forbidden, lacks, missing_from, lacks_organisation, missing, elements_of, elements, refused, resolve}
@@ -17,6 +16,8 @@ use Rattle.shelf.specs.Stock.{Stock, texts_or_none, look_in}
 use Rattle.pack.specs.Cutting.{bad_of, first_bad}
 use Rattle.build.specs.Plan.{Packed, rows_of, numbered_refusal, first_refused}
 use Rattle.build_exact.specs.Started.{PackedSays, AllSay, none_says, one_says}
+use Rattle.std.specs.Prelude.{Err}
+use Rattle.refusal.specs.Verdict.{fine}
 
 -- ---- one delivery point
 
@@ -33,7 +34,7 @@ lacks-organisation others p e = by_tests p.organised p.lacking _ _ e
 
 verdict-is : (view : ℕ) (e : Elements) (why other : Reason) (t u : Bool)
     → bad_of view (cond t (cond u (elements e) (refused why)) (refused other))
-    ≡ numbered_refusal view (cond t (cond u Fine (Bad why)) (Bad other))
+    ≡ numbered_refusal view (cond t (cond u fine (Err why)) (Err other))
 verdict-is view e why other true true = refl
 verdict-is view e why other true false = refl
 verdict-is view e why other false u = refl

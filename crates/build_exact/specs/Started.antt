@@ -1,13 +1,13 @@
 -- What a builder has before it writes: good rows, delivery points of which none is refused, and the starts of the rows.
 -- Assumes nothing.
 use Rattle.std.specs.Prelude.{ℕ, ◌≤◌, ◌<◌, ◌≡◌, List, [], ◌∷◌, length, get_or}
-use Rattle.refusal.specs.declared.Verdict.TheVariants.{Fine}
 use Rattle.source.specs.Address.{Address}
 use Rattle.source.specs.Delivery.{Says}
 use Rattle.shelf.specs.Stock.{Stock, Good}
 use Rattle.build.specs.Plan.{Packed, first_refused, mark_all}
 use Rattle.build.specs.Placed.{Placed}
 use Rattle.build_exact.specs.Within.{AllWithin}
+use Rattle.refusal.specs.Verdict.{fine}
 
 -- a delivery point that is packed, and the address that it says
 pub record PackedSays (own others : List ℕ) (d : Packed) (a : Address) : Type 0 where
@@ -32,7 +32,7 @@ pub record Started (st : Stock) (own others : List ℕ) (ds : List Packed) (as' 
   pub said : AllSay own others ds as'
   pub within : AllWithin own ds
   pub rising : Rising 0 ds
-  pub none_refused : first_refused st ds ≡ Fine
+  pub none_refused : first_refused st ds ≡ fine
   -- the marks before a row was marked
   pub no_marks : (i : ℕ) → get_or fresh i 0 ≡ 0
   pub long : st.last ≤ length fresh

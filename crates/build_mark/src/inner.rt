@@ -1,9 +1,9 @@
 // Marking the rows of a source: the caller knows that there are marks for all of them.
 ghost use Rattle.std.specs.Prelude.{◌≡◌, length};
-ghost use Rattle.refusal.specs.declared.Verdict.TheVariants.{Fine};
 ghost use Rattle.source.specs.Delivery.{refusal_in};
 ghost use Rattle.build.specs.Plan.{mark_rows};
 ghost use Rattle.build_mark.specs.Below.{Below};
+ghost use Rattle.refusal.specs.Verdict.{fine};
 
 use refusal::Verdict;
 use source::{DeliveryPoint, Found};
@@ -13,13 +13,10 @@ fn mark_rows(rows: [usize; 7], marks: &mut [u32])
     requires { Below (length marks.old) rows }
     ensures { marks.new ≡ mark_rows rows marks.old }
 {
-    let mut i = 0;
-    while i < 7 {
-        let row = rows[i];
+    for row in rows {
         if row != 0 {
             marks[row] = 1;
         }
-        i += 1;
     }
 }
 
@@ -27,14 +24,10 @@ fn mark_rows(rows: [usize; 7], marks: &mut [u32])
 pub fn mark_point(p: DeliveryPoint, found: Found, marks: &mut [u32]) -> Verdict
     requires { Below (length marks.old) found.rows }
     ensures said { result ≡ refusal_in p found.rows }
-    ensures marked { result ≡ Fine → marks.new ≡ mark_rows found.rows marks.old }
+    ensures marked { result ≡ fine → marks.new ≡ mark_rows found.rows marks.old }
 {
-    match source_keys::refusal_in(p, found) {
-        Verdict::Fine => {
-            let rows = found.rows;
-            mark_rows(rows, marks);
-            Verdict::Fine
-        }
-        Verdict::Bad(why) => Verdict::Bad(why),
-    }
+    source_keys::refusal_in(p, found)?;
+    let rows = found.rows;
+    mark_rows(rows, marks);
+    Ok(())
 }

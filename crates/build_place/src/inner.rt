@@ -82,12 +82,10 @@ pub fn place_rows(file: &[u8], s: Shelf, marks: &mut [u32]) -> Sums
     let last = shelf_read::inner::last_of(file, s);
     let mut rows = 0;
     let mut bytes = 0;
-    let mut i = 1;
-    while i < last {
+    for i in 1..last {
         let len = place_row(file, s, i, bytes, marks);
         rows += one_if(len != 0);
         bytes += len;
-        i += 1;
     }
     Sums { rows, bytes }
 }

@@ -1,16 +1,20 @@
 -- A point, part by part, and the offsets of its keys, one by one.
 -- Assumes nothing.
 use Prim.Native.Nat.{ℕ, zero, suc, ◌+◌, ◌≤◌, ◌<◌}
-use mathlib.Core.Path.{◌≡◌, refl, sym, ap, ◌∙◌}
+use mathlib.Core.Path.{◌≡◌, refl, sym, ap, subst, ◌∙◌}
+use mathlib.Core.Logic.{⊎_elim}
+use native.Mathlib.Nat.{eq-or-lt_of_le}
 use mathlib.Core.List.{List, [], ◌∷◌, ◌++◌}
 use native.Mathlib.Omega.{arith}
-use lib.ListN.{length, get_or, set, length-set}
+use lib.ListN.{length, get_or}
 use lib.Seq.{ext_get_or}
 use Rattle.source.specs.declared.DeliveryPoint.{DeliveryPoint}
 use Rattle.label.specs.Put.{Put}
 use Rattle.label.proofs.Going.{Going, going_start, going_step}
 use Rattle.pack.specs.Numbers.{bytes_of}
-use Rattle.shelf.proofs.Search.{filled_on}
+use Rattle.std.specs.Array.{IsFromFnResultFrom}
+use Rattle.std.specs.Fn.{Called}
+use denote.Param.Members.{Mut}
 use Rattle.build.specs.Bytes.{key_offset, offsets_for, offset_bytes, organisation_offset, front_in, plain_in, point_with}
 
 -- offset i of these keys' rows
@@ -30,32 +34,26 @@ module _ (starts : List ℕ) where
   offsets-long (k ∷ keys) [] e = absurd (omega arith)
   offsets-long (k ∷ keys) (r ∷ rows) e = ap suc (offsets-long keys rows (omega arith))
 
-  -- the keys before i have their offsets: what the loop over seven keys keeps true
-  pub record OffsetsTo (keys rows offsets : List ℕ) (i : ℕ) : Type 0 where
-    pub long : length offsets ≡ 7
-    pub to : i ≤ 7
-    pub each : (j : ℕ) → 0 ≤ j → j < i → get_or offsets j 0 ≡ offset_at starts keys rows j
+  -- seven numbers that are the offsets of seven keys, each by its place
+  pub offsets-are : (keys rows offsets : List ℕ) → length keys ≡ 7 → length rows ≡ 7 → length offsets ≡ 7
+      → ((i : ℕ) → i < 7 → get_or offsets i 0 ≡ offset_at starts keys rows i)
+      → offsets ≡ offsets_for starts keys rows
+  offsets-are keys rows offsets seven also long each =
+      ext_get_or 0 offsets (offsets_for starts keys rows)
+      (long ∙ sym (offsets-long keys rows (seven ∙ sym also) ∙ seven))
+      (λ i l.
+      each i (omega (arith, long)) ∙ sym (offsets-at keys rows i (omega (arith, long)) (omega (arith, long))))
 
-  pub offsets-none : (keys rows offsets : List ℕ) → length offsets ≡ 7 → OffsetsTo keys rows offsets 0
-  offsets-none keys rows offsets long =
-      record { long = long; to = omega arith; each = λ j p q. absurd (omega arith) }
-
-  module _ (keys rows offsets : List ℕ) (i : ℕ) (done : OffsetsTo keys rows offsets i) where
-    pub offsets-next : (v : ℕ) → i < 7 → v ≡ offset_at starts keys rows i → OffsetsTo keys rows (set offsets i v) (i + 1)
-    offsets-next v h is =
-        record {
-          long = length-set offsets i v ∙ done.long;
-          to = omega arith;
-          each = filled_on offsets (offset_at starts keys rows) 0 i v (omega (arith, done.long)) is done.each;
-        }
-
-    pub offsets-all : length keys ≡ 7 → length rows ≡ 7 → 7 ≤ i → offsets ≡ offsets_for starts keys rows
-    offsets-all seven also h =
-        ext_get_or 0 offsets (offsets_for starts keys rows)
-        (done.long ∙ sym (offsets-long keys rows (seven ∙ sym also) ∙ seven))
-        (λ j l.
-        done.each j (omega arith) (omega (arith, done.long))
-        ∙ sym (offsets-at keys rows j (omega (arith, done.long)) (omega (arith, done.long))))
+-- an array made by calls that leave the closure as it was has what each call gives
+module _ {F : Type 0} (g : Mut F (ℕ × Unit {0}) ℕ) (f : F) (h : ℕ → ℕ)
+    (call : (i y : ℕ) (q : F) → Called g f (i, tt) y q → (q ≡ f) × (y ≡ h i)) (ys : List ℕ) where
+  pub made-each : (n i : ℕ) → IsFromFnResultFrom g f ys i n → (k : ℕ) → i ≤ k → k < i + n → get_or ys k 0 ≡ h k
+  made-each zero i made k low high = absurd (omega arith)
+  made-each (suc n) i made k low high =
+      let step = call i made.1 made.0 made.3 in
+      let rest = subst (λ (p : F). IsFromFnResultFrom g p ys (i + 1) n) step.0 made.4 in
+      ⊎_elim (λ here. ap (λ (j : ℕ). get_or ys j 0) (sym here) ∙ (made.2.1 0 ∙ (step.1 ∙ ap h here)))
+      (λ later. made-each n (i + 1) rest k (omega arith) (omega arith)) (eq-or-lt_of_le low)
 
 module _ (own : List ℕ) (p : DeliveryPoint) (offsets : List ℕ) (row : ℕ) where
   -- the last of a point, and the offsets of the keys before it

@@ -2,10 +2,10 @@
 ghost use Rattle.std.specs.Prelude.{◌≡◌, ◌+◌, ◌≤◌, length};
 ghost use Rattle.label.specs.Put.{Put};
 ghost use Rattle.pack.specs.Layout.{mark_of};
-ghost use Rattle.build.specs.Bytes.{key_offset, offsets_for, offset_bytes, organisation_offset, front_in, numbers_in, plain_in, point_with};
+ghost use Rattle.build.specs.Bytes.{key_offset, offsets_for, organisation_offset, front_in, numbers_in, plain_in, point_with};
 ghost use Rattle.build.specs.Within.{FieldsWithin};
 
-use build_bytes::inner::{above, part_at, short_at, start_of, word_at};
+use build_bytes::inner::{above, part_at, short_at, start_of, word_at, words_at};
 use label_pieces::inner::byte_at;
 use pack_read::PackPoint;
 use source::DeliveryPoint;
@@ -30,27 +30,8 @@ fn key_offset(starts: &[u32], key: u32, row: usize) -> usize
 pub fn key_offsets(starts: &[u32], keys: [u32; 7], rows: [usize; 7]) -> Offsets
     ensures { result.of_keys ≡ offsets_for starts.now keys rows }
 {
-    let mut of_keys = [0usize; 7];
-    let mut i = 0;
-    while i < 7 {
-        of_keys[i] = key_offset(starts, keys[i], rows[i]);
-        i += 1;
-    }
+    let of_keys = std::array::from_fn(|i| key_offset(starts, keys[i], rows[i]));
     Offsets { of_keys }
-}
-
-// The offsets of the seven keys.
-fn keys_at(offsets: [usize; 7], at: usize, out: &mut [u8]) -> usize
-    requires { at + length (offset_bytes offsets) ≤ length out.old }
-    ensures { Put (offset_bytes offsets) out.old at result out.new }
-{
-    let mut end = at;
-    let mut i = 0;
-    while i < 7 {
-        end = word_at(offsets[i], end, out);
-        i += 1;
-    }
-    end
 }
 
 // Where the row of an organisation stands, `row` being the next one's.
@@ -113,7 +94,6 @@ pub fn point_at(
 {
     let i = front_at(own, p, at, out);
     let j = plain_at(own, p, i, out);
-    let of_keys = offsets.of_keys;
-    let k = keys_at(of_keys, j, out);
+    let k = words_at(&offsets.of_keys, j, out);
     word_at(organisation_offset(p, row), k, out)
 }

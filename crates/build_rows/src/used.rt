@@ -58,12 +58,9 @@ pub fn rows_at(file: &[u8], s: Shelf, starts: &[u32], at: usize, out: &mut [u8])
     ensures { Put (used_rows (stock_of s file.now) starts.now)
         out.old at result out.new }
 {
-    let last = shelf_read::inner::last_of(file, s);
     let mut end = at;
-    let mut i = 1;
-    while i < last {
+    for i in 1..shelf_read::inner::last_of(file, s) {
         end = used_at(file, s, starts, i, end, out);
-        i += 1;
     }
     end
 }

@@ -7,24 +7,10 @@ ghost use Rattle.pack.specs.Layout.{trailer_bytes};
 ghost use Rattle.build.specs.Bytes.{counts_at_in, trailer_end};
 ghost use Rattle.build_trailer.specs.Room.{TrailerFits};
 
-use build_bytes::inner::word_at;
+use build_bytes::inner::{word_at, words_at};
 use label_pieces::inner::{byte_at, bytes_at};
 use pack_counts::inner::count_digits;
 use pack_read::NewestPack;
-
-// The ten counts.
-fn counts_at(of_digits: [usize; 10], at: usize, out: &mut [u8]) -> usize
-    requires { at + length (counts_bytes of_digits) ≤ length out.old }
-    ensures { Put (counts_bytes of_digits) out.old at result out.new }
-{
-    let mut end = at;
-    let mut digit = 0;
-    while digit < 10 {
-        end = word_at(of_digits[digit], end, out);
-        digit += 1;
-    }
-    end
-}
 
 // The outward code, the length of the pack, the counts and the edition.
 fn trailer_end_at(
@@ -40,7 +26,7 @@ fn trailer_end_at(
 {
     let i = bytes_at(code, at, out);
     let j = word_at(bytes, i, out);
-    let k = counts_at(of_digits, j, out);
+    let k = words_at(&of_digits, j, out);
     byte_at(NewestPack::EDITION, k, out)
 }
 

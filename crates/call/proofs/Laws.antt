@@ -3,13 +3,13 @@
 use Prim.Native.Nat.{ℕ}
 use mathlib.Core.Path.{◌≡◌, refl, ap, ◌∙◌}
 use mathlib.Core.List.{List}
-use Rattle.refusal.specs.declared.Answer.{Answer}
 use Rattle.refusal.specs.Outcome.{Outcome, said}
 use Rattle.refusal.specs.Packed.{packed}
 use Rattle.refusal.proofs.Outcomes.{answer-of, memory-of}
-use Rattle.run.specs.declared.Series.{Series}
 use Rattle.run.specs.Packed.{packed_series, series_bytes}
-use Rattle.call.specs.Call.{Called, called, reading, writing, running, told}
+use Rattle.call.specs.Call.{called, reading, writing, running, told}
+use Rattle.refusal.specs.Answer.{Answer}
+use Rattle.run.specs.Series.{Series}
 
 pub called-as : {m n b d : ℕ} {x y : List ℕ} → m ≡ n → x ≡ y → b ≡ d → called m x b ≡ called n y d
 called-as e f g = rw (e, f, g)

@@ -2,11 +2,8 @@
 -- do the demands.
 -- Assumes nothing.
 use Rattle.std.specs.Prelude.{ℕ, List}
-use Rattle.refusal.specs.declared.Answer.{Answer}
-use Rattle.refusal.specs.declared.Answer.TheVariants.{Value}
 use Rattle.refusal.specs.Outcome.{Outcome, said}
 use Rattle.refusal.specs.Packed.{packed}
-use Rattle.run.specs.declared.Series.{Series}
 use Rattle.run.specs.Packed.{packed_series, series_bytes}
 use Rattle.file_record.specs.Names.Table
 use Rattle.file_record.specs.Names.Point
@@ -36,6 +33,9 @@ use Rattle.mainfile_codes.specs.Codes as MainCodes
 use Rattle.book.specs.Book.{book_judged}
 use Rattle.book.specs.Event.{event_outcome, tidy_outcome}
 use Rattle.book_source.specs.Source.{book_of, book_live}
+use Rattle.std.specs.Prelude.{Ok}
+use Rattle.refusal.specs.Answer.{Answer}
+use Rattle.run.specs.Series.{Series}
 
 -- what is lent, of which labels are asked and packs are cut: a pair of Changes files, a Mainfile set, or a book and a table
 -- file; "A pack may be built from either source"; "Labels may be asked and packs built from a book and an accepted table file"
@@ -112,7 +112,7 @@ running o = said (run o.answer) o.memory
 
 -- a file that is lent to be rewritten where it stands: how many of its identifiers are, and the file then
 abbrev pub rewriting : (width identifier : ℕ) → List ℕ → Outcome Saying
-rewriting width identifier file = said (one (Value (unspaced_count width identifier file))) (unspaced width identifier file)
+rewriting width identifier file = said (one (Ok (unspaced_count width identifier file))) (unspaced width identifier file)
 
 -- what each comes to, `out` being the lent buffer at entry; of an event and of tidying it is the book
 abbrev pub outcome_of : Call → (out : List ℕ) → Outcome Saying

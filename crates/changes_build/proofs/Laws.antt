@@ -6,8 +6,6 @@ use mathlib.Core.Path.{◌≡◌, sym}
 use mathlib.Core.List.{List}
 use lib.ListN.{length}
 use Rattle.field_outward.specs.Outward.{outward_fault}
-use Rattle.refusal.specs.declared.Answer.TheVariants.{Value}
-use Rattle.refusal.specs.declared.Verdict.{Verdict}
 use Rattle.changes_views.specs.Views.{wanted_in, wanted_count}
 use Rattle.changes_source.specs.Rows.{table_stock}
 use Rattle.pack.specs.Names.{newest, point_width, trailer_width}
@@ -27,6 +25,8 @@ use Rattle.changes_build.specs.Build.{live_pack}
 use Rattle.changes_build.specs.Ready.{Judged, Marked}
 use Rattle.changes_build.proofs.Packed.{packed-length}
 use Rattle.changes_build.proofs.Said.{all_say, all-within, numbers-rise}
+use Rattle.std.specs.Prelude.{Ok}
+use Rattle.refusal.specs.Verdict.{Verdict}
 
 pub count-of : (code points : List ℕ) → wanted_count code points ≡ length (packed_in points code)
 unfolding wanted_count
@@ -78,7 +78,7 @@ module _ (table points code marks starts : List ℕ) (m : Marked table points co
   counted = laws.counted (packable table points code m.judged) (marked-whole m) p
 
 -- where both files are accepted
-pub judged : (table points code : List ℕ) {n : ℕ} → (pair_of table points).judged ≡ Value n → outward_fault code ≡ 0
+pub judged : (table points code : List ℕ) {n : ℕ} → (pair_of table points).judged ≡ Ok n → outward_fault code ≡ 0
     → Judged table points code
 judged table points code taken clean =
     record {

@@ -1,3 +1,4 @@
 pub mod Packed
 pub mod Said
 pub mod Laws
+pub mod Stopped

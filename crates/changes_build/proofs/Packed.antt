@@ -1,13 +1,16 @@
 -- The views of a code as they are packed: from one to the next, and where their texts lie.
 -- Assumes nothing.
-use Prim.Native.Nat.{ℕ, suc, ◌+◌, ◌≤◌, ◌<◌}
-use mathlib.Core.Path.{◌≡◌, refl, ap}
+use Prim.Native.Nat.{ℕ, suc, ◌+◌, ◌-◌, ◌≤◌, ◌<◌}
+use mathlib.Core.Path.{◌≡◌, refl, ap, ◌∙◌}
+use mathlib.Core.Bool.{true, false, cond}
 use mathlib.Core.List.{List, [], ◌∷◌}
 use native.Mathlib.Omega.{arith}
+use native.Mathlib.Numerals.{add-one}
 use lib.ListN.{length}
-use Rattle.changes_views.specs.Views.{next_wanted, places_from}
+use Rattle.file_record.specs.Parts.{record_at}
+use Rattle.changes_views.specs.Views.{wanted, wanted_in, places_from}
 use Rattle.changes_views.specs.Views as views
-use Rattle.changes_views.proofs.Laws.{places-start, places-step, places-end}
+use Rattle.changes_views.proofs.Laws.{places-end}
 use Rattle.source.specs.Delivery.{Within}
 use Rattle.changes_source.specs.Delivery.{delivery_at}
 use Rattle.changes_meaning.proofs.Says.{within-at}
@@ -19,12 +22,26 @@ abbrev pub packed_from : (points code : List ℕ) → ℕ → List Packed
 packed_from points code at = packed_all points (places_from code points at)
 
 module _ (points code : List ℕ) where
-  pub packed_start : packed_in points code ≡ packed_from points code (next_wanted code points 1)
-  packed_start = ap (packed_all points) (places-start code points)
+  pub packed_start : packed_in points code ≡ packed_from points code 1
+  unfolding wanted_in
+  packed_start = refl
 
-  pub packed_step : (i : ℕ) → next_wanted code points i ≡ i → i < views.last_of points
-      → packed_from points code i ≡ packed_at points i ∷ packed_from points code (next_wanted code points (i + 1))
-  packed_step i e h = ap (packed_all points) (places-step code points i e h)
+  step : (i : ℕ) → i < views.last_of points
+      → places_from code points i
+      ≡ cond (wanted code (record_at 168 points i)) (i ∷ places_from code points (i + 1)) (places_from code points (i + 1))
+  step i h = rw (let k : views.last_of points - i ≡ suc (views.last_of points - suc i) = omega arith in k) (simp (add-one i))
+
+  pub packed_wanted : (i : ℕ) → i < views.last_of points → wanted code (record_at 168 points i) ≡ true
+      → packed_from points code i ≡ packed_at points i ∷ packed_from points code (i + 1)
+  packed_wanted i h e =
+      let on : places_from code points i ≡ i ∷ places_from code points (i + 1) = step i h ∙ rw e in
+      ap (packed_all points) on
+
+  pub packed_other : (i : ℕ) → i < views.last_of points → wanted code (record_at 168 points i) ≡ false
+      → packed_from points code i ≡ packed_from points code (i + 1)
+  packed_other i h e =
+      let on : places_from code points i ≡ places_from code points (i + 1) = step i h ∙ rw e in
+      ap (packed_all points) on
 
   pub packed-end : (i : ℕ) → views.last_of points ≤ i → packed_from points code i ≡ []
   packed-end i h = ap (packed_all points) (places-end code points i h)

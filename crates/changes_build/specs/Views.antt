@@ -1,8 +1,6 @@
 -- The views of a code, as they are packed.
 -- Assumes nothing.
 use Rattle.std.specs.Prelude.{ℕ, ◌≡◌, List, [], ◌∷◌}
-use Rattle.refusal.specs.declared.Verdict.{Verdict}
-use Rattle.refusal.specs.declared.Verdict.TheVariants.{Fine}
 use Rattle.file.specs.Formats.{table_format, point_format}
 use Rattle.file.specs.Accepted.{Accepted}
 use Rattle.changes_views.specs.Views.{wanted_in, view_number}
@@ -10,6 +8,7 @@ use Rattle.changes_source.specs.Rows.{table_shelf, table_stock}
 use Rattle.changes_source.specs.Delivery.{delivery_at}
 use Rattle.shelf.specs.Search.{Filled}
 use Rattle.build.specs.Plan.{Packed, first_refused, mark_all}
+use Rattle.refusal.specs.Verdict.{Verdict, fine}
 
 -- the view at a place, with its number
 abbrev pub packed_at : List ℕ → ℕ → Packed
@@ -32,4 +31,4 @@ pub record Known (table refs points : List ℕ) : Type 0 where
 -- what marking says, and the marks that it leaves: all that the views refer to, where none is refused
 pub record MarksViews (table points code marks : List ℕ) (v : Verdict) (marked : List ℕ) : Type 0 where
   pub said : v ≡ first_refused (table_stock table) (packed_in points code)
-  pub marks_all : v ≡ Fine → marked ≡ mark_all (table_stock table) (packed_in points code) marks
+  pub marks_all : v ≡ fine → marked ≡ mark_all (table_stock table) (packed_in points code) marks

@@ -17,7 +17,7 @@ ghost use Rattle.changes_build.specs.Ready.{Judged, Marked};
 ghost use Rattle.changes_build.specs.Views.{Known};
 
 use pack_read::NewestPack;
-use refusal::{Answer, Reason, Verdict};
+use refusal::{Answer, Reason};
 
 // The most records of a table file.
 const RECORDS: usize = 20000;
@@ -41,13 +41,10 @@ fn write_if_room(
     let count = changes_views::count_wanted(points, code);
     let needed = of_table.bytes + of_points.bytes + NewestPack::POINT * count + NewestPack::TRAILER;
     if out.len() < needed {
-        return Answer::Refused {
-            file: 0,
-            reason: Reason::Room { needed },
-        };
+        return Err(Reason::Room { needed }.into());
     }
     let rows = of_table.rows + of_points.rows;
-    Answer::Value(whole::write_pack(table, refs, points, starts, code, rows, count, out))
+    Ok(whole::write_pack(table, refs, points, starts, code, rows, count, out))
 }
 
 // The pack of a code from files that are accepted.
@@ -59,10 +56,8 @@ fn cut(table: &[u8], points: &[u8], code: &[u8], out: &mut [u8]) -> Answer
     let mut refs = [0u32; RECORDS];
     shelf_find::inner::fill_refs(table, changes_source::table_shelf(), &mut refs);
     let mut starts = [0u32; RECORDS];
-    match walks::mark_views(table, &refs, points, code, &mut starts) {
-        Verdict::Fine => write_if_room(table, &refs, points, code, &mut starts, out),
-        Verdict::Bad(reason) => Answer::Refused { file: 0, reason },
-    }
+    walks::mark_views(table, &refs, points, code, &mut starts)?;
+    write_if_room(table, &refs, points, code, &mut starts, out)
 }
 
 // The pack of a code, for any bytes given as files and code.
@@ -70,16 +65,9 @@ pub fn build_pack(table: &[u8], points: &[u8], code: &[u8], out: &mut [u8]) -> A
     ensures { said result out.new
         ≡ pack_built (pair_of table.now points.now) code.now out.old }
 {
-    match changes_label::check_pair(table, points) {
-        Answer::Value(_) => {
-            if field_outward::outward_fault(code) != 0 {
-                return Answer::Refused {
-                    file: 0,
-                    reason: Reason::BadCode,
-                };
-            }
-            cut(table, points, code, out)
-        }
-        Answer::Refused { file, reason } => Answer::Refused { file, reason },
+    changes_label::check_pair(table, points)?;
+    if field_outward::outward_fault(code) != 0 {
+        return Err(Reason::BadCode.into());
     }
+    cut(table, points, code, out)
 }

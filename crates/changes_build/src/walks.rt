@@ -7,11 +7,13 @@ ghost use Rattle.build.specs.Plan.{organisation_rows, organisation_count};
 ghost use Rattle.build.specs.Bytes.{points_in};
 ghost use Rattle.changes_build.specs.Views.{packed_in, Known, MarksViews};
 
+use build_mark::inner::mark_point;
 use build_place::inner::{Sums, one_if, organisation_len};
 use build_points::inner::{key_offsets, point_at};
 use changes_source::{delivery_at, organisation_place, organised_at, table_shelf};
-use changes_views::{last_of, next_wanted};
-use refusal::Verdict;
+use changes_views::{is_wanted, last_of, number_at};
+use file_record::point_record;
+use refusal::{Verdict, with_view};
 use shelf_find::inner::rows_by;
 
 // The first refusal of the packed views; where there is none, all their rows are marked.
@@ -26,23 +28,17 @@ pub fn mark_views(
     ensures { MarksViews table.now points.now code.now marks.old result
         marks.new }
 {
-    let last = last_of(points);
     let s = table_shelf();
-    let mut at = next_wanted(points, code, 1);
-    while at < last {
-        let p = delivery_at(points, at);
+    for place in 1..last_of(points) {
+        if !is_wanted(point_record(points, place), code) {
+            continue;
+        }
+        let p = delivery_at(points, place);
         let keys = p.keys;
         let found = rows_by(table, s, refs, keys);
-        match build_mark::inner::mark_point(p, found, marks) {
-            Verdict::Fine => {}
-            Verdict::Bad(why) => {
-                let view = changes_views::number_at(points, at);
-                return Verdict::Bad(refusal::with_view(why, view));
-            }
-        }
-        at = next_wanted(points, code, at + 1);
+        mark_point(p, found, marks).map_err(|why| with_view(why, number_at(points, place)))?;
     }
-    Verdict::Fine
+    Ok(())
 }
 
 // The organisations of the packed views: how many rows, in how many bytes.
@@ -51,15 +47,15 @@ pub fn organisations_in(points: &[u8], code: &[u8]) -> Sums
     ensures bytes { result.bytes
         ≡ length (organisation_rows points.now (packed_in points.now code.now)) }
 {
-    let last = last_of(points);
     let mut rows = 0;
     let mut bytes = 0;
-    let mut at = next_wanted(points, code, 1);
-    while at < last {
-        let there = organised_at(points, at);
+    for place in 1..last_of(points) {
+        if !is_wanted(point_record(points, place), code) {
+            continue;
+        }
+        let there = organised_at(points, place);
         rows += one_if(there);
-        bytes += organisation_len(points, there, organisation_place(points, at));
-        at = next_wanted(points, code, at + 1);
+        bytes += organisation_len(points, there, organisation_place(points, place));
     }
     Sums { rows, bytes }
 }
@@ -70,14 +66,14 @@ pub fn organisations_at(points: &[u8], code: &[u8], at: usize, out: &mut [u8]) -
     ensures { Put (organisation_rows points.now (packed_in points.now code.now))
         out.old at result out.new }
 {
-    let last = last_of(points);
     let mut end = at;
-    let mut place = next_wanted(points, code, 1);
-    while place < last {
+    for place in 1..last_of(points) {
+        if !is_wanted(point_record(points, place), code) {
+            continue;
+        }
         let there = organised_at(points, place);
         let texts = organisation_place(points, place);
         end = build_rows::inner::organisation_at(points, there, texts, end, out);
-        place = next_wanted(points, code, place + 1);
     }
     end
 }
@@ -101,12 +97,13 @@ pub fn points_at(
         starts.now start (packed_in points.now code.now)) out.old at result
         out.new }
 {
-    let last = last_of(points);
     let s = table_shelf();
     let mut row = start;
     let mut end = at;
-    let mut place = next_wanted(points, code, 1);
-    while place < last {
+    for place in 1..last_of(points) {
+        if !is_wanted(point_record(points, place), code) {
+            continue;
+        }
         let p = delivery_at(points, place);
         let keys = p.keys;
         let found = rows_by(table, s, refs, keys);
@@ -114,7 +111,6 @@ pub fn points_at(
         let offsets = key_offsets(starts, keys, rows);
         end = point_at(points, p, offsets, row, end, out);
         row += organisation_len(points, p.organised, p.organisation);
-        place = next_wanted(points, code, place + 1);
     }
     end
 }

@@ -6,8 +6,6 @@ use mathlib.Core.Path.{◌≡◌, refl, ◌∙◌}
 use mathlib.Core.List.{List, ◌++◌}
 use native.Mathlib.Omega.{arith}
 use lib.ListN.{length, drop}
-use Rattle.refusal.specs.declared.Answer.{Answer}
-use Rattle.refusal.specs.declared.Answer.TheVariants.{Value, Refused}
 use Rattle.refusal.proofs.Answers.{refused-value}
 use Rattle.file.specs.Check.{checked}
 use Rattle.file.specs.Formats.{point_format}
@@ -22,6 +20,8 @@ use Rattle.changes_codes.specs.Codes.{all_codes, codes_in, codes_outcome}
 use Rattle.changes_codes.specs.Told.{Told}
 use Rattle.changes_codes.proofs.Gathered.{all-few}
 use Rattle.changes_codes.proofs.Told.{codes-told}
+use Rattle.std.specs.Prelude.{Ok, Err}
+use Rattle.refusal.specs.Answer.{Answer, refusal}
 
 -- no more codes than live views
 pub entries-few : (points : List ℕ) → Accepted point_format points → length (codes_in points) ≤ 20_000
@@ -34,24 +34,24 @@ pub record Answered (points out : List ℕ) (n : ℕ) : Type 0 where
   pub told : Told points (codes_in points)
 
 module _ (points out : List ℕ) where
-  pub answered : (n : ℕ) → (codes_outcome points out).answer ≡ Value n → Answered points out n
+  pub answered : (n : ℕ) → (codes_outcome points out).answer ≡ Ok n → Answered points out n
   unfolding codes_outcome
   answered n e = by_answer (checked point_format points) refl e
     where
       by_answer : (first : Answer) → checked point_format points ≡ first
-          → (afterwards Refused first out (entries_outcome (codes_in points) out)).answer ≡ Value n
+          → (afterwards refusal first out (entries_outcome (codes_in points) out)).answer ≡ Ok n
           → Answered points out n
-      by_answer (Value m) h e =
+      by_answer (Ok m) h e =
           let a = accepted point_format points m h in
           let w = entries-written (codes_in points) out n e in
           record { is-accepted = a; many = w.0; written = simp h w.1; told = codes-told points a }
-      by_answer (Refused file why) h e = absurd (refused-value file n why e)
+      by_answer (Err r) h e = absurd (refused-value r.file n r.reason e)
 
   -- an accepted file and room enough are answered with a value
   pub answers : Accepted point_format points → 8 * length (codes_in points) ≤ length out
-      → (codes_outcome points out).answer ≡ Value (length (codes_in points))
+      → (codes_outcome points out).answer ≡ Ok (length (codes_in points))
   unfolding codes_outcome
   answers a room =
       answer-of
-      (afterwards-value Refused out _ (accepts point_format points a)
+      (afterwards-value refusal out _ (accepts point_format points a)
       ∙ fits (length (codes_in points)) (entry_bytes (codes_in points)) out (omega (arith, entries-long (codes_in points))))

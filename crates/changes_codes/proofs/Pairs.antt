@@ -1,11 +1,11 @@
 -- Entries in two lists, as bytes.
 -- Assumes nothing.
-use Prim.Native.Nat.{ℕ, ◌+◌, ◌*◌, ◌≤◌, ◌<◌}
+use Prim.Native.Nat.{ℕ, ◌+◌, ◌*◌, ◌<◌}
 use mathlib.Core.Path.{◌≡◌, refl, ap}
 use mathlib.Core.List.{List, [], ◌∷◌, ◌++◌}
 use native.Mathlib.Omega.{arith}
 use native.Mathlib.Numerals.{add-one}
-use lib.ListN.{length, get_or, drop, drop_of_length-le}
+use lib.ListN.{length, get_or, drop}
 use lib.Seq.{drop-cons}
 use Rattle.tally.specs.Tally.{Entry, codes, counts}
 use Rattle.tally_bytes.specs.Entries.{one_entry, entry_bytes}
@@ -27,6 +27,3 @@ pub pairs-on : (cs ns : List ℕ) (i : ℕ) → length ns ≡ length cs → i < 
     → pair_bytes (drop i cs) (drop i ns)
     ≡ one_entry (get_or cs i 0) (get_or ns i 0) ++ pair_bytes (drop (i + 1) cs) (drop (i + 1) ns)
 pairs-on cs ns i e h = rw (add-one i, drop-cons cs i 0 h, drop-cons ns i 0 (omega arith)) refl
-
-pub pairs_end : (cs ns : List ℕ) (i : ℕ) → length cs ≤ i → pair_bytes (drop i cs) (drop i ns) ≡ []
-pairs_end cs ns i h = rw (drop_of_length-le cs {i = i} h) refl

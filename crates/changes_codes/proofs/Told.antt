@@ -14,7 +14,6 @@ use Rattle.field_outward.proofs.Codes.{not-four}
 use Rattle.file_record.specs.Parts.{record_at}
 use Rattle.file_fault.proofs.Passing.{point-passes}
 use Rattle.refusal.specs.declared.Reason.TheVariants.{BadCode}
-use Rattle.refusal.specs.declared.Answer.TheVariants.{Value, Refused}
 use Rattle.file.specs.Formats.{point_format}
 use Rattle.file.specs.Accepted.{Accepted}
 use Rattle.file.proofs.Accepted.{accepts}
@@ -28,6 +27,8 @@ use Rattle.tally_bytes.proofs.Tells.{tally-tells}
 use Rattle.changes_codes.specs.Codes.{code_of, live_codes, all_codes, codes_in}
 use Rattle.changes_codes.specs.Told.{Told}
 use Rattle.changes_codes.proofs.Gathered.{all-few}
+use Rattle.std.specs.Prelude.{Ok}
+use Rattle.refusal.specs.Answer.{refusal}
 
 module _ (points : List ℕ) (a : Accepted point_format points) where
   -- the outward code of each record is well formed
@@ -107,7 +108,7 @@ module _ (points : List ℕ) (a : Accepted point_format points) where
 
   -- what `ttw_live` answers for a code
   live-asked : (code : List ℕ)
-      → live_answer points code ≡ cond (eqb (outward_fault code) 0) (Value (wanted_count code points)) (Refused 0 BadCode)
+      → live_answer points code ≡ cond (eqb (outward_fault code) 0) (Ok (wanted_count code points)) (refusal 0 BadCode)
   unfolding live_answer live_at
   live-asked code = simp (accepts point_format points a)
 

@@ -4,8 +4,6 @@
 use Rattle.std.specs.Prelude.{ℕ, cond, List, [], ◌∷◌, ◌++◌}
 use Rattle.file_record.specs.Parts.{record_at}
 use Rattle.file_record.specs.Names.Point
-use Rattle.refusal.specs.declared.Answer.{Answer}
-use Rattle.refusal.specs.declared.Answer.TheVariants.{Refused}
 use Rattle.refusal.specs.Outcome.{Outcome, afterwards}
 use Rattle.file.specs.Check.{checked}
 use Rattle.file.specs.Formats.{point_format}
@@ -13,6 +11,7 @@ use Rattle.changes_views.specs.Views.{is_live, wanted_in}
 use Rattle.pack.specs.Numbers.{number_at}
 use Rattle.tally.specs.Tally.{Entry, tally}
 use Rattle.tally_bytes.specs.Entries.{one_entry, entries_outcome}
+use Rattle.refusal.specs.Answer.{Answer, refusal}
 
 -- the outward code of a record, as the number of its four bytes, "most significant first": so the order of codes as bytes is
 -- the order of their numbers
@@ -43,4 +42,4 @@ pair_bytes (c ∷ cs) (n ∷ ns) = one_entry c n ++ pair_bytes cs ns
 
 -- "refusals 1 to 6, then 10": the file's own first
 unfoldable pub codes_outcome : (points out : List ℕ) → Outcome Answer
-codes_outcome points out = afterwards Refused (checked point_format points) out (entries_outcome (codes_in points) out)
+codes_outcome points out = afterwards refusal (checked point_format points) out (entries_outcome (codes_in points) out)

@@ -17,10 +17,8 @@ fn write_entries(codes: &[u32], counts: &[u32], out: &mut [u8]) -> usize
         out.new }
 {
     let mut at = 0;
-    let mut i = 0;
-    while i < codes.len() {
-        at = entry_at(codes[i] as usize, counts[i] as usize, at, out);
-        i += 1;
+    for (&code, &count) in codes.iter().zip(counts) {
+        at = entry_at(code as usize, count as usize, at, out);
     }
     at
 }
@@ -33,11 +31,8 @@ pub fn write_if_room(codes: &[u32], counts: &[u32], out: &mut [u8]) -> Answer
 {
     let needed = Entry::WIDTH * codes.len();
     if out.len() < needed {
-        return Answer::Refused {
-            file: 0,
-            reason: Reason::Room { needed },
-        };
+        return Err(Reason::Room { needed }.into());
     }
     write_entries(codes, counts, out);
-    Answer::Value(codes.len())
+    Ok(codes.len())
 }

@@ -34,8 +34,6 @@ fn list_codes(points: &[u8], out: &mut [u8]) -> Answer
 pub fn codes_in(points: &[u8], out: &mut [u8]) -> Answer
     ensures { said result out.new ≡ codes_outcome points.now out.old }
 {
-    match file_check::check_points(points) {
-        Answer::Value(_) => list_codes(points, out),
-        Answer::Refused { file, reason } => Answer::Refused { file, reason },
-    }
+    file_check::check_points(points)?;
+    list_codes(points, out)
 }

@@ -6,9 +6,7 @@ use mathlib.Core.Bool.{Bool, true, false}
 use mathlib.Core.List.{List, []}
 use borrow.Author.Tests.{eqb-true, eqb-false}
 use lib.Dec.{eqb}
-use Rattle.refusal.specs.declared.Answer.TheVariants.{Value, Refused}
 use Rattle.refusal.proofs.Outcomes.{afterwards-value}
-use Rattle.run.specs.declared.Series.TheVariants.{Unasked}
 use Rattle.run.specs.Series.{run_from}
 use Rattle.run.proofs.Same.{same-run}
 use Rattle.changes_views.specs.Views.{wanted_in, wanted_at}
@@ -21,6 +19,8 @@ use Rattle.changes_label.proofs.Laws.{counted}
 use Rattle.csv_paf.specs.Row.{kth_row, view_row, view_rows}
 use Rattle.csv_write.proofs.Placed.{Alike, placed-none, placed-kth}
 use Rattle.changes_csv.specs.Rows.{rows_asked}
+use Rattle.std.specs.Prelude.{Ok}
+use Rattle.refusal.specs.Answer.{refusal}
 
 -- what is written of an address does not look at its number
 number-alike : (points : List ℕ) (n m place : ℕ) → Alike (address_at points n place) (address_at points m place)
@@ -47,16 +47,16 @@ place-is-kth table points k out = by-test (eqb (wanted_at [] points k) 0) refl
         (number-alike points 0 _ place) (resolve-number (table_lookup table) points 0 _ place)
 
 -- where both files are accepted, asking by number is asking by place
-module _ (table points : List ℕ) {n : ℕ} (taken : (pair_of table points).judged ≡ Value n) where
+module _ (table points : List ℕ) {n : ℕ} (taken : (pair_of table points).judged ≡ Ok n) where
   pub row-by-place : (k : ℕ) (out : List ℕ) → rows_asked table points k out ≡ view_row (pair_of table points) k out
   unfolding view_row
   row-by-place k out =
       place-is-kth table points k out
       ∙ (ap (λ views. kth_row (table_lookup table) views k out) (sym (all-views points))
-      ∙ sym (afterwards-value Refused out _ taken))
+      ∙ sym (afterwards-value refusal out _ taken))
 
   pub rows-by-place : (first count : ℕ) (out : List ℕ)
       → run_from (rows_asked table points) first count out ≡ view_rows (pair_of table points) first count out
   unfolding view_rows
   rows-by-place first count out =
-      same-run _ _ row-by-place count first out ∙ sym (afterwards-value Unasked out _ taken)
+      same-run _ _ row-by-place count first out ∙ sym (afterwards-value refusal out _ taken)

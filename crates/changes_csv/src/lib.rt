@@ -17,13 +17,9 @@ pub fn row_of_view<'a>(table: &'a [u8], points: &'a [u8], view: usize, out: &mut
     ensures { said result out.new
         ≡ view_row (pair_of table.now points.now) view out.old }
 {
-    match changes_label::check_pair(table, points) {
-        Answer::Value(_) => {
-            let place = changes_views::wanted_at(points, &points[..0], view);
-            row_at(table, points, place, out)
-        }
-        Answer::Refused { file, reason } => Answer::Refused { file, reason },
-    }
+    changes_label::check_pair(table, points)?;
+    let place = changes_views::wanted_at(points, &points[..0], view);
+    row_at(table, points, place, out)
 }
 
 // So many rows from a view on.
@@ -37,8 +33,6 @@ pub fn rows_of_views<'a>(
     ensures { said result out.new
         ≡ view_rows (pair_of table.now points.now) first count out.old }
 {
-    match changes_label::check_pair(table, points) {
-        Answer::Value(_) => run_rows(table, points, first, count, out),
-        Answer::Refused { file, reason } => Series::Unasked { file, reason },
-    }
+    changes_label::check_pair(table, points)?;
+    run_rows(table, points, first, count, out)
 }

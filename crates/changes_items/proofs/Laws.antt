@@ -12,8 +12,6 @@ use lib.ListN.{length, take, drop}
 use Rattle.file_record.specs.Parts.{record_at}
 use Rattle.field_outward.specs.Outward.{outward_fault}
 use Rattle.refusal.specs.declared.Reason.TheVariants.{NoSuchNumber}
-use Rattle.refusal.specs.declared.Answer.{Answer}
-use Rattle.refusal.specs.declared.Answer.TheVariants.{Value, Refused}
 use Rattle.refusal.specs.Outcome.{Outcome, said}
 use Rattle.refusal.proofs.Answers.{refused-value}
 use Rattle.refusal.proofs.Outcomes.{answer-of, afterwards-value}
@@ -24,7 +22,6 @@ use Rattle.label.proofs.Room.{room_within}
 use Rattle.item.specs.Item.{resolved_text, item_outcome}
 use Rattle.item_write.specs.Headed.{before, headed, Small}
 use Rattle.item_write.proofs.Headed.{item-over, none_over, item-small, none-small, telling, bounded}
-use Rattle.run.specs.declared.Series.TheVariants.{Unasked}
 use Rattle.run.specs.Series.{run_from}
 use Rattle.run.proofs.Same.{same-run}
 use Rattle.changes_views.specs.Views.{last_of, wanted, wanted_in, wanted_at, next_wanted, view_number}
@@ -43,11 +40,13 @@ use Rattle.changes_label.specs.Places.{resolved_at, place_label, ViewPlace}
 use Rattle.changes_label.proofs.Laws.{no_place, some-place, label-fits, counted}
 use Rattle.changes_runs.specs.Runs.{place_behind}
 use Rattle.changes_items.specs.Items.{line_at, place_item, places_listed, Numbered}
+use Rattle.std.specs.Prelude.{Ok}
+use Rattle.refusal.specs.Answer.{Answer, refusal}
 
 -- ---- one place
 
 module _ (table points : List ℕ) (place : ℕ) (heading out : List ℕ) where
-  no_item : place ≡ 0 → place_item table points place heading out ≡ said (Refused 0 NoSuchNumber) out
+  no_item : place ≡ 0 → place_item table points place heading out ≡ said (refusal 0 NoSuchNumber) out
   unfolding place_item
   no_item e = rw (eq-eqb place 0 e)
 
@@ -58,7 +57,7 @@ module _ (table points : List ℕ) (place : ℕ) (heading out : List ℕ) where
   some_item some = rw (ne_eqb place 0 some)
 
   -- an item that is answered with its bytes is a view's, and fits
-  module _ (b : ℕ) (e : (place_item table points place heading out).answer ≡ Value b) where
+  module _ (b : ℕ) (e : (place_item table points place heading out).answer ≡ Ok b) where
     pub item-some : place ≡ 0 → ⊥
     item-some z = refused-value 0 b NoSuchNumber (sym (answer-of (no_item z)) ∙ e)
 
@@ -174,7 +173,7 @@ place-is-kth table points code k out = by-test (eqb place 0) refl
         ∙ sym (ap of (kth-there points code k r.0 r.1))))
 
 -- where both files are accepted, asking by number is asking by place
-module _ (table points : List ℕ) {n : ℕ} (taken : (pair_of table points).judged ≡ Value n) where
+module _ (table points : List ℕ) {n : ℕ} (taken : (pair_of table points).judged ≡ Ok n) where
   abbrev line : Address → List ℕ
   line = (pair_of table points).heading
 
@@ -185,7 +184,7 @@ module _ (table points : List ℕ) {n : ℕ} (taken : (pair_of table points).jud
   view-item k out =
       place-is-kth table points [] k out
       ∙ (ap (λ (views : List Address). kth_item (headings line views) (table_lookup table) views k out) (sym (all-views points))
-      ∙ sym (afterwards-value Refused out _ taken))
+      ∙ sym (afterwards-value refusal out _ taken))
 
   code-item : (code : List ℕ) → outward_fault code ≡ 0 → (k : ℕ) (out : List ℕ)
       → places_listed table points code k out
@@ -195,17 +194,17 @@ module _ (table points : List ℕ) {n : ℕ} (taken : (pair_of table points).jud
       place-is-kth table points code k out
       ∙ (ap (λ (views : List Address). kth_item (headings line views) (table_lookup table) views k out)
       (sym (live-views points code clean))
-      ∙ sym (by-good-code Refused code out _ (pair_of table points) taken clean))
+      ∙ sym (by-good-code refusal code out _ (pair_of table points) taken clean))
 
   module _ (first count : ℕ) (out : List ℕ) where
     pub views-by-place : run_from (places_listed table points []) first count out
         ≡ views_list (pair_of table points) first count out
     unfolding views_list views_listed
-    views-by-place = same-run _ _ view-item count first out ∙ sym (afterwards-value Unasked out _ taken)
+    views-by-place = same-run _ _ view-item count first out ∙ sym (afterwards-value refusal out _ taken)
 
     pub in-code-by-place : (code : List ℕ) → outward_fault code ≡ 0
         → run_from (places_listed table points code) first count out ≡ code_list (pair_of table points) code first count out
     unfolding code_list code_listed
     in-code-by-place code clean =
         same-run _ _ (code-item code clean) count first out
-        ∙ sym (by-good-code Unasked code out _ (pair_of table points) taken clean)
+        ∙ sym (by-good-code refusal code out _ (pair_of table points) taken clean)

@@ -4,8 +4,6 @@ use Rattle.std.specs.Prelude.{ℕ, ◌≡◌, cond, List, ◌++◌, eqb, get_or}
 use Rattle.file_record.specs.Parts.{record_at}
 use Rattle.file_record.specs.Names.Point
 use Rattle.refusal.specs.declared.Reason.TheVariants.{NoSuchNumber}
-use Rattle.refusal.specs.declared.Answer.{Answer}
-use Rattle.refusal.specs.declared.Answer.TheVariants.{Refused}
 use Rattle.refusal.specs.Outcome.{Outcome, said}
 use Rattle.label.specs.Label.{room_outcome}
 use Rattle.item.specs.Lines.{view_line}
@@ -13,6 +11,7 @@ use Rattle.item.specs.Item.{resolved_text}
 use Rattle.run.specs.Series.{Asking}
 use Rattle.changes_views.specs.Views.{wanted_at, view_number}
 use Rattle.changes_label.specs.Places.{resolved_at}
+use Rattle.refusal.specs.Answer.{Answer, refusal}
 
 -- "the line `view N L`" of the view at a place
 abbrev pub line_at : (points : List ℕ) → (view place : ℕ) → List ℕ
@@ -21,7 +20,7 @@ line_at points view place = view_line view (get_or (record_at Point.width points
 -- its item under a heading; "7 where no such view is left"
 unfoldable pub place_item : (table points : List ℕ) → (place : ℕ) → (heading : List ℕ) → List ℕ → Outcome Answer
 place_item table points place heading out =
-    cond (eqb place 0) (said (Refused 0 NoSuchNumber) out)
+    cond (eqb place 0) (said (refusal 0 NoSuchNumber) out)
     (room_outcome (heading ++ resolved_text (resolved_at table points place)) out)
 
 -- an item by its number among those that are wanted

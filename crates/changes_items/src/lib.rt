@@ -9,7 +9,7 @@ ghost use Rattle.ask.specs.Lists.{views_list, code_list};
 ghost use Rattle.changes_pair.specs.Pair.{pair_of};
 
 use places::list_places;
-use refusal::{Answer, Reason};
+use refusal::Reason;
 use run::Series;
 
 // So many views from one on.
@@ -23,10 +23,8 @@ pub fn list_of_views<'a>(
     ensures { said result out.new
         ≡ views_list (pair_of table.now points.now) first count out.old }
 {
-    match changes_label::check_pair(table, points) {
-        Answer::Value(_) => list_places(table, points, &points[..0], first, count, out),
-        Answer::Refused { file, reason } => Series::Unasked { file, reason },
-    }
+    changes_label::check_pair(table, points)?;
+    list_places(table, points, &points[..0], first, count, out)
 }
 
 // So many live views of a code from the k-th on.
@@ -41,16 +39,9 @@ pub fn list_in_code<'a>(
     ensures { said result out.new ≡ code_list (pair_of table.now points.now)
         code.now first count out.old }
 {
-    match changes_label::check_pair(table, points) {
-        Answer::Value(_) => {
-            if field_outward::outward_fault(code) != 0 {
-                return Series::Unasked {
-                    file: 0,
-                    reason: Reason::BadCode,
-                };
-            }
-            list_places(table, points, code, first, count, out)
-        }
-        Answer::Refused { file, reason } => Series::Unasked { file, reason },
+    changes_label::check_pair(table, points)?;
+    if field_outward::outward_fault(code) != 0 {
+        return Err(Reason::BadCode.into());
     }
+    list_places(table, points, code, first, count, out)
 }

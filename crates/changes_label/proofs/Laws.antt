@@ -1,6 +1,6 @@
 -- Laws of labels asked of a pair of files: the views by their places.
 -- Assumes nothing.
-use Prim.Native.Nat.{ℕ, zero, suc, ◌≤◌, ◌<◌}
+use Prim.Native.Nat.{ℕ, zero, suc, ◌≤◌}
 use mathlib.Core.Path.{◌≡◌, refl, sym, ap, ap₂, ◌∙◌}
 use mathlib.Core.Bool.{Bool, true, false}
 use mathlib.Core.List.{List, []}
@@ -9,9 +9,7 @@ use borrow.Author.Tests.{eq-eqb, ne_eqb, eqb-true, eqb-false, leb-true, leb-fals
 use lib.Dec.{eqb, leb}
 use lib.ListN.{length}
 use Rattle.field_outward.specs.Outward.{outward_fault}
-use Rattle.refusal.specs.declared.Reason.{Reason}
 use Rattle.refusal.specs.declared.Reason.TheVariants.{NoSuchNumber}
-use Rattle.refusal.specs.declared.Answer.TheVariants.{Value, Refused}
 use Rattle.refusal.specs.Outcome.{said}
 use Rattle.refusal.proofs.Answers.{refused-value}
 use Rattle.refusal.proofs.Outcomes.{answer-of, afterwards-value, Both, both_values}
@@ -22,10 +20,9 @@ use Rattle.file.proofs.Accepted.{accepted}
 use Rattle.changes_views.specs.Views.{wanted_in, wanted_count, wanted_at}
 use Rattle.changes_views.proofs.Laws.{wanted-at-wanted, wanted-at-zero, wanted-at-none}
 use Rattle.source.specs.declared.DeliveryPoint.{DeliveryPoint}
-use Rattle.source.specs.Address.{Elements}
 use Rattle.source.specs.Delivery.{asked_of, rows_for}
 use Rattle.source.specs.Resolve.{Resolved, elements, refused, elements_of}
-use Rattle.label.specs.Label.{label_of, room_outcome, resolved_outcome}
+use Rattle.label.specs.Label.{label_of, resolved_outcome}
 use Rattle.label.proofs.Room.{room_within}
 use Rattle.label.proofs.Bounds.{at-most-499}
 use Rattle.ask.specs.Labels.{kth, kth_label, label_outcome, view_label, code_label}
@@ -36,16 +33,18 @@ use Rattle.source_spans.specs.Spans.{elements_by}
 use Rattle.changes_source.specs.Rows.{table_shelf, table_lookup}
 use Rattle.changes_source.specs.Addresses.{address_at}
 use Rattle.changes_source.specs.Delivery.{delivery_at}
-use Rattle.changes_pair.specs.Live.{view_at, views_at}
+use Rattle.changes_pair.specs.Live.{views_at}
 use Rattle.changes_pair.specs.Pair.{pair_of}
 use Rattle.changes_pair.proofs.Live.{all-views, live-views, kth-there, kth-missing, resolve-number}
 use Rattle.changes_meaning.proofs.Meant.{rows_at, address-fits}
 use Rattle.changes_label.specs.Places.{resolved_at, place_label, ViewPlace}
+use Rattle.std.specs.Prelude.{Ok}
+use Rattle.refusal.specs.Answer.{refusal}
 
 -- ---- one place
 
 module _ (table points : List ℕ) (place : ℕ) (out : List ℕ) where
-  pub no_place : place ≡ 0 → place_label table points place out ≡ said (Refused 0 NoSuchNumber) out
+  pub no_place : place ≡ 0 → place_label table points place out ≡ said (refusal 0 NoSuchNumber) out
   unfolding place_label
   no_place e = rw (eq-eqb place 0 e)
 
@@ -55,7 +54,7 @@ module _ (table points : List ℕ) (place : ℕ) (out : List ℕ) where
   some-place some r e = rw (ne_eqb place 0 some) (ap (λ (r : Resolved). resolved_outcome r out) e)
 
   -- a label that is answered with its bytes is a view's, and fits
-  module _ (b : ℕ) (e : (place_label table points place out).answer ≡ Value b) where
+  module _ (b : ℕ) (e : (place_label table points place out).answer ≡ Ok b) where
     pub place-some : place ≡ 0 → ⊥
     place-some z = refused-value 0 b NoSuchNumber (sym (answer-of (no_place z)) ∙ e)
 
@@ -130,7 +129,7 @@ place-is-kth table points code k out = by-test (eqb (wanted_at code points k) 0)
 
 -- ---- both files together
 
-module _ (table points : List ℕ) {n : ℕ} (taken : (pair_of table points).judged ≡ Value n) where
+module _ (table points : List ℕ) {n : ℕ} (taken : (pair_of table points).judged ≡ Ok n) where
   both : Both (checked table_format table) (checked point_format points)
   both = both_values (checked table_format table) (checked point_format points) taken
 
@@ -146,7 +145,7 @@ module _ (table points : List ℕ) {n : ℕ} (taken : (pair_of table points).jud
     view-by-place =
         place-is-kth table points [] k out
         ∙ (ap (λ views. kth_label (table_lookup table) views k out) (sym (all-views points))
-        ∙ sym (afterwards-value Refused out _ taken))
+        ∙ sym (afterwards-value refusal out _ taken))
 
     pub code-by-place : (code : List ℕ) → outward_fault code ≡ 0
         → place_label table points (wanted_at code points k) out ≡ code_label (pair_of table points) code k out
@@ -154,4 +153,4 @@ module _ (table points : List ℕ) {n : ℕ} (taken : (pair_of table points).jud
     code-by-place code clean =
         place-is-kth table points code k out
         ∙ (ap (λ views. kth_label (table_lookup table) views k out) (sym (live-views points code clean))
-        ∙ sym (by-good-code Refused code out _ (pair_of table points) taken clean))
+        ∙ sym (by-good-code refusal code out _ (pair_of table points) taken clean))

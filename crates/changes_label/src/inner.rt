@@ -7,7 +7,7 @@ ghost use Rattle.file.specs.Formats.{table_format, point_format};
 ghost use Rattle.label.specs.Label.{resolved_outcome};
 ghost use Rattle.changes_label.specs.Places.{resolved_at, ViewPlace, place_label};
 
-use refusal::{Answer, Reason, Verdict};
+use refusal::{Answer, Reason};
 
 // The label of the view at a place.
 pub fn label_there<'a>(table: &'a [u8], points: &'a [u8], place: usize, out: &mut [u8]) -> Answer
@@ -19,15 +19,13 @@ pub fn label_there<'a>(table: &'a [u8], points: &'a [u8], place: usize, out: &mu
     let p = changes_source::delivery_at(points, place);
     let keys = p.keys;
     let found = shelf_find::inner::rows_of(table, s, keys);
-    match source_keys::refusal_in(p, found) {
-        Verdict::Fine => label_print::print_label(
-            table,
-            points,
-            source_spans::inner::spans_of(table, s, points, p, found),
-            out,
-        ),
-        Verdict::Bad(reason) => Answer::Refused { file: 0, reason },
-    }
+    source_keys::refusal_in(p, found)?;
+    label_print::print_label(
+        table,
+        points,
+        source_spans::inner::spans_of(table, s, points, p, found),
+        out,
+    )
 }
 
 // The same, 0 being no place.
@@ -37,10 +35,7 @@ pub fn label_at<'a>(table: &'a [u8], points: &'a [u8], place: usize, out: &mut [
         ≡ place_label table.now points.now place out.old }
 {
     if place == 0 {
-        return Answer::Refused {
-            file: 0,
-            reason: Reason::NoSuchNumber,
-        };
+        return Err(Reason::NoSuchNumber.into());
     }
     label_there(table, points, place, out)
 }

@@ -15,10 +15,8 @@ use refusal::{Answer, Reason};
 pub fn check_pair(table: &[u8], points: &[u8]) -> Answer
     ensures { result ≡ (pair_of table.now points.now).judged }
 {
-    match file_check::check_table(table) {
-        Answer::Value(_) => file_check::check_points(points),
-        Answer::Refused { file, reason } => Answer::Refused { file, reason },
-    }
+    file_check::check_table(table)?;
+    file_check::check_points(points)
 }
 
 // The label of a view.
@@ -26,13 +24,9 @@ pub fn label_view<'a>(table: &'a [u8], points: &'a [u8], view: usize, out: &mut 
     ensures { said result out.new
         ≡ view_label (pair_of table.now points.now) view out.old }
 {
-    match check_pair(table, points) {
-        Answer::Value(_) => {
-            let place = changes_views::wanted_at(points, &points[..0], view);
-            label_at(table, points, place, out)
-        }
-        Answer::Refused { file, reason } => Answer::Refused { file, reason },
-    }
+    check_pair(table, points)?;
+    let place = changes_views::wanted_at(points, &points[..0], view);
+    label_at(table, points, place, out)
 }
 
 // The label of the k-th live view in a code.
@@ -46,17 +40,10 @@ pub fn label_in_code<'a>(
     ensures { said result out.new
         ≡ code_label (pair_of table.now points.now) code.now k out.old }
 {
-    match check_pair(table, points) {
-        Answer::Value(_) => {
-            if field_outward::outward_fault(code) != 0 {
-                return Answer::Refused {
-                    file: 0,
-                    reason: Reason::BadCode,
-                };
-            }
-            let place = changes_views::wanted_at(points, code, k);
-            label_at(table, points, place, out)
-        }
-        Answer::Refused { file, reason } => Answer::Refused { file, reason },
+    check_pair(table, points)?;
+    if field_outward::outward_fault(code) != 0 {
+        return Err(Reason::BadCode.into());
     }
+    let place = changes_views::wanted_at(points, code, k);
+    label_at(table, points, place, out)
 }

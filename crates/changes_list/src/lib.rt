@@ -10,20 +10,16 @@ use refusal::{Answer, Reason};
 pub fn views_in(points: &[u8]) -> Answer
     ensures { result ≡ views_answer points.now }
 {
-    match file_check::check_points(points) {
-        Answer::Value(_) => Answer::Value(changes_views::count_wanted(points, &points[..0])),
-        Answer::Refused { file, reason } => Answer::Refused { file, reason },
-    }
+    file_check::check_points(points)?;
+    Ok(changes_views::count_wanted(points, &points[..0]))
 }
 
 // The amendment letter of a view.
 pub fn letter_of(points: &[u8], view: usize) -> Answer
     ensures { result ≡ letter_answer points.now view }
 {
-    match file_check::check_points(points) {
-        Answer::Value(_) => letter_at(points, changes_views::wanted_at(points, &points[..0], view)),
-        Answer::Refused { file, reason } => Answer::Refused { file, reason },
-    }
+    file_check::check_points(points)?;
+    letter_at(points, changes_views::wanted_at(points, &points[..0], view))
 }
 
 // The letter of the record at a place, 0 being no place.
@@ -31,26 +27,21 @@ fn letter_at(points: &[u8], place: usize) -> Answer
     ensures { result ≡ letter_at points.now place }
 {
     if place == 0 {
-        return Answer::Refused {
-            file: 0,
-            reason: Reason::NoSuchNumber,
-        };
+        return Err(Reason::NoSuchNumber.into());
     }
     let letter = file_record::byte_of(
         file_record::point_record(points, place),
         file_record::Point::LETTER,
     );
-    Answer::Value(letter as usize)
+    Ok(letter as usize)
 }
 
 // How many live views a code has.
 pub fn live_in(points: &[u8], code: &[u8]) -> Answer
     ensures { result ≡ live_answer points.now code.now }
 {
-    match file_check::check_points(points) {
-        Answer::Value(_) => live_at(points, code),
-        Answer::Refused { file, reason } => Answer::Refused { file, reason },
-    }
+    file_check::check_points(points)?;
+    live_at(points, code)
 }
 
 // The same of an accepted file.
@@ -58,11 +49,8 @@ fn live_at(points: &[u8], code: &[u8]) -> Answer
     ensures { result ≡ live_at points.now code.now }
 {
     if field_outward::outward_fault(code) == 0 {
-        Answer::Value(changes_views::count_wanted(points, code))
+        Ok(changes_views::count_wanted(points, code))
     } else {
-        Answer::Refused {
-            file: 0,
-            reason: Reason::BadCode,
-        }
+        Err(Reason::BadCode.into())
     }
 }

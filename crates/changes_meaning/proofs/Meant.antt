@@ -1,7 +1,7 @@
 -- What a view of an accepted pair of files resolves to, by what code knows of it: its elements, or the refusal.
 -- Assumes nothing.
-use Prim.Native.Nat.{ℕ, ◌-◌, ◌≤◌, ◌<◌}
-use mathlib.Core.Path.{◌≡◌, sym, ap, subst, ◌∙◌}
+use Prim.Native.Nat.{ℕ, ◌-◌, ◌<◌}
+use mathlib.Core.Path.{◌≡◌, sym, subst, ◌∙◌}
 use mathlib.Core.Bool.{true, ◌&&◌, ◌||◌}
 use mathlib.Core.List.{List}
 use native.Mathlib.Omega.{arith}
@@ -9,7 +9,6 @@ use borrow.Author.Tests.{eqb-true}
 use lib.ListN.{get_or}
 use Rattle.field.proofs.Tests.{and_left}
 use Rattle.refusal.specs.declared.Reason.{Reason}
-use Rattle.refusal.specs.declared.Verdict.TheVariants.{Fine, Bad}
 use Rattle.file.specs.Check.{records}
 use Rattle.file.specs.Formats.{table_format, point_format}
 use Rattle.file.specs.Accepted.{Accepted}
@@ -31,6 +30,8 @@ use Rattle.changes_source.specs.Addresses.{address_at}
 use Rattle.changes_source.specs.Delivery.{delivery_at}
 use Rattle.changes_source.proofs.Table.{never-falls, table-good}
 use Rattle.changes_meaning.proofs.Says.{says_at}
+use Rattle.std.specs.Prelude.{Err}
+use Rattle.refusal.specs.Verdict.{fine}
 
 -- a record that is wanted is a view
 pub wanted-view : (code rec : List ℕ) → wanted code rec ≡ true → get_or rec 41 0 ≡ 49
@@ -64,12 +65,12 @@ module _ (table points : List ℕ) (t : Accepted table_format table) (i : ℕ) (
       elements-meant table_shelf table (table-good table t) points (delivery_at points i) (address_at points n i)
       (says_at points i (omega arith) n) (rows_at table points i) (rows-meant table points t i)
 
-  pub resolved-fine : refusal_in (delivery_at points i) (rows_at table points i) ≡ Fine
+  pub resolved-fine : refusal_in (delivery_at points i) (rows_at table points i) ≡ fine
       → resolve (table_lookup table) (address_at points n i)
       ≡ elements (elements_by table_shelf table points (delivery_at points i) (rows_at table points i))
   resolved-fine e = resolved ∙ rw (e, sym elements-are)
 
-  pub resolved-bad : (why : Reason) → refusal_in (delivery_at points i) (rows_at table points i) ≡ Bad why
+  pub resolved-bad : (why : Reason) → refusal_in (delivery_at points i) (rows_at table points i) ≡ Err why
       → resolve (table_lookup table) (address_at points n i) ≡ refused why
   resolved-bad why e = resolved ∙ rw e
 

@@ -2,16 +2,15 @@
 -- Assumes nothing.
 use Prim.Native.Nat.{ℕ, ◌≤◌}
 use mathlib.Core.Path.{◌≡◌, refl, sym, ap, ◌∙◌}
-use mathlib.Core.Bool.{Bool, true, false, cond, false≢true, ◌||◌}
+use mathlib.Core.Bool.{Bool, true, false, false≢true, ◌||◌}
 use mathlib.Core.List.{List, [], ◌∷◌}
 use native.Mathlib.Nat.{zero-add}
-use borrow.Author.Tests.{eqb-true, eq-eqb}
 use lib.Dec.{eqb, lit≤}
 use lib.ListN.{get_or}
 use Rattle.field.specs.Test.{elem}
 use Rattle.field.specs.Text.{part}
 use Rattle.file_record.proofs.Records.{part-part}
-use Rattle.file_fault.specs.Fields.{place, fault_in, one_of}
+use Rattle.file_fault.specs.Fields.{fault_in, one_of}
 use Rattle.file_fault.specs.Point.{point_head}
 use Rattle.file_fault.proofs.Laws.{one_byte}
 use Rattle.file_fault.proofs.Passing.{point-passes}

@@ -1,6 +1,6 @@
 -- Laws of runs over a pair of files: the place of the next label, and asking by place.
 -- Assumes nothing.
-use Prim.Native.Nat.{ℕ, zero, suc, ◌+◌, ◌-◌, ◌≤◌, ◌<◌}
+use Prim.Native.Nat.{ℕ, zero, suc, ◌+◌, ◌-◌, ◌≤◌}
 use mathlib.Core.Path.{◌≡◌, refl, sym, ap, ◌∙◌}
 use mathlib.Core.Bool.{Bool, true, false, cond}
 use mathlib.Core.List.{List, [], ◌∷◌}
@@ -8,9 +8,8 @@ use native.Mathlib.Omega.{arith}
 use native.Mathlib.Numerals.{add-one}
 use borrow.Author.Tests.{ltb-true, ltb-false, eqb-true, eqb-false}
 use lib.Dec.{eqb, ltb}
-use lib.ListN.{length, get_or}
+use lib.ListN.{get_or}
 use Rattle.field_outward.specs.Outward.{outward_fault}
-use Rattle.refusal.specs.declared.Answer.TheVariants.{Value, Refused}
 use Rattle.refusal.proofs.Outcomes.{afterwards-value}
 use Rattle.changes_views.specs.Views.{last_of, wanted_from, wanted_in, wanted_at, next_wanted}
 use Rattle.changes_views.proofs.Laws.{at_some, at_none}
@@ -19,10 +18,11 @@ use Rattle.ask.proofs.Laws.{by-good-code}
 use Rattle.changes_pair.specs.Pair.{pair_of}
 use Rattle.changes_label.specs.Places.{ViewPlace}
 use Rattle.changes_label.proofs.Laws.{view-by-place, code-by-place}
-use Rattle.run.specs.declared.Series.TheVariants.{Unasked}
 use Rattle.run.specs.Series.{run_from}
 use Rattle.run.proofs.Same.{same-run}
 use Rattle.changes_runs.specs.Runs.{places_asked, place_behind}
+use Rattle.std.specs.Prelude.{Ok}
+use Rattle.refusal.specs.Answer.{refusal}
 
 -- the place of the next number is the next place
 module _ (code file : List ℕ) where
@@ -71,16 +71,16 @@ place-bound table points place v = by-test (eqb place 0) refl
     by-test false e = let h = v.high (eqb-false place 0 e) in omega (arith, h)
 
 -- where both files are accepted, asking by number is asking by place
-module _ (table points : List ℕ) {n : ℕ} (taken : (pair_of table points).judged ≡ Value n) (first count : ℕ) (out : List ℕ) where
+module _ (table points : List ℕ) {n : ℕ} (taken : (pair_of table points).judged ≡ Ok n) (first count : ℕ) (out : List ℕ) where
   pub views-by-place : run_from (places_asked table points []) first count out
       ≡ views_run (pair_of table points) first count out
   unfolding views_run
   views-by-place =
-      same-run _ _ (view-by-place table points taken) count first out ∙ sym (afterwards-value Unasked out _ taken)
+      same-run _ _ (view-by-place table points taken) count first out ∙ sym (afterwards-value refusal out _ taken)
 
   pub in-code-by-place : (code : List ℕ) → outward_fault code ≡ 0
       → run_from (places_asked table points code) first count out ≡ code_run (pair_of table points) code first count out
   unfolding code_run
   in-code-by-place code clean =
       same-run _ _ (λ k o. code-by-place table points taken k o code clean) count first out
-      ∙ sym (by-good-code Unasked code out _ (pair_of table points) taken clean)
+      ∙ sym (by-good-code refusal code out _ (pair_of table points) taken clean)

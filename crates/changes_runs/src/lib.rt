@@ -10,7 +10,7 @@ ghost use Rattle.ask.specs.Runs.{views_run, code_run};
 ghost use Rattle.changes_pair.specs.Pair.{pair_of};
 
 use places::run_places;
-use refusal::{Answer, Reason};
+use refusal::Reason;
 use run::Series;
 
 // So many labels from a view on.
@@ -24,10 +24,8 @@ pub fn labels_of_views<'a>(
     ensures { said result out.new
         ≡ views_run (pair_of table.now points.now) first count out.old }
 {
-    match changes_label::check_pair(table, points) {
-        Answer::Value(_) => run_places(table, points, &points[..0], first, count, out),
-        Answer::Refused { file, reason } => Series::Unasked { file, reason },
-    }
+    changes_label::check_pair(table, points)?;
+    run_places(table, points, &points[..0], first, count, out)
 }
 
 // So many labels from the k-th live view of a code on.
@@ -42,16 +40,9 @@ pub fn labels_in_code<'a>(
     ensures { said result out.new ≡ code_run (pair_of table.now points.now)
         code.now first count out.old }
 {
-    match changes_label::check_pair(table, points) {
-        Answer::Value(_) => {
-            if field_outward::outward_fault(code) != 0 {
-                return Series::Unasked {
-                    file: 0,
-                    reason: Reason::BadCode,
-                };
-            }
-            run_places(table, points, code, first, count, out)
-        }
-        Answer::Refused { file, reason } => Series::Unasked { file, reason },
+    changes_label::check_pair(table, points)?;
+    if field_outward::outward_fault(code) != 0 {
+        return Err(Reason::BadCode.into());
     }
+    run_places(table, points, code, first, count, out)
 }

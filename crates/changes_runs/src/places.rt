@@ -1,30 +1,15 @@
 // A run over the views of accepted files, which are not judged again.
-ghost use Rattle.std.specs.Prelude.{◌≡◌, ◌≤◌, length};
+ghost use Rattle.std.specs.Prelude.{◌≡◌, ◌≤◌};
 ghost use Rattle.refusal.specs.Outcome.{said};
 ghost use Rattle.file.specs.Accepted.{Accepted};
 ghost use Rattle.file.specs.Formats.{table_format};
-ghost use Rattle.changes_views.specs.Views.{last_of};
-ghost use Rattle.changes_label.specs.Places.{place_label, ViewPlace};
-ghost use Rattle.run.specs.Series.{asked_behind, run_from};
+ghost use Rattle.changes_views.specs.Views.{last_of, wanted_at};
+ghost use Rattle.run.specs.Series.{run_from};
 ghost use Rattle.changes_runs.specs.Runs.{places_asked, place_behind};
 
 use refusal::Answer;
 use run::Series;
-
-// The label of the view at a place, behind so many bytes.
-fn label_behind<'a>(
-    table: &'a [u8],
-    points: &'a [u8],
-    place: usize,
-    at: usize,
-    out: &mut [u8],
-) -> Answer
-    requires { (at ≤ length out.old) × ViewPlace table.now points.now place }
-    ensures { said result out.new ≡ asked_behind at out.old
-        (place_label table.now points.now place) }
-{
-    changes_label::inner::label_at(table, points, place, &mut out[at..])
-}
+use run_in_turn::inner::{InTurn, in_turn};
 
 // The place of the next that is wanted, 0 where there is none.
 pub fn place_behind(points: &[u8], code: &[u8], place: usize) -> usize
@@ -36,6 +21,28 @@ pub fn place_behind(points: &[u8], code: &[u8], place: usize) -> usize
         next
     } else {
         0
+    }
+}
+
+// The views that are wanted, asked for their labels from one on, and the place of that one.
+#[derive(Drop)]
+struct Places<'a> {
+    table: &'a [u8],
+    points: &'a [u8],
+    code: &'a [u8],
+    place: usize,
+}
+
+impl<'a> InTurn for Places<'a> {
+    ghost asking = { λ s. places_asked s.table.now s.points.now s.code.now };
+
+    ghost is_next = { λ s k. Accepted table_format s.table.now
+        × (s.place ≡ wanted_at s.code.now s.points.now k) };
+
+    fn ask_next(&mut self, out: &mut [u8]) -> Answer {
+        let bytes = changes_label::inner::label_at(self.table, self.points, self.place, out)?;
+        self.place = place_behind(self.points, self.code, self.place);
+        Ok(bytes)
     }
 }
 
@@ -52,27 +59,11 @@ pub fn run_places<'a>(
     ensures { said result out.new ≡ run_from
         (places_asked table.now points.now code.now) first count out.old }
 {
-    let mut place = changes_views::wanted_at(points, code, first);
-    let mut at = 0;
-    let mut done = 0;
-    while done < count {
-        match label_behind(table, points, place, at, out) {
-            Answer::Value(bytes) => {
-                at += bytes;
-            }
-            Answer::Refused { file: _, reason } => {
-                return Series::Stopped {
-                    labels: done,
-                    bytes: at,
-                    reason,
-                };
-            }
-        }
-        place = place_behind(points, code, place);
-        done += 1;
-    }
-    Series::Done {
-        labels: done,
-        bytes: at,
-    }
+    let mut turns = Places {
+        table,
+        points,
+        code,
+        place: changes_views::wanted_at(points, code, first),
+    };
+    in_turn(&mut turns, count, out)
 }

@@ -7,7 +7,6 @@ use native.Mathlib.Omega.{arith}
 use lib.ListN.{length, get_or}
 use Rattle.field.specs.Digits.{value}
 use Rattle.field.specs.Text.{part}
-use Rattle.refusal.specs.declared.Verdict.TheVariants.{Fine}
 use Rattle.file_record.specs.Parts.{record_at}
 use Rattle.file_record.proofs.Records.{part_length, record-length}
 use Rattle.file_fault.specs.Point.{point_fault}
@@ -29,6 +28,7 @@ use Rattle.changes_pair.specs.Live.{live_in, views_at, WantedPlace, WantedPlaces
 use Rattle.changes_pair.proofs.Numbers.{number_bound}
 use Rattle.changes_pair.proofs.Live.{all-views, all_wanted, kept-all}
 use Rattle.changes_sound.proofs.Follower.{follower-there, organisation-sound}
+use Rattle.refusal.specs.Verdict.{fine}
 
 -- a field of eight bytes says at most 99,999,999
 pub eight : (rec : List ℕ) (start : ℕ) → value (part rec start (start + 8)) ≤ 99_999_999
@@ -103,7 +103,7 @@ kept-rises low [] r = tt
 kept-rises low (a ∷ more) r = rising-one (live a) low a (kept more) r.0 (kept-rises a.view more r.1)
 
 pub addresses-sound : (look : Lookup) (points code : List ℕ) → Accepted point_format points
-    → first_bad look (live_in points code) ≡ Fine
+    → first_bad look (live_in points code) ≡ fine
     → AddressesSound look code 0 (live_in points code)
 unfolding addresses_in
 addresses-sound look points code p =

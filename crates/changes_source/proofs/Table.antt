@@ -1,7 +1,7 @@
 -- An accepted table file as a shelf: the numbers of its records never fall, and each tells the type and the key.
 -- Assumes nothing.
-use Prim.Native.Nat.{ℕ, zero, suc, ◌+◌, ◌-◌, ◌*◌, ◌^◌, ◌≤◌, ◌<◌}
-use mathlib.Core.Path.{◌≡◌, refl, sym, ap, ◌∙◌}
+use Prim.Native.Nat.{ℕ, zero, suc, ◌+◌, ◌-◌, ◌^◌, ◌≤◌, ◌<◌}
+use mathlib.Core.Path.{◌≡◌, refl, ap, ◌∙◌}
 use mathlib.Core.Bool.{Bool, true, false, ◌||◌}
 use mathlib.Core.List.{List, [], ◌∷◌}
 use native.Mathlib.Omega.{arith}
@@ -26,7 +26,7 @@ use Rattle.file_fault.proofs.Passing.{key-pass, table-passes, one_passes}
 use Rattle.file.specs.Formats.{table_format}
 use Rattle.file.specs.Accepted.{Accepted}
 use Rattle.source.specs.Address.{ref, kind_of}
-use Rattle.shelf.specs.Shelf.{Fit, record_of, ref_at, last_of, NeverFalls}
+use Rattle.shelf.specs.Shelf.{Fit, ref_at, last_of, NeverFalls}
 use Rattle.shelf.specs.Stock.{Good}
 use Rattle.shelf.proofs.Stock.{stock-good}
 use Rattle.changes_source.specs.Rows.{table_shelf, table_stock}

@@ -1,7 +1,9 @@
 // What a pair of files says: the table file as a shelf, and a view of the point file as a delivery point.
 #![tactic(auto)]
 
-ghost use Rattle.std.specs.Prelude.{◌≡◌};
+ghost use Rattle.std.specs.Prelude.{◌≡◌, ◌+◌, ◌<◌, get_or};
+ghost use Rattle.field.specs.Digits.{value};
+ghost use Rattle.field.specs.Text.{part};
 ghost use Rattle.changes_source.specs.Rows.{table_shelf};
 ghost use Rattle.changes_source.specs.Delivery.{key_places, keys_at, start_at, delivery_at};
 
@@ -38,18 +40,20 @@ pub fn table_shelf() -> Shelf
     }
 }
 
-// The seven keys of a view's record.
+// Key `i` of a view's record.
+fn key_in(rec: &[u8], i: usize) -> u32
+    requires { i < 7 }
+    ensures { result ≡ value (part rec.now (get_or key_places i 0) (get_or key_places i 0 + 8)) }
+{
+    let at = KEY_PLACES[i];
+    field_read::value_of(file_record::part_of(rec, at, at + 8)) as u32
+}
+
+// The seven of them.
 fn keys_in(rec: &[u8]) -> [u32; 7]
     ensures { result ≡ keys_at rec.now key_places }
 {
-    let mut keys = [0u32; 7];
-    let mut i = 0;
-    while i < 7 {
-        let at = KEY_PLACES[i];
-        keys[i] = field_read::value_of(file_record::part_of(rec, at, at + 8)) as u32;
-        i += 1;
-    }
-    keys
+    std::array::from_fn(|i| key_in(rec, i))
 }
 
 // Where record `i` of a point file starts; 0 where there is none.

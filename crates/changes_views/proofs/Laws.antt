@@ -11,7 +11,7 @@ use lib.Dec.{ltb, eqb}
 use lib.ListN.{length, get_or, get_or-eq_default}
 use Rattle.field.proofs.Tests.{or-false}
 use Rattle.file_record.specs.Parts.{record_at}
-use Rattle.changes_views.specs.Views.{is_view, in_code, wanted, last_of, wanted_from, wanted_in, wanted_count, wanted_at, next_from, next_wanted, places_from, view_number}
+use Rattle.changes_views.specs.Views.{is_view, in_code, wanted, last_of, wanted_from, wanted_in, wanted_count, wanted_at, next_from, next_wanted, places_from}
 
 -- whether a record is wanted, by the tests in the code's order
 pub wanted-other : (code rec : List ℕ) → is_view rec ≡ false → wanted code rec ≡ false
@@ -202,10 +202,6 @@ module _ (code file : List ℕ) where
   pub places-end : (i : ℕ) → last_of file ≤ i → places_from code file i ≡ []
   places-end i h = rw (let z : last_of file - i ≡ 0 = omega arith in z)
 
-  pub count-is : wanted_count code file ≡ length (places_from code file (next_wanted code file 1))
-  unfolding wanted_count
-  count-is = ap length places-start
-
   pub count-bound : wanted_count code file ≤ length file / 168
   unfolding wanted_count wanted_in
   count-bound = omega (arith, from-bound (last_of file - 1) 1)
@@ -245,21 +241,14 @@ module _ (code file : List ℕ) where
   unfolding wanted_at wanted_count
   wanted-at-none k h = get_or-eq_default (0 ∷ wanted_in code file) 0 {n = k} (omega arith)
 
--- the number of the view at a place, counted up to it
-module _ (file : List ℕ) where
-  pub number_is : (place : ℕ) → view_number file place ≡ length (wanted_from [] file place 1)
-  unfolding view_number
-  number_is place = refl
-
-  pub number_step : (place i : ℕ) (t : Bool) → i < place → wanted [] (record_at 168 file (i + 1)) ≡ t
-      → length (wanted_from [] file (place - i) (i + 1))
-      ≡ cond t 1 0 + length (wanted_from [] file (place - (i + 1)) (i + 1 + 1))
-  number_step place i t h e =
-      rw (let k : place - i ≡ suc (place - (i + 1)) = omega arith in k)
-      (by-test t e)
-    where
-      by-test : (t : Bool) → wanted [] (record_at 168 file (i + 1)) ≡ t
-          → length (wanted_from [] file (suc (place - (i + 1))) (i + 1))
-          ≡ cond t 1 0 + length (wanted_from [] file (place - (i + 1)) (i + 1 + 1))
-      by-test true e = simp (e, add-one (i + 1)) (omega arith)
-      by-test false e = simp (e, add-one (i + 1)) (omega arith)
+-- the wanted among so many records, counted one by one
+pub count_step : (code file : List ℕ) (many i : ℕ) → i < many
+    → length (wanted_from code file (many - i) (i + 1))
+    ≡ cond (wanted code (record_at 168 file (i + 1))) 1 0 + length (wanted_from code file (many - (i + 1)) (i + 1 + 1))
+count_step code file many i h =
+    rw (let k : many - i ≡ suc (many - (i + 1)) = omega arith in k, add-one (i + 1))
+    (by-test (wanted code (record_at 168 file (i + 1))) (wanted_from code file (many - (i + 1)) (suc (i + 1))))
+  where
+    by-test : (t : Bool) (ps : List ℕ) → length (cond t ((i + 1) ∷ ps) ps) ≡ cond t 1 0 + length ps
+    by-test true ps = omega arith
+    by-test false ps = omega arith

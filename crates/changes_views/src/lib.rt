@@ -2,8 +2,8 @@
 // bytes may be asked; only of an accepted file is the answer what document 01 calls a view.
 #![tactic(auto)]
 
-ghost use Rattle.std.specs.Prelude.{◌≡◌};
-ghost use Rattle.changes_views.specs.Views.{wanted, last_of, next_wanted, wanted_count, wanted_at, view_number};
+ghost use Rattle.std.specs.Prelude.{◌≡◌, length};
+ghost use Rattle.changes_views.specs.Views.{wanted, last_of, next_wanted, wanted_from, wanted_count, wanted_at, view_number};
 
 // Whether a record is wanted: a live view of the code; where no code is given, any view.
 pub fn is_wanted(rec: &[u8], code: &[u8]) -> bool
@@ -29,8 +29,7 @@ pub fn is_wanted(rec: &[u8], code: &[u8]) -> bool
 pub fn last_of(points: &[u8]) -> usize
     ensures { result ≡ last_of points.now }
 {
-    let n = points.len() / file_record::Point::WIDTH;
-    if n == 0 { 0 } else { n - 1 }
+    (points.len() / file_record::Point::WIDTH).saturating_sub(1)
 }
 
 // The step: the place of the first that is wanted from `i` on, or the trailer's place.
@@ -38,44 +37,40 @@ pub fn next_wanted(points: &[u8], code: &[u8], i: usize) -> usize
     ensures { result ≡ next_wanted code.now points.now i }
 {
     let last = last_of(points);
-    let mut at = i;
-    while at < last {
+    for at in i..last {
         let rec = file_record::point_record(points, at);
         if is_wanted(rec, code) {
             return at;
         }
-        at += 1;
     }
-    at
+    i.max(last)
+}
+
+// How many are wanted of so many records behind the header.
+fn count_of(points: &[u8], code: &[u8], many: usize) -> usize
+    ensures { result ≡ length (wanted_from code.now points.now many 1) }
+{
+    let mut n = 0;
+    for i in 0..many {
+        if is_wanted(file_record::point_record(points, i + 1), code) {
+            n += 1;
+        }
+    }
+    n
 }
 
 // How many are wanted.
 pub fn count_wanted(points: &[u8], code: &[u8]) -> usize
     ensures { result ≡ wanted_count code.now points.now }
 {
-    let last = last_of(points);
-    let mut n = 0;
-    let mut at = next_wanted(points, code, 1);
-    while at < last {
-        n += 1;
-        at = next_wanted(points, code, at + 1);
-    }
-    n
+    count_of(points, code, last_of(points).saturating_sub(1))
 }
 
 // The number of the view at a place: how many views stand up to it.
 pub fn number_at(points: &[u8], place: usize) -> usize
     ensures { result ≡ view_number points.now place }
 {
-    let mut views = 0;
-    let mut i = 0;
-    while i < place {
-        i += 1;
-        if is_wanted(file_record::point_record(points, i), &points[..0]) {
-            views += 1;
-        }
-    }
-    views
+    count_of(points, &points[..0], place)
 }
 
 // The place of the `k`-th that is wanted, counted from 1; 0 where there is none.
@@ -83,14 +78,12 @@ pub fn wanted_at(points: &[u8], code: &[u8], k: usize) -> usize
     ensures { result ≡ wanted_at code.now points.now k }
 {
     let last = last_of(points);
-    let mut left = k;
     let mut at = 0;
-    while 0 < left {
+    for _ in 0..k {
         at = next_wanted(points, code, at + 1);
         if last <= at {
             return 0;
         }
-        left -= 1;
     }
     at
 }

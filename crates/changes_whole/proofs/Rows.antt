@@ -5,8 +5,6 @@ use mathlib.Core.Path.{◌≡◌, refl, sym, ap, subst, ◌∙◌}
 use mathlib.Core.List.{List}
 use native.Mathlib.Omega.{arith}
 use lib.ListN.{length, get_or, replicate, length-replicate}
-use Rattle.refusal.specs.declared.Verdict.{Verdict}
-use Rattle.refusal.specs.declared.Verdict.TheVariants.{Fine}
 use Rattle.file.specs.Formats.{table_format}
 use Rattle.file.specs.Accepted.{Accepted}
 use Rattle.file.proofs.Laws.{at-least-two, within-limit}
@@ -25,6 +23,7 @@ use Rattle.build_exact.proofs.Marked.{all-length}
 use Rattle.build_mark.specs.Below.{Below}
 use Rattle.build_mark.proofs.Rows.{rows-below}
 use Rattle.changes_whole.specs.Marked.{MarksAll, Marked}
+use Rattle.refusal.specs.Verdict.{Verdict, fine}
 
 module _ (table : List ℕ) (t : Accepted table_format table) where
   -- an accepted table file has at most 20,000 records
@@ -63,7 +62,7 @@ no-mark (suc k) (suc i) = no-mark k i
 -- what marking leaves in a fresh array
 pub fresh-marked : (k : ℕ) {table : List ℕ} {ds : List Packed} {v : Verdict} {marks : List ℕ} → k ≡ 20_000
     → MarksAll table ds (replicate {A = ℕ} k 0) v marks
-    → v ≡ Fine
+    → v ≡ fine
     → Marked table ds marks
 fresh-marked k e m fine =
     record {

@@ -6,7 +6,6 @@ use mathlib.Core.List.{List}
 use native.Mathlib.Omega.{arith}
 use lib.ListN.{length}
 use Rattle.field_outward.proofs.Long.{outward-long}
-use Rattle.refusal.specs.declared.Verdict.{Verdict}
 use Rattle.source.specs.Address.{Address}
 use Rattle.shelf.specs.Shelf.{last_of}
 use Rattle.pack.specs.Names.{newest, point_width, trailer_width}
@@ -25,6 +24,7 @@ use Rattle.build_exact.proofs.Refused.{refused-same}
 use Rattle.build_exact.proofs.Size.{pack-size, rows_few, organisations-few}
 use Rattle.changes_whole.specs.Marked.{Packable, Marked}
 use Rattle.changes_whole.proofs.Rows.{table-small}
+use Rattle.refusal.specs.Verdict.{Verdict}
 
 module _ {table texts : List ℕ} {ds : List Packed} {as' : List Address} {code : List ℕ}
     (k : Packable table texts ds as' code) where

@@ -8,7 +8,6 @@ use mathlib.Core.List.{List, [], ◌∷◌, ◌++◌, append-nil}
 use mathlib.Core.Option.{some}
 use native.Mathlib.Omega.{arith}
 use lib.ListN.{length}
-use Rattle.refusal.specs.declared.Answer.TheVariants.{Value}
 use Rattle.refusal.proofs.Outcomes.{answer-of}
 use Rattle.source.specs.Address.{Elements}
 use Rattle.source.specs.Resolve.{elements}
@@ -22,6 +21,8 @@ use Rattle.csv_paf.proofs.Forms.{AllFine, file-fine}
 use Rattle.csv_back.specs.Back.{lost, Prints, Entry, row_in, file_of, ElementsSound, Writable, AllWritable, PrintsEntry, RowBack, FileAccepted, FileBack}
 use Rattle.csv_back.proofs.Labels.{plain_of, label_same, label-longer}
 use Rattle.csv_back.proofs.Entries.{elements-back, entry-rows, entry-fine, entry-says}
+use Rattle.std.specs.Prelude.{Ok}
+use Rattle.refusal.proofs.Answers.{same-reason}
 
 -- ---- a row of a file that says these elements
 
@@ -33,9 +34,9 @@ room-length a b out e = by_cases (fitting a out) (fitting b out)
     by_cases (fits h p) (fits k q) = let z = sym (answer-of p) ∙ (answer-of e ∙ answer-of q) in cc
     by_cases (fits h p) (short k q) = let z = sym (answer-of p) ∙ (answer-of e ∙ answer-of q) in cc
     by_cases (short h p) (fits k q) = let z = sym (answer-of p) ∙ (answer-of e ∙ answer-of q) in cc
-    by_cases (short h p) (short k q) = let z = sym (answer-of p) ∙ (answer-of e ∙ answer-of q) in cc
+    by_cases (short h p) (short k q) = let z = same-reason (sym (answer-of p) ∙ (answer-of e ∙ answer-of q)) in cc
 
-module _ (csv : List ℕ) (k : ℕ) (e : Elements) {n : ℕ} (accepted : csv_judged csv ≡ Value n) (says : resolved_of (kth_of (rows_of csv) k) ≡ some (elements (plain_of e))) where
+module _ (csv : List ℕ) (k : ℕ) (e : Elements) {n : ℕ} (accepted : csv_judged csv ≡ Ok n) (says : resolved_of (kth_of (rows_of csv) k) ≡ some (elements (plain_of e))) where
   label-said : (out : List ℕ) → csv_label csv k out ≡ room_outcome (label_of (plain_of e)) out
   unfolding csv_label row_label
   label-said out = rw (accepted, says)
@@ -65,7 +66,7 @@ rows-many [] h = rw rows_none
 rows-many (w ∷ ws) h = rw (entry-rows w h.0 (file_of ws)) (ap suc (rows-many ws h.1))
 
 pub file-accepted : FileAccepted
-file-accepted ws h = file-fine (file_of ws) (all-fine ws h) ∙ ap Value (rows-many ws h)
+file-accepted ws h = file-fine (file_of ws) (all-fine ws h) ∙ ap Ok (rows-many ws h)
 
 kth-says : (before : List Entry) (w : Entry) (behind : List Entry) → AllWritable (before ++ (w ∷ behind))
     → resolved_of (kth_of (rows_of (file_of (before ++ (w ∷ behind)))) (suc (length before)))
@@ -92,7 +93,7 @@ file-back before w behind h =
 pub row_back : RowBack
 row_back w ok =
     let alone : file_of (w ∷ []) ≡ row_in w = append-nil (row_in w) in (
-      subst (λ (csv : List ℕ). csv_judged csv ≡ Value 1) alone (file-accepted (w ∷ []) (ok, tt)),
+      subst (λ (csv : List ℕ). csv_judged csv ≡ Ok 1) alone (file-accepted (w ∷ []) (ok, tt)),
       subst (λ (csv : List ℕ). PrintsEntry csv 1 w) alone (file-back [] w [] (ok, tt)),
     )
 

@@ -9,13 +9,9 @@ use native.Mathlib.Omega.{arith}
 use lib.ListN.{length, take, drop}
 use lib.Seq.{take-append-add}
 use Rattle.refusal.specs.declared.Reason.TheVariants.{NoSuchNumber, Uncarried}
-use Rattle.refusal.specs.declared.Answer.{Answer}
-use Rattle.refusal.specs.declared.Answer.TheVariants.{Value, Refused}
 use Rattle.refusal.specs.Outcome.{Outcome, said, afterwards}
 use Rattle.refusal.proofs.Answers.{refused-value}
 use Rattle.refusal.proofs.Outcomes.{answer-of, memory-of, afterwards-value, afterwards-refused}
-use Rattle.run.specs.declared.Series.{Series}
-use Rattle.run.specs.declared.Series.TheVariants.{Unasked, Stopped, Done}
 use Rattle.run.specs.Packed.{series_bytes}
 use Rattle.run.specs.Series.{behind, go_on, run_from}
 use Rattle.source.specs.Address.{Address, Elements}
@@ -29,6 +25,10 @@ use Rattle.csv_paf.specs.Row.{carried, written_outcome, row_of, row_outcome, row
 use Rattle.csv_paf.specs.File.{csv_judged}
 use Rattle.csv_back.specs.Back.{lost, Entry, row_in, file_of, Writable, AllWritable, PrintsEntry, entry_of, ViewSound, ViewsSound, lost_view, PrintsView, ViewBack, series_rows, written_file, RunBack}
 use Rattle.csv_back.proofs.Files.{file-accepted, file-back, row_back}
+use Rattle.std.specs.Prelude.{Ok, Err}
+use Rattle.refusal.specs.Answer.{Answer, refusal}
+use Rattle.run.specs.Series.{Series}
+use Rattle.run.specs.declared.Run.TheVariants.{Stopped, Done}
 
 module _ (s : Source) where
   -- a row was written from a view
@@ -83,9 +83,9 @@ module _ (s : Source) where
   then-ran : (k b : ℕ) (written : List ℕ) (next : Series) (m : List ℕ) → Asked k b written
       → RanAs (suc k) (said next m)
       → RanAs k (said (behind 1 b next) (take b written ++ m))
-  then-ran k b written (Unasked file why) m asked later = none-ran k (take b written ++ m)
-  then-ran k b written (Stopped l c why) m asked later = one_more k b l c written m asked later
-  then-ran k b written (Done l c) m asked later = one_more k b l c written m asked later
+  then-ran k b written (Err r) m asked later = none-ran k (take b written ++ m)
+  then-ran k b written (Ok (Stopped l c why)) m asked later = one_more k b l c written m asked later
+  then-ran k b written (Ok (Done l c)) m asked later = one_more k b l c written m asked later
 
   -- the row behind j others
   record Split (k j : ℕ) (ws : List Entry) : Type 0 where
@@ -123,7 +123,7 @@ module _ (s : Source) where
   split k zero (w ∷ ws) h less = split-here k w ws h.0
   split k (suc j) (w ∷ ws) h less = split-later k j w ws (split (suc k) j ws h.1 (omega arith))
 
-  module _ {n : ℕ} (accepted : s.judged ≡ Value n) where
+  module _ {n : ℕ} (accepted : s.judged ≡ Ok n) where
     -- ---- the label of such a view
 
     module _ (view : ℕ) (w : Entry) (wrote : Wrote view w) where
@@ -149,8 +149,8 @@ module _ (s : Source) where
         carried-asked : (a : Address) (e : Elements) → kth s.views view ≡ some a → resolve s.look a ≡ elements e
             → (t : Bool)
             → carried e ≡ t
-            → (cond t (room_outcome (row_of a e) out) (said (Refused 0 Uncarried) out)).answer ≡ Value b
-            → Asked view b (cond t (room_outcome (row_of a e) out) (said (Refused 0 Uncarried) out)).memory
+            → (cond t (room_outcome (row_of a e) out) (said (refusal 0 Uncarried) out)).answer ≡ Ok b
+            → Asked view b (cond t (room_outcome (row_of a e) out) (said (refusal 0 Uncarried) out)).memory
         carried-asked a e there is true c z =
             record {
               from = entry_of a e;
@@ -171,25 +171,25 @@ module _ (s : Source) where
         carried-asked a e there is false c z = absurd (refused-value 0 b Uncarried z)
 
         resolved-asked : (a : Address) (r : Resolved) → kth s.views view ≡ some a → resolve s.look a ≡ r
-            → (row_outcome a r out).answer ≡ Value b
+            → (row_outcome a r out).answer ≡ Ok b
             → Asked view b (row_outcome a r out).memory
         unfolding written_outcome
         resolved-asked a (elements e) there is z = carried-asked a e there is (carried e) refl z
         resolved-asked a (refused why) there is z = absurd (refused-value 0 b why z)
 
-        option-asked : (o : Option Address) → kth s.views view ≡ o → (row_or s.look o out).answer ≡ Value b
+        option-asked : (o : Option Address) → kth s.views view ≡ o → (row_or s.look o out).answer ≡ Ok b
             → Asked view b (row_or s.look o out).memory
         option-asked none there z = absurd (refused-value 0 b NoSuchNumber z)
         option-asked (some a) there z = resolved-asked a (resolve s.look a) there refl z
 
-        row-asked : (view_row s view out).answer ≡ Value b → Asked view b (view_row s view out).memory
+        row-asked : (view_row s view out).answer ≡ Ok b → Asked view b (view_row s view out).memory
         unfolding view_row kth_row
         row-asked =
-            rw (afterwards-value Refused out (row_or s.look (kth s.views view) out) accepted)
+            rw (afterwards-value refusal out (row_or s.look (kth s.views view) out) accepted)
             (option-asked (kth s.views view) refl)
 
-      accepted-back : (view bytes : ℕ) (out memory : List ℕ) → view_row s view out ≡ said (Value bytes) memory
-          → (csv_judged (take bytes memory) ≡ Value 1) × PrintsView (take bytes memory) 1 s view
+      accepted-back : (view bytes : ℕ) (out memory : List ℕ) → view_row s view out ≡ said (Ok bytes) memory
+          → (csv_judged (take bytes memory) ≡ Ok 1) × PrintsView (take bytes memory) 1 s view
       accepted-back view bytes out memory e =
           let asked = row-asked view out bytes (answer-of e) in
           let w = asked.from in
@@ -206,11 +206,11 @@ module _ (s : Source) where
           by_answer : (r : Answer) → (view_row s k out).answer ≡ r
               → ((left : List ℕ) → RanAs (suc k) (run_from (view_row s) (suc k) count left))
               → RanAs k (go_on r (view_row s k out).memory (λ left. run_from (view_row s) (suc k) count left))
-          by_answer (Value b) e later =
+          by_answer (Ok b) e later =
               let written = (view_row s k out).memory in
               let next = run_from (view_row s) (suc k) count (drop b written) in
               then-ran k b written next.answer next.memory (row-asked k out b e) (later (drop b written))
-          by_answer (Refused file why) e later = none-ran k (view_row s k out).memory
+          by_answer (Err r) e later = none-ran k (view_row s k out).memory
 
       split-prints : (k j : ℕ) (ws : List Entry) → AllWritable ws → Split k j ws
           → PrintsView (file_of ws) (suc j) s (k + j)
@@ -221,7 +221,7 @@ module _ (s : Source) where
           (subst (λ (l : List Entry). PrintsEntry (file_of l) (suc (length p.before)) p.here) (sym p.is) back))
 
       run-back : (first : ℕ) (r : Outcome Series) → RanAs first r
-          → (csv_judged (written_file r) ≡ Value (series_rows r.answer))
+          → (csv_judged (written_file r) ≡ Ok (series_rows r.answer))
           × ((j : ℕ) → j < series_rows r.answer → PrintsView (written_file r) (suc j) s (first + j))
       run-back first r run =
           let all = all-writable first run.ws run.wrote in (
@@ -239,11 +239,11 @@ module _ (s : Source) (sound : ViewsSound s) where
   view-back view bytes out memory e = by-judged s.judged refl
     where
       by-judged : (r : Answer) → s.judged ≡ r
-          → (csv_judged (take bytes memory) ≡ Value 1) × PrintsView (take bytes memory) 1 s view
-      by-judged (Value n) taken = accepted-back s taken sound view bytes out memory e
-      by-judged (Refused file why) taken =
-          let not-asked = answer-of (afterwards-refused Refused out _ taken) in
-          absurd (refused-value file bytes why (sym not-asked ∙ answer-of e))
+          → (csv_judged (take bytes memory) ≡ Ok 1) × PrintsView (take bytes memory) 1 s view
+      by-judged (Ok n) taken = accepted-back s taken sound view bytes out memory e
+      by-judged (Err r) taken =
+          let not-asked = answer-of (afterwards-refused refusal out _ taken) in
+          absurd (refused-value r.file bytes r.reason (sym not-asked ∙ answer-of e))
 
   pub rows_back : RunBack s
   unfolding view_rows
@@ -253,8 +253,8 @@ module _ (s : Source) (sound : ViewsSound s) where
       run = run_from (view_row s) first count out
 
       by-judged : (r : Answer) → s.judged ≡ r
-          → (csv_judged (written_file (afterwards Unasked r out run)) ≡ Value (series_rows (afterwards Unasked r out run).answer))
-          × ((j : ℕ) → j < series_rows (afterwards Unasked r out run).answer
-          → PrintsView (written_file (afterwards Unasked r out run)) (suc j) s (first + j))
-      by-judged (Value n) taken = run-back s taken sound first run (ran s taken sound count first out)
-      by-judged (Refused file why) taken = (file-accepted [] tt, λ j less. absurd (omega arith))
+          → (csv_judged (written_file (afterwards refusal r out run)) ≡ Ok (series_rows (afterwards refusal r out run).answer))
+          × ((j : ℕ) → j < series_rows (afterwards refusal r out run).answer
+          → PrintsView (written_file (afterwards refusal r out run)) (suc j) s (first + j))
+      by-judged (Ok n) taken = run-back s taken sound first run (ran s taken sound count first out)
+      by-judged (Err r) taken = (file-accepted [] tt, λ j less. absurd (omega arith))

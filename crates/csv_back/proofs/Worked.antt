@@ -10,7 +10,6 @@ use Rattle.field.specs.Digits.{value, digit_value}
 use Rattle.field.specs.Text.{text_fault, filled_fault, numeric_like}
 use Rattle.field_outward.specs.Outward.{outward_fault, class, allowed}
 use Rattle.field_outward.specs.Inward.{inward_fault, inward_letter, suffix_fault}
-use Rattle.refusal.specs.declared.Answer.TheVariants.{Value}
 use Rattle.refusal.specs.Outcome.{said}
 use Rattle.source.specs.Address.{Elements}
 use Rattle.label.specs.Lines.{number_text, lines_of}
@@ -20,6 +19,7 @@ use Rattle.csv_paf.specs.File.{rows_of, is_postcode, row_fault, row_fits, csv_ju
 use Rattle.csv_paf.specs.Ask.{row_elements, forbidden_in, row_resolved, row_label, csv_label}
 use Rattle.pack.specs.Opening.{text_good}
 use Rattle.csv_back.specs.Back.{lost, Entry, row_in, Writable}
+use Rattle.std.specs.Prelude.{Ok}
 
 abbrev elements-1 : Elements
 elements-1 =
@@ -117,6 +117,6 @@ unfolding csv_label csv_judged row_label rows_of row_fault row_fits is_postcode 
 row-label-1 = refl
 
 -- the same into a buffer of 38 bytes, which it fills
-pub row-label-1-filled : csv_label row 1 (replicate 38 0) ≡ said (Value 38) of_row
+pub row-label-1-filled : csv_label row 1 (replicate 38 0) ≡ said (Ok 38) of_row
 unfolding csv_label csv_judged row_label rows_of row_fault row_fits is_postcode text_fault filled_fault outward_fault class allowed inward_fault inward_letter suffix_fault row_resolved row_elements forbidden_in value digit_value numeric_like number_text lines_of label_of room_outcome
 row-label-1-filled = refl

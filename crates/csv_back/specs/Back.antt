@@ -7,11 +7,7 @@ use Rattle.field.specs.Test.{elem}
 use Rattle.field.specs.Text.{trim}
 use Rattle.field_outward.specs.Outward.{outward_fault}
 use Rattle.field_outward.specs.Inward.{inward_fault, suffix_fault}
-use Rattle.refusal.specs.declared.Answer.{Answer}
-use Rattle.refusal.specs.declared.Answer.TheVariants.{Value}
 use Rattle.refusal.specs.Outcome.{Outcome, said}
-use Rattle.run.specs.declared.Series.{Series}
-use Rattle.run.specs.declared.Series.TheVariants.{Unasked, Stopped, Done}
 use Rattle.run.specs.Packed.{series_bytes}
 use Rattle.source.specs.Address.{Lookup, Address, Elements, present}
 use Rattle.source.specs.Resolve.{Resolved, elements, refused, forbidden_of, resolve}
@@ -24,6 +20,10 @@ use Rattle.csv_paf.specs.Row.{row_text, carried, view_row, view_rows}
 use Rattle.csv_paf.specs.File.{csv_judged}
 use Rattle.csv_paf.specs.Ask.{filled, csv_label}
 use Rattle.pack.specs.Opening.{slot, text_good}
+use Rattle.std.specs.Prelude.{Ok, Err}
+use Rattle.refusal.specs.Answer.{Answer}
+use Rattle.run.specs.Series.{Series}
+use Rattle.run.specs.declared.Run.TheVariants.{Stopped, Done}
 
 -- ---- where the label is another one
 
@@ -105,11 +105,11 @@ PrintsEntry csv row w = Prints csv row (lost w.printed) (room_outcome (label_of 
 -- a row by itself
 abbrev pub RowBack : Type 0
 RowBack =
-    (w : Entry) → Writable w → (csv_judged (row_in w) ≡ Value 1) × PrintsEntry (row_in w) 1 w
+    (w : Entry) → Writable w → (csv_judged (row_in w) ≡ Ok 1) × PrintsEntry (row_in w) 1 w
 
 -- rows as a file: it is accepted, and each prints its label, whatever stands before and behind it
 abbrev pub FileAccepted : Type 0
-FileAccepted = (ws : List Entry) → AllWritable ws → csv_judged (file_of ws) ≡ Value (length ws)
+FileAccepted = (ws : List Entry) → AllWritable ws → csv_judged (file_of ws) ≡ Ok (length ws)
 
 abbrev pub FileBack : Type 0
 FileBack =
@@ -128,7 +128,7 @@ abbrev pub ViewSound : Lookup → Address → Type 0
 ViewSound look a = (e : Elements) → resolve look a ≡ elements e → EntrySound (entry_of a e)
 
 abbrev pub ViewsSound : Source → Type 0
-ViewsSound s = (n : ℕ) → s.judged ≡ Value n → AllOf (ViewSound s.look) s.views
+ViewsSound s = (n : ℕ) → s.judged ≡ Ok n → AllOf (ViewSound s.look) s.views
 
 -- whether the label of a view needs what a row has no field for
 abbrev pub lost_in : Resolved → Bool
@@ -149,14 +149,14 @@ PrintsView csv row s view = Prints csv row (lost_view s view) (view_label s view
 -- a row that was written, read back as a file of one row
 abbrev pub ViewBack : Source → Type 0
 ViewBack s =
-    (view bytes : ℕ) (out memory : List ℕ) → view_row s view out ≡ said (Value bytes) memory
-    → (csv_judged (take bytes memory) ≡ Value 1) × PrintsView (take bytes memory) 1 s view
+    (view bytes : ℕ) (out memory : List ℕ) → view_row s view out ≡ said (Ok bytes) memory
+    → (csv_judged (take bytes memory) ≡ Ok 1) × PrintsView (take bytes memory) 1 s view
 
 -- how many rows a run wrote
 abbrev pub series_rows : Series → ℕ
-series_rows (Unasked file why) = 0
-series_rows (Stopped rows bytes why) = rows
-series_rows (Done rows bytes) = rows
+series_rows (Err r) = 0
+series_rows (Ok (Stopped rows bytes why)) = rows
+series_rows (Ok (Done rows bytes)) = rows
 
 -- the bytes that it wrote
 abbrev pub written_file : Outcome Series → List ℕ
@@ -167,6 +167,6 @@ written_file r = take (series_bytes r.answer 0) r.memory
 abbrev pub RunBack : Source → Type 0
 RunBack s =
     (first count : ℕ) (out : List ℕ)
-    → (csv_judged (written_file (view_rows s first count out)) ≡ Value (series_rows (view_rows s first count out).answer))
+    → (csv_judged (written_file (view_rows s first count out)) ≡ Ok (series_rows (view_rows s first count out).answer))
     × ((j : ℕ) → j < series_rows (view_rows s first count out).answer
     → PrintsView (written_file (view_rows s first count out)) (suc j) s (first + j))

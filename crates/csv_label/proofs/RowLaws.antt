@@ -1,42 +1,31 @@
 -- Laws of the rows of a file by the places at which they begin.
 -- Assumes nothing.
-use Prim.Native.Nat.{ℕ, zero, suc, ◌+◌, ◌-◌, ◌≤◌, ◌<◌}
-use mathlib.Core.Path.{◌≡◌, refl, sym, ap, ap₂, subst, ◌∙◌}
+use Prim.Native.Nat.{ℕ, zero, suc, ◌+◌, ◌*◌, ◌/◌, ◌≤◌, ◌<◌}
+use mathlib.Core.Path.{◌≡◌, refl, sym, ap, ◌∙◌}
 use mathlib.Core.Bool.{Bool, true, false, cond, not, ◌&&◌, true≢false}
 use mathlib.Core.List.{List, [], ◌∷◌}
-use mathlib.Core.Option.{Option, none, some}
+use mathlib.Core.Option.{none, some}
 use native.Mathlib.Omega.{arith}
 use native.Mathlib.Numerals.{add-one}
-use borrow.Author.Tests.{eqb-true, eq-eqb, ne_eqb, not-true}
+use native.Mathlib.Nat.{zero-mul, suc-mul}
+use borrow.Author.Tests.{eqb-true, not-true}
 use lib.Dec.{eqb}
 use lib.ListN.{length, take, drop, get_or, length-drop, drop_of_length-le}
 use lib.Seq.{drop-cons, drop-drop}
+use Rattle.std.specs.Simd.{first_chunks}
 use Rattle.field.specs.Test.{every}
 use Rattle.field.proofs.Tests.{and_left, and_right}
-use Rattle.refusal.specs.declared.Reason.{Reason}
 use Rattle.refusal.specs.declared.Reason.TheVariants.{BadRow, Uncarried}
-use Rattle.refusal.specs.declared.Verdict.{Verdict}
-use Rattle.refusal.specs.declared.Verdict.TheVariants.{Fine, Bad}
-use Rattle.refusal.specs.declared.Answer.TheVariants.{Value, Refused}
-use Rattle.refusal.specs.Verdict.{or_else}
 use Rattle.refusal.proofs.Answers.{refused-value}
 use Rattle.refusal.proofs.Verdicts.{bad-fine, both-fine}
 use Rattle.csv_paf.specs.File.{starts_with, row_ends, behind_row, rows_from, rows_of, row_fault, first_bad_row, row_fits, all_fit, rows_judged, judged_as, csv_judged}
 use Rattle.csv_paf.specs.Ask.{kth_of}
 use Rattle.csv_paf.proofs.Rows.{behind-less, rows_none, rows_next}
-use Rattle.csv_spans.specs.Row.{GoodRow}
 use Rattle.csv_label.specs.Shown.{row_from, RowPlace}
+use Rattle.std.specs.Prelude.{Ok, Err}
+use Rattle.refusal.specs.Verdict.{Verdict, fine}
 
 -- ---- behind a row, byte by byte
-
-starts-get_d : (s : List ℕ) → eqb (get_or s 0 0) 10 ≡ starts_with 10 s
-starts-get_d [] = refl
-starts-get_d (x ∷ xs) = refl
-
-first_of : (s : List ℕ) (n : ℕ) → get_or (drop n s) 0 0 ≡ get_or s n 0
-first_of s zero = refl
-first_of [] (suc n) = refl
-first_of (x ∷ xs) (suc n) = first_of xs n
 
 some_byte : (s : List ℕ) → starts_with 10 s ≡ true → 1 ≤ length s
 some_byte [] e = absurd (true≢false (sym e))
@@ -45,14 +34,6 @@ some_byte (x ∷ xs) e = omega arith
 module _ (csv : List ℕ) (i : ℕ) where
   abbrev ends : Bool
   ends = row_ends (get_or csv i 0) (drop (i + 1) csv)
-
-  pub no_return : (get_or csv i 0 ≡ 13 → ⊥) → false ≡ ends
-  no_return e = sym (ap (λ (t : Bool). t && starts_with 10 (drop (i + 1) csv)) (ne_eqb (get_or csv i 0) 13 e))
-
-  pub at_return : get_or csv i 0 ≡ 13 → eqb (get_or csv (i + 1) 0) 10 ≡ ends
-  at_return r =
-      ap (λ (b : ℕ). eqb b 10) (sym (first_of csv (i + 1)))
-      ∙ (starts-get_d (drop (i + 1) csv) ∙ sym (ap (λ (b : ℕ). eqb b 13 && starts_with 10 (drop (i + 1) csv)) r))
 
   module _ (h : i < length csv) where
     told : behind_row (drop i csv) ≡ cond ends (drop 1 (drop (i + 1) csv)) (behind_row (drop (i + 1) csv))
@@ -92,6 +73,23 @@ pub behind-past : (csv : List ℕ) (i n : ℕ) → i + n ≤ length csv → ever
     → behind_row (drop i csv) ≡ behind_row (drop (i + n) csv)
 behind-past csv i n h e =
     none-ends n (drop i csv) (omega (arith, length-drop i csv)) e ∙ ap behind_row (drop-drop n i csv)
+
+-- one of some parts of a length
+part-at : (n k : ℕ) (s : List ℕ) (i : ℕ) (d : List ℕ) → i < k → get_or (first_chunks n k s) i d ≡ take n (drop (i * n) s)
+part-at n zero s i d h = absurd (omega arith)
+part-at n (suc k) s zero d h = rw (zero-mul n) refl
+part-at n (suc k) s (suc i) d h =
+    let on : n + i * n ≡ suc i * n = omega (arith, suc-mul i n) in
+    part-at n k (drop n s) i d (omega arith) ∙ ap (take n) (drop-drop (i * n) n s ∙ ap (λ (j : ℕ). drop j s) on)
+
+-- past a part of sixteen bytes of which none is a CR
+pub behind-part : (csv : List ℕ) (at n : ℕ) (d : List ℕ) → n < length (drop at csv) / 16
+    → every (λ x. not (eqb x 13)) (get_or (first_chunks 16 (length (drop at csv) / 16) (drop at csv)) n d) ≡ true
+    → behind_row (drop (at + n * 16) csv) ≡ behind_row (drop (at + (n + 1) * 16) csv)
+behind-part csv at n d h passed =
+    let on : at + n * 16 + 16 ≡ at + (n + 1) * 16 = omega arith in
+    let here = rw (part-at 16 _ (drop at csv) n d h, drop-drop (n * 16) at csv) at passed in
+    behind-past csv (at + n * 16) 16 (omega (arith, length-drop at csv)) here ∙ ap (λ (i : ℕ). behind_row (drop i csv)) on
 
 pub behind-end : (csv : List ℕ) (i : ℕ) → length csv ≤ i → drop i csv ≡ behind_row (drop i csv)
 behind-end csv i h = let e = drop_of_length-le csv {i = i} h in e ∙ sym (ap behind_row e)
@@ -160,29 +158,29 @@ kth-next csv k place next h is on =
 
 -- ---- the rows of an accepted file are good
 
-accepted-fine : (v : Verdict) (m : ℕ) {n : ℕ} → judged_as v m ≡ Value n → v ≡ Fine
-accepted-fine Fine m e = refl
-accepted-fine (Bad why) m {n} e = absurd (refused-value 0 n why e)
+accepted-fine : (v : Verdict) (m : ℕ) {n : ℕ} → judged_as v m ≡ Ok n → v ≡ fine
+accepted-fine (Ok _) m e = refl
+accepted-fine (Err why) m {n} e = absurd (refused-value 0 n why e)
 
-fit-fine : (t : Bool) → cond t Fine (Bad Uncarried) ≡ Fine → t ≡ true
+fit-fine : (t : Bool) → cond t fine (Err Uncarried) ≡ fine → t ≡ true
 fit-fine true e = refl
 fit-fine false e = absurd (bad-fine Uncarried e)
 
-fine-row : (rows : List (List ℕ)) (n : ℕ) (row : List ℕ) (k : ℕ) → first_bad_row n rows ≡ Fine → kth_of rows k ≡ some row
+fine-row : (rows : List (List ℕ)) (n : ℕ) (row : List ℕ) (k : ℕ) → first_bad_row n rows ≡ fine → kth_of rows k ≡ some row
     → row_fault row ≡ 0
 fine-row [] n row k e is = none-some row is
 fine-row (r ∷ rs) n row zero e is = none-some row is
 fine-row (r ∷ rs) n row (suc zero) e is = by-test (eqb (row_fault r) 0) refl e
   where
-    by-test : (t : Bool) → eqb (row_fault r) 0 ≡ t → cond t (first_bad_row (suc n) rs) (Bad (BadRow n (row_fault r))) ≡ Fine
+    by-test : (t : Bool) → eqb (row_fault r) 0 ≡ t → cond t (first_bad_row (suc n) rs) (Err (BadRow n (row_fault r))) ≡ fine
         → row_fault row ≡ 0
     by-test true q f = ap row_fault (sym (same_some r row is)) ∙ eqb-true (row_fault r) 0 q
     by-test false q f = absurd (bad-fine (BadRow n (row_fault r)) f)
 fine-row (r ∷ rs) n row (suc (suc k)) e is =
     by-test (eqb (row_fault r) 0) e (λ f. fine-row rs (suc n) row (suc k) f is)
   where
-    by-test : (t : Bool) → cond t (first_bad_row (suc n) rs) (Bad (BadRow n (row_fault r))) ≡ Fine
-        → (first_bad_row (suc n) rs ≡ Fine → row_fault row ≡ 0)
+    by-test : (t : Bool) → cond t (first_bad_row (suc n) rs) (Err (BadRow n (row_fault r))) ≡ fine
+        → (first_bad_row (suc n) rs ≡ fine → row_fault row ≡ 0)
         → row_fault row ≡ 0
     by-test true f more = more f
     by-test false f more = absurd (bad-fine (BadRow n (row_fault r)) f)
@@ -194,11 +192,11 @@ fit_row (r ∷ rs) row (suc zero) e is =
     ap row_fits (sym (same_some r row is)) ∙ and_left (row_fits r) (all_fit rs) e
 fit_row (r ∷ rs) row (suc (suc k)) e is = fit_row rs row (suc k) (and_right (row_fits r) (all_fit rs) e) is
 
-module _ (csv : List ℕ) {n : ℕ} (accepted : csv_judged csv ≡ Value n) where
-  all-fine : (first_bad_row 1 (rows_of csv) ≡ Fine) × (cond (all_fit (rows_of csv)) Fine (Bad Uncarried) ≡ Fine)
+module _ (csv : List ℕ) {n : ℕ} (accepted : csv_judged csv ≡ Ok n) where
+  all-fine : (first_bad_row 1 (rows_of csv) ≡ fine) × (cond (all_fit (rows_of csv)) fine (Err Uncarried) ≡ fine)
   unfolding csv_judged
   all-fine =
-      both-fine (first_bad_row 1 (rows_of csv)) (cond (all_fit (rows_of csv)) Fine (Bad Uncarried))
+      both-fine (first_bad_row 1 (rows_of csv)) (cond (all_fit (rows_of csv)) fine (Err Uncarried))
       (accepted-fine (rows_judged (rows_of csv)) (length (rows_of csv)) accepted)
 
   pub accepted-row : (k : ℕ) (row : List ℕ) → kth_of (rows_of csv) k ≡ some row → (row_fault row ≡ 0) × (row_fits row ≡ true)

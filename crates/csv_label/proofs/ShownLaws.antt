@@ -1,6 +1,6 @@
 -- Laws of what is shown of one row.
 -- Assumes nothing.
-use Prim.Native.Nat.{ℕ, zero, suc, ◌+◌, ◌-◌, ◌≤◌, ◌<◌}
+use Prim.Native.Nat.{ℕ, ◌-◌, ◌≤◌, ◌<◌}
 use mathlib.Core.Path.{◌≡◌, refl, sym, ap, subst, ◌∙◌}
 use mathlib.Core.Bool.{Bool, true, false, cond}
 use mathlib.Core.List.{List, [], ◌∷◌, ◌++◌}
@@ -13,12 +13,9 @@ use lib.Seq.{take_all}
 use Rattle.field.specs.Text.{trim, part, text_in}
 use Rattle.field.proofs.Fronts.{text_in-bound}
 use Rattle.refusal.specs.declared.Reason.TheVariants.{NoSuchNumber, Combination}
-use Rattle.refusal.specs.declared.Answer.{Answer}
-use Rattle.refusal.specs.declared.Answer.TheVariants.{Value, Refused}
 use Rattle.refusal.specs.Outcome.{said}
 use Rattle.refusal.proofs.Answers.{refused-value}
 use Rattle.refusal.proofs.Outcomes.{afterwards-value}
-use Rattle.run.specs.declared.Series.TheVariants.{Unasked}
 use Rattle.run.specs.Series.{run_from}
 use Rattle.run.proofs.Same.{same-run}
 use Rattle.source.specs.Address.{Elements}
@@ -38,6 +35,8 @@ use Rattle.csv_paf.specs.Ask.{row_word, row_line, row_elements, forbidden_in, ro
 use Rattle.csv_spans.specs.Row.{GoodRow}
 use Rattle.csv_spans.proofs.Laws.{short, postcode-length}
 use Rattle.csv_label.specs.Shown.{resolved_at, shown_of, shown_row, rows_shown, RowPlace}
+use Rattle.std.specs.Prelude.{Ok}
+use Rattle.refusal.specs.Answer.{Answer, refusal}
 
 -- ---- the line of a row
 
@@ -66,18 +65,18 @@ module _ (csv : List ℕ) (place : ℕ) where
   e = row_elements (fields_of (drop place csv))
 
   module _ (out : List ℕ) where
-    pub label-none : length csv ≤ place → label_or (resolved_at csv place) out ≡ said (Refused 0 NoSuchNumber) out
+    pub label-none : length csv ≤ place → label_or (resolved_at csv place) out ≡ said (refusal 0 NoSuchNumber) out
     label-none h = ap (λ (r : Option Resolved). label_or r out) (no_row h)
 
     module _ (h : place < length csv) where
       pub label-refused : {rule : ℕ} → rule ≡ forbidden_in e → (rule ≡ 0 → ⊥)
-          → label_or (resolved_at csv place) out ≡ said (Refused 0 (Combination rule 0)) out
+          → label_or (resolved_at csv place) out ≡ said (refusal 0 (Combination rule 0)) out
       unfolding row_resolved
       label-refused {rule} is some-rule =
           ap (λ (r : Option Resolved). label_or r out) (some-row h)
           ∙ (ap (λ (t : Bool). label_or (some (cond t (elements e) (refused (Combination (forbidden_in e) 0)))) out)
           (ne_eqb (forbidden_in e) 0 (λ z. some-rule (is ∙ z)))
-          ∙ ap (λ (n : ℕ). said (Refused 0 (Combination n 0)) out) (sym is))
+          ∙ ap (λ (n : ℕ). said (refusal 0 (Combination n 0)) out) (sym is))
 
       pub label-printed : forbidden_in e ≡ 0 → label_or (resolved_at csv place) out ≡ room_outcome (label_of e) out
       unfolding row_resolved
@@ -88,13 +87,13 @@ module _ (csv : List ℕ) (place : ℕ) where
 
 -- ---- what is answered with its bytes fits
 
-resolved-within : (r : Resolved) (out : List ℕ) (b : ℕ) → (label_or (some r) out).answer ≡ Value b
+resolved-within : (r : Resolved) (out : List ℕ) (b : ℕ) → (label_or (some r) out).answer ≡ Ok b
     → b ≤ length (label_or (some r) out).memory
 resolved-within (elements x) out b q = room_within (label_of x) out b q
 resolved-within (refused why) out b q = absurd (refused-value 0 b why q)
 
 pub shown-within : (listed : Bool) (row : ℕ) (r : Option Resolved) (out : List ℕ) (b : ℕ)
-    → (shown_of listed row r out).answer ≡ Value b
+    → (shown_of listed row r out).answer ≡ Ok b
     → b ≤ length (shown_of listed row r out).memory
 shown-within true row none out b q = absurd (refused-value 0 b NoSuchNumber q)
 shown-within true row (some r) out b q = room_within (row_line row ++ resolved_text r) out b q
@@ -103,11 +102,11 @@ shown-within false row (some r) out b q = resolved-within r out b q
 
 -- and is of a row that is there
 pub shown-there : (listed : Bool) (csv : List ℕ) (row place : ℕ) (out : List ℕ) (b : ℕ)
-    → (shown_of listed row (resolved_at csv place) out).answer ≡ Value b
+    → (shown_of listed row (resolved_at csv place) out).answer ≡ Ok b
     → place < length csv
 shown-there listed csv row place out b q = by-test (ltb place (length csv)) refl
   where
-    none-shown : (t : Bool) → (shown_of t row none out).answer ≡ Value b → place < length csv
+    none-shown : (t : Bool) → (shown_of t row none out).answer ≡ Ok b → place < length csv
     none-shown true z = absurd (refused-value 0 b NoSuchNumber z)
     none-shown false z = absurd (refused-value 0 b NoSuchNumber z)
 
@@ -115,7 +114,7 @@ shown-there listed csv row place out b q = by-test (ltb place (length csv)) refl
     by-test true z = ltb-true place (length csv) z
     by-test false z =
         none-shown listed
-        (subst (λ (r : Option Resolved). (shown_of listed row r out).answer ≡ Value b)
+        (subst (λ (r : Option Resolved). (shown_of listed row r out).answer ≡ Ok b)
         (no_row csv place (ltb-false place (length csv) z)) q)
 
 -- ---- a label of a good row is short
@@ -207,19 +206,19 @@ module _ (csv : List ℕ) (place row : ℕ) (out : List ℕ) (p : RowPlace csv p
 
 -- ---- where the file is accepted
 
-module _ (csv : List ℕ) {n : ℕ} (accepted : csv_judged csv ≡ Value n) where
+module _ (csv : List ℕ) {n : ℕ} (accepted : csv_judged csv ≡ Ok n) where
   pub label-asked : (row : ℕ) (out : List ℕ) → row_label csv row out ≡ csv_label csv row out
   unfolding csv_label
-  label-asked row out = sym (afterwards-value Refused out _ accepted)
+  label-asked row out = sym (afterwards-value refusal out _ accepted)
 
   item-asked : (row : ℕ) (out : List ℕ) → row_item csv row out ≡ csv_item csv row out
   unfolding csv_item
-  item-asked row out = sym (afterwards-value Refused out _ accepted)
+  item-asked row out = sym (afterwards-value refusal out _ accepted)
 
   pub rows-shown : (listed : Bool) (first count : ℕ) (out : List ℕ)
       → run_from (shown_row listed csv) first count out ≡ rows_shown listed csv first count out
   unfolding csv_list csv_labels row_item row_label
   rows-shown true first count out =
-      same-run _ _ item-asked count first out ∙ sym (afterwards-value Unasked out _ accepted)
+      same-run _ _ item-asked count first out ∙ sym (afterwards-value refusal out _ accepted)
   rows-shown false first count out =
-      same-run _ _ label-asked count first out ∙ sym (afterwards-value Unasked out _ accepted)
+      same-run _ _ label-asked count first out ∙ sym (afterwards-value refusal out _ accepted)

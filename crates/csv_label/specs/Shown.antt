@@ -2,15 +2,15 @@
 -- Assumes nothing.
 use Rattle.std.specs.Prelude.{ℕ, ◌≤◌, ◌<◌, Bool, true, false, List, [], ◌∷◌, length, drop}
 use Rattle.std.proofs.Math.Option.{Option, none, some}
-use Rattle.refusal.specs.declared.Answer.{Answer}
 use Rattle.refusal.specs.Outcome.{Outcome}
 use Rattle.source.specs.Resolve.{Resolved}
 use Rattle.item.specs.Item.{item_outcome}
-use Rattle.run.specs.declared.Series.{Series}
 use Rattle.run.specs.Series.{Asking}
 use Rattle.csv_paf.specs.File.{rows_of}
 use Rattle.csv_paf.specs.Ask.{kth_of, resolved_of, label_or, row_line, csv_labels, csv_list}
 use Rattle.csv_spans.specs.Row.{GoodRow}
+use Rattle.refusal.specs.Answer.{Answer}
+use Rattle.run.specs.Series.{Series}
 
 -- the row that begins at a place, where bytes are left
 abbrev pub row_from : List ℕ → Option (List ℕ)

@@ -20,28 +20,22 @@ use walk::walk;
 pub fn label_of_row(csv: &[u8], row: usize, out: &mut [u8]) -> Answer
     ensures { said result out.new ≡ csv_label csv.now row out.old }
 {
-    match check_csv(csv) {
-        Answer::Value(_) => label_at(csv, row_place(csv, row), out),
-        Answer::Refused { file, reason } => Answer::Refused { file, reason },
-    }
+    check_csv(csv)?;
+    label_at(csv, row_place(csv, row), out)
 }
 
 // So many labels from a row on.
 pub fn labels_of_rows(csv: &[u8], first: usize, count: usize, out: &mut [u8]) -> Series
     ensures { said result out.new ≡ csv_labels csv.now first count out.old }
 {
-    match check_csv(csv) {
-        Answer::Value(rows) => walk(csv, rows, false, first, count, out),
-        Answer::Refused { file, reason } => Series::Unasked { file, reason },
-    }
+    let rows = check_csv(csv)?;
+    walk(csv, rows, false, first, count, out)
 }
 
 // So many items from a row on.
 pub fn list_of_rows(csv: &[u8], first: usize, count: usize, out: &mut [u8]) -> Series
     ensures { said result out.new ≡ csv_list csv.now first count out.old }
 {
-    match check_csv(csv) {
-        Answer::Value(rows) => walk(csv, rows, true, first, count, out),
-        Answer::Refused { file, reason } => Series::Unasked { file, reason },
-    }
+    let rows = check_csv(csv)?;
+    walk(csv, rows, true, first, count, out)
 }

@@ -24,14 +24,13 @@ fn past_sixteens(csv: &[u8], at: usize) -> usize
     ensures { (at ≤ result) × ((result ≤ length csv.now)
         × (behind_row (drop at csv.now) ≡ behind_row (drop result csv.now))) }
 {
-    let mut i = at;
-    while i + 16 <= csv.len() {
-        if !has_none(&csv[i..i + 16], 13) {
-            return i;
+    let (parts, _) = csv[at..].as_chunks::<16>();
+    for (n, part) in parts.iter().enumerate() {
+        if !has_none(part, 13) {
+            return at + n * 16;
         }
-        i += 16;
     }
-    i
+    at + parts.len() * 16
 }
 
 // Behind the row that begins at a place.
@@ -40,14 +39,12 @@ pub fn row_behind(csv: &[u8], at: usize) -> usize
     ensures { (result ≤ length csv.now) × ((at < length csv.now → at < result)
         × (drop result csv.now ≡ behind_row (drop at csv.now))) }
 {
-    let mut i = past_sixteens(csv, at);
-    while i < csv.len() {
+    for i in past_sixteens(csv, at)..csv.len() {
         if ends_row(csv, i) {
             return i + 2;
         }
-        i += 1;
     }
-    i
+    csv.len()
 }
 
 // Where the row of a number begins, or the end of the file.
@@ -58,14 +55,12 @@ pub fn row_place(csv: &[u8], row: usize) -> usize
     if row == 0 {
         return csv.len();
     }
-    let mut left = row - 1;
     let mut at = 0;
-    while 0 < left {
+    for _ in 1..row {
         if csv.len() <= at {
             return at;
         }
         at = row_behind(csv, at);
-        left -= 1;
     }
     at
 }

@@ -1,7 +1,6 @@
 // What is shown of a row of an accepted file: its label, or in a listing its item.
-ghost use Rattle.std.specs.Prelude.{◌≡◌, true, ◌≤◌, length};
+ghost use Rattle.std.specs.Prelude.{◌≡◌, true};
 ghost use Rattle.refusal.specs.Outcome.{said};
-ghost use Rattle.run.specs.Series.{asked_behind};
 ghost use Rattle.csv_paf.specs.Ask.{label_or};
 ghost use Rattle.csv_label.specs.Shown.{resolved_at, shown_of, RowPlace};
 
@@ -16,18 +15,12 @@ pub fn label_at(csv: &[u8], place: usize, out: &mut [u8]) -> Answer
     ensures { said result out.new ≡ label_or (resolved_at csv.now place) out.old }
 {
     if csv.len() <= place {
-        return Answer::Refused {
-            file: 0,
-            reason: Reason::NoSuchNumber,
-        };
+        return Err(Reason::NoSuchNumber.into());
     }
     let spans = row_spans(csv, place);
     let rule = forbidden_in(csv, spans);
     if rule != 0 {
-        return Answer::Refused {
-            file: 0,
-            reason: Reason::Combination { rule, view: 0 },
-        };
+        return Err(Reason::Combination { rule, view: 0 }.into());
     }
     label_print::print_label(csv, csv, spans, out)
 }
@@ -48,7 +41,7 @@ fn item_at(csv: &[u8], row: usize, place: usize, out: &mut [u8]) -> Answer
 }
 
 // Its item, or its label alone.
-fn shown_at(csv: &[u8], row: usize, place: usize, listed: bool, out: &mut [u8]) -> Answer
+pub fn shown_at(csv: &[u8], row: usize, place: usize, listed: bool, out: &mut [u8]) -> Answer
     requires { RowPlace csv.now place }
     ensures { said result out.new
         ≡ shown_of listed row (resolved_at csv.now place) out.old }
@@ -57,20 +50,4 @@ fn shown_at(csv: &[u8], row: usize, place: usize, listed: bool, out: &mut [u8]) 
         return item_at(csv, row, place, out);
     }
     label_at(csv, place, out)
-}
-
-// The same behind so many bytes.
-pub fn shown_behind(
-    csv: &[u8],
-    row: usize,
-    place: usize,
-    listed: bool,
-    at: usize,
-    out: &mut [u8],
-) -> Answer
-    requires { (at ≤ length out.old) × RowPlace csv.now place }
-    ensures { said result out.new ≡ asked_behind at out.old
-        (shown_of listed row (resolved_at csv.now place)) }
-{
-    shown_at(csv, row, place, listed, &mut out[at..])
 }

@@ -6,11 +6,11 @@ use mathlib.Core.Bool.{Bool, true}
 use mathlib.Core.List.{List, [], ◌∷◌, ◌++◌}
 use borrow.Author.Tests.{eq-eqb}
 use lib.ListN.{length}
-use Rattle.refusal.specs.declared.Verdict.TheVariants.{Fine}
-use Rattle.refusal.specs.declared.Answer.TheVariants.{Value}
 use Rattle.csv_paf.specs.Row.{joined}
 use Rattle.csv_paf.specs.File.{rows_of, forms_for, field_fault, row_fault, first_bad_row, widths, field_fits, fields_fit, row_fits, all_fit, csv_judged}
 use Rattle.csv_paf.proofs.Fields.{InFields, fields_back, ended-back}
+use Rattle.std.specs.Prelude.{Ok}
+use Rattle.refusal.specs.Verdict.{fine}
 
 -- each field has its form
 abbrev pub Held : List (List ℕ → Bool) → List (List ℕ) → Type 0
@@ -55,7 +55,7 @@ abbrev pub AllFine : List (List ℕ) → Type 0
 AllFine [] = Unit {0}
 AllFine (row ∷ rows) = RowFine row × AllFine rows
 
-none-bad : (n : ℕ) (rows : List (List ℕ)) → AllFine rows → first_bad_row n rows ≡ Fine
+none-bad : (n : ℕ) (rows : List (List ℕ)) → AllFine rows → first_bad_row n rows ≡ fine
 none-bad n [] h = refl
 none-bad n (row ∷ rows) h = rw (eq-eqb (row_fault row) 0 h.0.formed) (none-bad (suc n) rows h.1)
 
@@ -64,6 +64,6 @@ all-fit [] h = refl
 all-fit (row ∷ rows) h = rw h.0.fits (all-fit rows h.1)
 
 -- a file of such rows is accepted
-pub file-fine : (csv : List ℕ) → AllFine (rows_of csv) → csv_judged csv ≡ Value (length (rows_of csv))
+pub file-fine : (csv : List ℕ) → AllFine (rows_of csv) → csv_judged csv ≡ Ok (length (rows_of csv))
 unfolding csv_judged
 file-fine csv h = rw (none-bad 1 (rows_of csv) h, all-fit (rows_of csv) h)

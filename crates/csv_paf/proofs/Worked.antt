@@ -10,7 +10,6 @@ use Rattle.field_outward.specs.Inward.{inward_fault, inward_letter, suffix_fault
 use Rattle.field.specs.Digits.{value, digit_value}
 use Rattle.field.specs.Text.{text_fault, filled_fault, numeric_like}
 use Rattle.refusal.specs.declared.Reason.TheVariants.{BadRow, Uncarried, NoSuchNumber, Combination, Room}
-use Rattle.refusal.specs.declared.Answer.TheVariants.{Value, Refused}
 use Rattle.refusal.specs.Outcome.{said}
 use Rattle.source.specs.Address.{Address, Elements, none_needed}
 use Rattle.label.specs.Lines.{number_text, lines_of}
@@ -19,6 +18,8 @@ use Rattle.item.specs.Lines.{decimal}
 use Rattle.csv_paf.specs.Row.{row_fields, row_text, row_of, carried}
 use Rattle.csv_paf.specs.File.{rows_of, is_postcode, row_fault, row_fits, csv_judged}
 use Rattle.csv_paf.specs.Ask.{row_elements, forbidden_in, row_resolved, row_label, csv_label, row_line, row_item, csv_item}
+use Rattle.std.specs.Prelude.{Ok}
+use Rattle.refusal.specs.Answer.{refusal}
 
 -- `AB1 9ZZ,HARTWELL BAY,,,QUARRY LANE,,,110-114,ATTIC FLAT,,,,,S, ,1A` and CR LF
 abbrev row : List ℕ
@@ -89,7 +90,7 @@ pub carried-1 : carried elements-1 ≡ true
 unfolding carried
 carried-1 = refl
 
-pub read_back : csv_judged row ≡ Value 1
+pub read_back : csv_judged row ≡ Ok 1
 unfolding csv_judged rows_of row_fault row_fits is_postcode text_fault filled_fault outward_fault class allowed inward_fault inward_letter suffix_fault
 read_back = refl
 
@@ -101,26 +102,26 @@ unfolding csv_label csv_judged row_label rows_of row_fault row_fits is_postcode 
 label-back = refl
 
 -- into a buffer of 54 bytes; the two behind the label stay
-pub label-back-roomy : csv_label row 1 (replicate 54 0) ≡ said (Value 52) (label ++ (0 ∷ 0 ∷ []))
+pub label-back-roomy : csv_label row 1 (replicate 54 0) ≡ said (Ok 52) (label ++ (0 ∷ 0 ∷ []))
 unfolding csv_label csv_judged row_label rows_of row_fault row_fits is_postcode text_fault filled_fault outward_fault class allowed inward_fault inward_letter suffix_fault row_resolved row_elements forbidden_in value digit_value numeric_like number_text lines_of label_of room_outcome
 label-back-roomy = refl
 
 -- the buffer is a byte too short
-pub label-short : csv_label row 1 (replicate 51 0) ≡ said (Refused 0 (Room 52)) (replicate 51 0)
+pub label-short : csv_label row 1 (replicate 51 0) ≡ said (refusal 0 (Room 52)) (replicate 51 0)
 unfolding csv_label csv_judged row_label rows_of row_fault row_fits is_postcode text_fault filled_fault outward_fault class allowed inward_fault inward_letter suffix_fault row_resolved row_elements forbidden_in value digit_value numeric_like number_text lines_of label_of room_outcome
 label-short = refl
 
 -- there is no row 0, and none behind the last
-pub row-0 : csv_label row 0 [] ≡ said (Refused 0 NoSuchNumber) []
+pub row-0 : csv_label row 0 [] ≡ said (refusal 0 NoSuchNumber) []
 unfolding csv_label csv_judged row_label rows_of row_fault row_fits is_postcode text_fault filled_fault outward_fault class allowed inward_fault inward_letter suffix_fault row_resolved row_elements forbidden_in value digit_value numeric_like number_text lines_of label_of room_outcome
 row-0 = refl
 
-pub row-2 : csv_label row 2 [] ≡ said (Refused 0 NoSuchNumber) []
+pub row-2 : csv_label row 2 [] ≡ said (refusal 0 NoSuchNumber) []
 unfolding csv_label csv_judged row_label rows_of row_fault row_fits is_postcode text_fault filled_fault outward_fault class allowed inward_fault inward_letter suffix_fault row_resolved row_elements forbidden_in value digit_value numeric_like number_text lines_of label_of room_outcome
 row-2 = refl
 
 -- its item: the line `row 1`, then the label
-pub listed : csv_item row 1 (replicate 58 0) ≡ said (Value 58) ((114 ∷ 111 ∷ 119 ∷ 32 ∷ 49 ∷ 10 ∷ []) ++ label)
+pub listed : csv_item row 1 (replicate 58 0) ≡ said (Ok 58) ((114 ∷ 111 ∷ 119 ∷ 32 ∷ 49 ∷ 10 ∷ []) ++ label)
 unfolding csv_item row_item row_line decimal csv_label csv_judged row_label rows_of row_fault row_fits is_postcode text_fault filled_fault outward_fault class allowed inward_fault inward_letter suffix_fault row_resolved row_elements forbidden_in value digit_value numeric_like number_text lines_of label_of room_outcome
 listed = refl
 
@@ -128,7 +129,7 @@ listed = refl
 pub empty-file :
     csv_judged
     ([])
-    ≡ Value 0
+    ≡ Ok 0
 unfolding csv_judged rows_of row_fault row_fits is_postcode text_fault filled_fault outward_fault class allowed inward_fault inward_letter suffix_fault
 empty-file = refl
 
@@ -142,7 +143,7 @@ pub two-rows :
     44 ∷ 44 ∷ 44 ∷ 81 ∷ 85 ∷ 65 ∷ 82 ∷ 82 ∷ 89 ∷ 32 ∷ 76 ∷ 65 ∷ 78 ∷ 69 ∷ 44 ∷ 44 ∷ 44 ∷ 49 ∷ 49 ∷ 48 ∷ 45 ∷ 49 ∷
     49 ∷ 52 ∷ 44 ∷ 65 ∷ 84 ∷ 84 ∷ 73 ∷ 67 ∷ 32 ∷ 70 ∷ 76 ∷ 65 ∷ 84 ∷ 44 ∷ 44 ∷ 44 ∷ 44 ∷ 44 ∷ 83 ∷ 44 ∷ 32 ∷ 44 ∷
     49 ∷ 65 ∷ 13 ∷ 10 ∷ [])
-    ≡ Value 2
+    ≡ Ok 2
 unfolding csv_judged rows_of row_fault row_fits is_postcode text_fault filled_fault outward_fault class allowed inward_fault inward_letter suffix_fault
 two-rows = refl
 
@@ -153,7 +154,7 @@ pub no_end :
     44 ∷ 81 ∷ 85 ∷ 65 ∷ 82 ∷ 82 ∷ 89 ∷ 32 ∷ 76 ∷ 65 ∷ 78 ∷ 69 ∷ 44 ∷ 44 ∷ 44 ∷ 49 ∷ 49 ∷ 48 ∷ 45 ∷ 49 ∷ 49 ∷ 52 ∷
     44 ∷ 65 ∷ 84 ∷ 84 ∷ 73 ∷ 67 ∷ 32 ∷ 70 ∷ 76 ∷ 65 ∷ 84 ∷ 44 ∷ 44 ∷ 44 ∷ 44 ∷ 44 ∷ 83 ∷ 44 ∷ 32 ∷ 44 ∷ 49 ∷ 65 ∷
     [])
-    ≡ Refused 0 (BadRow 1 17)
+    ≡ refusal 0 (BadRow 1 17)
 unfolding csv_judged rows_of row_fault row_fits is_postcode text_fault filled_fault outward_fault class allowed inward_fault inward_letter suffix_fault
 no_end = refl
 
@@ -164,7 +165,7 @@ pub surplus :
     44 ∷ 81 ∷ 85 ∷ 65 ∷ 82 ∷ 82 ∷ 89 ∷ 32 ∷ 76 ∷ 65 ∷ 78 ∷ 69 ∷ 44 ∷ 44 ∷ 44 ∷ 49 ∷ 49 ∷ 48 ∷ 45 ∷ 49 ∷ 49 ∷ 52 ∷
     44 ∷ 65 ∷ 84 ∷ 84 ∷ 73 ∷ 67 ∷ 32 ∷ 70 ∷ 76 ∷ 65 ∷ 84 ∷ 44 ∷ 44 ∷ 44 ∷ 44 ∷ 44 ∷ 83 ∷ 44 ∷ 32 ∷ 44 ∷ 49 ∷ 65 ∷
     44 ∷ 88 ∷ 13 ∷ 10 ∷ [])
-    ≡ Refused 0 (BadRow 1 17)
+    ≡ refusal 0 (BadRow 1 17)
 unfolding csv_judged rows_of row_fault row_fits is_postcode text_fault filled_fault outward_fault class allowed inward_fault inward_letter suffix_fault
 surplus = refl
 
@@ -175,7 +176,7 @@ pub lone-cr :
     44 ∷ 44 ∷ 81 ∷ 85 ∷ 65 ∷ 82 ∷ 82 ∷ 89 ∷ 32 ∷ 76 ∷ 65 ∷ 78 ∷ 69 ∷ 44 ∷ 44 ∷ 44 ∷ 49 ∷ 49 ∷ 48 ∷ 45 ∷ 49 ∷ 49 ∷
     52 ∷ 44 ∷ 65 ∷ 84 ∷ 84 ∷ 73 ∷ 67 ∷ 32 ∷ 70 ∷ 76 ∷ 65 ∷ 84 ∷ 44 ∷ 44 ∷ 44 ∷ 44 ∷ 44 ∷ 83 ∷ 44 ∷ 32 ∷ 44 ∷ 49 ∷
     65 ∷ 13 ∷ 10 ∷ [])
-    ≡ Refused 0 (BadRow 1 2)
+    ≡ refusal 0 (BadRow 1 2)
 unfolding csv_judged rows_of row_fault row_fits is_postcode text_fault filled_fault outward_fault class allowed inward_fault inward_letter suffix_fault
 lone-cr = refl
 
@@ -184,7 +185,7 @@ pub ends-early :
     csv_judged
     (65 ∷ 66 ∷ 49 ∷ 32 ∷ 57 ∷ 90 ∷ 90 ∷ 44 ∷ 72 ∷ 65 ∷ 82 ∷ 84 ∷ 87 ∷ 69 ∷ 76 ∷ 76 ∷ 32 ∷ 66 ∷ 65 ∷ 89 ∷ 13 ∷ 10 ∷
     [])
-    ≡ Refused 0 (BadRow 1 3)
+    ≡ refusal 0 (BadRow 1 3)
 unfolding csv_judged rows_of row_fault row_fits is_postcode text_fault filled_fault outward_fault class allowed inward_fault inward_letter suffix_fault
 ends-early = refl
 
@@ -193,7 +194,7 @@ pub no-town :
     csv_judged
     (65 ∷ 66 ∷ 49 ∷ 32 ∷ 57 ∷ 90 ∷ 90 ∷ 44 ∷ 44 ∷ 44 ∷ 44 ∷ 44 ∷ 44 ∷ 44 ∷ 44 ∷ 44 ∷ 44 ∷ 44 ∷ 44 ∷ 44 ∷ 83 ∷ 44 ∷
     32 ∷ 44 ∷ 49 ∷ 65 ∷ 13 ∷ 10 ∷ [])
-    ≡ Refused 0 (BadRow 1 2)
+    ≡ refusal 0 (BadRow 1 2)
 unfolding csv_judged rows_of row_fault row_fits is_postcode text_fault filled_fault outward_fault class allowed inward_fault inward_letter suffix_fault
 no-town = refl
 
@@ -202,7 +203,7 @@ pub double-alone :
     csv_judged
     (65 ∷ 66 ∷ 49 ∷ 32 ∷ 57 ∷ 90 ∷ 90 ∷ 44 ∷ 88 ∷ 44 ∷ 44 ∷ 89 ∷ 44 ∷ 44 ∷ 44 ∷ 44 ∷ 44 ∷ 44 ∷ 44 ∷ 44 ∷ 44 ∷ 44 ∷
     83 ∷ 44 ∷ 32 ∷ 44 ∷ 49 ∷ 65 ∷ 13 ∷ 10 ∷ [])
-    ≡ Refused 0 (BadRow 1 4)
+    ≡ refusal 0 (BadRow 1 4)
 unfolding csv_judged rows_of row_fault row_fits is_postcode text_fault filled_fault outward_fault class allowed inward_fault inward_letter suffix_fault
 double-alone = refl
 
@@ -211,7 +212,7 @@ pub department-alone :
     csv_judged
     (65 ∷ 66 ∷ 49 ∷ 32 ∷ 57 ∷ 90 ∷ 90 ∷ 44 ∷ 88 ∷ 44 ∷ 44 ∷ 44 ∷ 44 ∷ 44 ∷ 44 ∷ 44 ∷ 44 ∷ 44 ∷ 68 ∷ 44 ∷ 44 ∷ 44 ∷
     83 ∷ 44 ∷ 32 ∷ 44 ∷ 49 ∷ 65 ∷ 13 ∷ 10 ∷ [])
-    ≡ Refused 0 (BadRow 1 12)
+    ≡ refusal 0 (BadRow 1 12)
 unfolding csv_judged rows_of row_fault row_fits is_postcode text_fault filled_fault outward_fault class allowed inward_fault inward_letter suffix_fault
 department-alone = refl
 
@@ -220,7 +221,7 @@ pub department-large :
     csv_judged
     (65 ∷ 66 ∷ 49 ∷ 32 ∷ 57 ∷ 90 ∷ 90 ∷ 44 ∷ 88 ∷ 44 ∷ 44 ∷ 44 ∷ 44 ∷ 44 ∷ 44 ∷ 44 ∷ 44 ∷ 44 ∷ 68 ∷ 44 ∷ 44 ∷ 44 ∷
     76 ∷ 44 ∷ 32 ∷ 44 ∷ 49 ∷ 65 ∷ 13 ∷ 10 ∷ [])
-    ≡ Value 1
+    ≡ Ok 1
 unfolding csv_judged rows_of row_fault row_fits is_postcode text_fault filled_fault outward_fault class allowed inward_fault inward_letter suffix_fault
 department-large = refl
 
@@ -229,7 +230,7 @@ pub padded-postcode :
     csv_judged
     (65 ∷ 66 ∷ 49 ∷ 32 ∷ 32 ∷ 57 ∷ 90 ∷ 90 ∷ 44 ∷ 88 ∷ 44 ∷ 44 ∷ 44 ∷ 44 ∷ 44 ∷ 44 ∷ 44 ∷ 44 ∷ 44 ∷ 44 ∷ 44 ∷ 44 ∷
     83 ∷ 44 ∷ 32 ∷ 44 ∷ 49 ∷ 65 ∷ 13 ∷ 10 ∷ [])
-    ≡ Refused 0 (BadRow 1 1)
+    ≡ refusal 0 (BadRow 1 1)
 unfolding csv_judged rows_of row_fault row_fits is_postcode text_fault filled_fault outward_fault class allowed inward_fault inward_letter suffix_fault
 padded-postcode = refl
 
@@ -238,7 +239,7 @@ pub long-number :
     csv_judged
     (65 ∷ 66 ∷ 49 ∷ 32 ∷ 57 ∷ 90 ∷ 90 ∷ 44 ∷ 88 ∷ 44 ∷ 44 ∷ 44 ∷ 44 ∷ 44 ∷ 48 ∷ 48 ∷ 48 ∷ 49 ∷ 50 ∷ 44 ∷ 44 ∷ 44 ∷
     44 ∷ 44 ∷ 44 ∷ 44 ∷ 83 ∷ 44 ∷ 32 ∷ 44 ∷ 49 ∷ 65 ∷ 13 ∷ 10 ∷ [])
-    ≡ Refused 0 Uncarried
+    ≡ refusal 0 Uncarried
 unfolding csv_judged rows_of row_fault row_fits is_postcode text_fault filled_fault outward_fault class allowed inward_fault inward_letter suffix_fault
 long-number = refl
 
@@ -247,7 +248,7 @@ pub quoted :
     csv_judged
     (65 ∷ 66 ∷ 49 ∷ 32 ∷ 57 ∷ 90 ∷ 90 ∷ 44 ∷ 34 ∷ 88 ∷ 34 ∷ 44 ∷ 44 ∷ 44 ∷ 44 ∷ 44 ∷ 44 ∷ 44 ∷ 44 ∷ 44 ∷ 44 ∷ 44 ∷
     44 ∷ 83 ∷ 44 ∷ 32 ∷ 44 ∷ 49 ∷ 65 ∷ 13 ∷ 10 ∷ [])
-    ≡ Refused 0 Uncarried
+    ≡ refusal 0 Uncarried
 unfolding csv_judged rows_of row_fault row_fits is_postcode text_fault filled_fault outward_fault class allowed inward_fault inward_letter suffix_fault
 quoted = refl
 
@@ -257,7 +258,7 @@ pub fourteen-first :
     (65 ∷ 66 ∷ 49 ∷ 32 ∷ 57 ∷ 90 ∷ 90 ∷ 44 ∷ 34 ∷ 88 ∷ 34 ∷ 44 ∷ 44 ∷ 44 ∷ 44 ∷ 44 ∷ 44 ∷ 44 ∷ 44 ∷ 44 ∷ 44 ∷ 44 ∷
     44 ∷ 83 ∷ 44 ∷ 32 ∷ 44 ∷ 49 ∷ 65 ∷ 13 ∷ 10 ∷ 65 ∷ 66 ∷ 49 ∷ 32 ∷ 57 ∷ 90 ∷ 90 ∷ 44 ∷ 88 ∷ 44 ∷ 44 ∷ 44 ∷ 44 ∷
     44 ∷ 44 ∷ 44 ∷ 44 ∷ 44 ∷ 44 ∷ 44 ∷ 44 ∷ 83 ∷ 44 ∷ 32 ∷ 44 ∷ 65 ∷ 49 ∷ 13 ∷ 10 ∷ [])
-    ≡ Refused 0 (BadRow 2 16)
+    ≡ refusal 0 (BadRow 2 16)
 unfolding csv_judged rows_of row_fault row_fits is_postcode text_fault filled_fault outward_fault class allowed inward_fault inward_letter suffix_fault
 fourteen-first = refl
 
@@ -266,7 +267,7 @@ pub empty-indicator :
     csv_judged
     (65 ∷ 66 ∷ 49 ∷ 32 ∷ 57 ∷ 90 ∷ 90 ∷ 44 ∷ 88 ∷ 44 ∷ 44 ∷ 44 ∷ 44 ∷ 44 ∷ 44 ∷ 44 ∷ 44 ∷ 44 ∷ 44 ∷ 44 ∷ 49 ∷ 50 ∷
     51 ∷ 52 ∷ 53 ∷ 54 ∷ 55 ∷ 56 ∷ 44 ∷ 76 ∷ 44 ∷ 44 ∷ 49 ∷ 65 ∷ 13 ∷ 10 ∷ [])
-    ≡ Value 1
+    ≡ Ok 1
 unfolding csv_judged rows_of row_fault row_fits is_postcode text_fault filled_fault outward_fault class allowed inward_fault inward_letter suffix_fault
 empty-indicator = refl
 
@@ -277,7 +278,7 @@ pub lone-lf :
     44 ∷ 44 ∷ 81 ∷ 85 ∷ 65 ∷ 82 ∷ 82 ∷ 89 ∷ 32 ∷ 76 ∷ 65 ∷ 78 ∷ 69 ∷ 44 ∷ 44 ∷ 44 ∷ 49 ∷ 49 ∷ 48 ∷ 45 ∷ 49 ∷ 49 ∷
     52 ∷ 44 ∷ 65 ∷ 84 ∷ 84 ∷ 73 ∷ 67 ∷ 32 ∷ 70 ∷ 76 ∷ 65 ∷ 84 ∷ 44 ∷ 44 ∷ 44 ∷ 44 ∷ 44 ∷ 83 ∷ 44 ∷ 32 ∷ 44 ∷ 49 ∷
     65 ∷ 13 ∷ 10 ∷ [])
-    ≡ Refused 0 (BadRow 1 2)
+    ≡ refusal 0 (BadRow 1 2)
 unfolding csv_judged rows_of row_fault row_fits is_postcode text_fault filled_fault outward_fault class allowed inward_fault inward_letter suffix_fault
 lone-lf = refl
 
@@ -286,7 +287,7 @@ pub long-udprn :
     csv_judged
     (65 ∷ 66 ∷ 49 ∷ 32 ∷ 57 ∷ 90 ∷ 90 ∷ 44 ∷ 88 ∷ 44 ∷ 44 ∷ 44 ∷ 44 ∷ 44 ∷ 44 ∷ 44 ∷ 44 ∷ 44 ∷ 44 ∷ 44 ∷ 49 ∷ 50 ∷
     51 ∷ 52 ∷ 53 ∷ 54 ∷ 55 ∷ 56 ∷ 57 ∷ 44 ∷ 83 ∷ 44 ∷ 32 ∷ 44 ∷ 49 ∷ 65 ∷ 13 ∷ 10 ∷ [])
-    ≡ Refused 0 Uncarried
+    ≡ refusal 0 Uncarried
 unfolding csv_judged rows_of row_fault row_fits is_postcode text_fault filled_fault outward_fault class allowed inward_fault inward_letter suffix_fault
 long-udprn = refl
 
@@ -296,7 +297,7 @@ pub counted-spaces :
     (65 ∷ 66 ∷ 49 ∷ 32 ∷ 57 ∷ 90 ∷ 90 ∷ 44 ∷ 88 ∷ 32 ∷ 32 ∷ 32 ∷ 32 ∷ 32 ∷ 32 ∷ 32 ∷ 32 ∷ 32 ∷ 32 ∷ 32 ∷ 32 ∷ 32 ∷
     32 ∷ 32 ∷ 32 ∷ 32 ∷ 32 ∷ 32 ∷ 32 ∷ 32 ∷ 32 ∷ 32 ∷ 32 ∷ 32 ∷ 32 ∷ 32 ∷ 32 ∷ 32 ∷ 32 ∷ 44 ∷ 44 ∷ 44 ∷ 44 ∷ 44 ∷
     44 ∷ 44 ∷ 44 ∷ 44 ∷ 44 ∷ 44 ∷ 44 ∷ 83 ∷ 44 ∷ 32 ∷ 44 ∷ 49 ∷ 65 ∷ 13 ∷ 10 ∷ [])
-    ≡ Refused 0 Uncarried
+    ≡ refusal 0 Uncarried
 unfolding csv_judged rows_of row_fault row_fits is_postcode text_fault filled_fault outward_fault class allowed inward_fault inward_letter suffix_fault
 counted-spaces = refl
 
@@ -306,7 +307,7 @@ pub thirty-bytes :
     (65 ∷ 66 ∷ 49 ∷ 32 ∷ 57 ∷ 90 ∷ 90 ∷ 44 ∷ 88 ∷ 32 ∷ 32 ∷ 32 ∷ 32 ∷ 32 ∷ 32 ∷ 32 ∷ 32 ∷ 32 ∷ 32 ∷ 32 ∷ 32 ∷ 32 ∷
     32 ∷ 32 ∷ 32 ∷ 32 ∷ 32 ∷ 32 ∷ 32 ∷ 32 ∷ 32 ∷ 32 ∷ 32 ∷ 32 ∷ 32 ∷ 32 ∷ 32 ∷ 32 ∷ 44 ∷ 44 ∷ 44 ∷ 44 ∷ 44 ∷ 44 ∷
     44 ∷ 44 ∷ 44 ∷ 44 ∷ 44 ∷ 44 ∷ 83 ∷ 44 ∷ 32 ∷ 44 ∷ 49 ∷ 65 ∷ 13 ∷ 10 ∷ [])
-    ≡ Value 1
+    ≡ Ok 1
 unfolding csv_judged rows_of row_fault row_fits is_postcode text_fault filled_fault outward_fault class allowed inward_fault inward_letter suffix_fault
 thirty-bytes = refl
 
@@ -315,7 +316,7 @@ pub malformed-and-long :
     csv_judged
     (65 ∷ 66 ∷ 49 ∷ 32 ∷ 57 ∷ 90 ∷ 90 ∷ 44 ∷ 88 ∷ 44 ∷ 44 ∷ 44 ∷ 44 ∷ 44 ∷ 49 ∷ 50 ∷ 51 ∷ 52 ∷ 88 ∷ 44 ∷ 44 ∷ 44 ∷
     44 ∷ 44 ∷ 44 ∷ 44 ∷ 83 ∷ 44 ∷ 32 ∷ 44 ∷ 49 ∷ 65 ∷ 13 ∷ 10 ∷ [])
-    ≡ Refused 0 (BadRow 1 7)
+    ≡ refusal 0 (BadRow 1 7)
 unfolding csv_judged rows_of row_fault row_fits is_postcode text_fault filled_fault outward_fault class allowed inward_fault inward_letter suffix_fault
 malformed-and-long = refl
 
@@ -327,7 +328,7 @@ pub street-80 :
     83 ∷ 83 ∷ 83 ∷ 83 ∷ 83 ∷ 83 ∷ 83 ∷ 83 ∷ 83 ∷ 83 ∷ 83 ∷ 83 ∷ 83 ∷ 83 ∷ 83 ∷ 83 ∷ 83 ∷ 83 ∷ 83 ∷ 83 ∷ 83 ∷ 83 ∷
     83 ∷ 83 ∷ 83 ∷ 83 ∷ 83 ∷ 83 ∷ 83 ∷ 83 ∷ 83 ∷ 83 ∷ 83 ∷ 83 ∷ 83 ∷ 83 ∷ 83 ∷ 83 ∷ 83 ∷ 83 ∷ 83 ∷ 83 ∷ 83 ∷ 83 ∷
     83 ∷ 83 ∷ 83 ∷ 83 ∷ 44 ∷ 44 ∷ 44 ∷ 44 ∷ 44 ∷ 44 ∷ 44 ∷ 44 ∷ 44 ∷ 83 ∷ 44 ∷ 32 ∷ 44 ∷ 49 ∷ 65 ∷ 13 ∷ 10 ∷ [])
-    ≡ Value 1
+    ≡ Ok 1
 unfolding csv_judged rows_of row_fault row_fits is_postcode text_fault filled_fault outward_fault class allowed inward_fault inward_letter suffix_fault
 street-80 = refl
 
@@ -339,7 +340,7 @@ pub street-81 :
     83 ∷ 83 ∷ 83 ∷ 83 ∷ 83 ∷ 83 ∷ 83 ∷ 83 ∷ 83 ∷ 83 ∷ 83 ∷ 83 ∷ 83 ∷ 83 ∷ 83 ∷ 83 ∷ 83 ∷ 83 ∷ 83 ∷ 83 ∷ 83 ∷ 83 ∷
     83 ∷ 83 ∷ 83 ∷ 83 ∷ 83 ∷ 83 ∷ 83 ∷ 83 ∷ 83 ∷ 83 ∷ 83 ∷ 83 ∷ 83 ∷ 83 ∷ 83 ∷ 83 ∷ 83 ∷ 83 ∷ 83 ∷ 83 ∷ 83 ∷ 83 ∷
     83 ∷ 83 ∷ 83 ∷ 83 ∷ 83 ∷ 44 ∷ 44 ∷ 44 ∷ 44 ∷ 44 ∷ 44 ∷ 44 ∷ 44 ∷ 44 ∷ 83 ∷ 44 ∷ 32 ∷ 44 ∷ 49 ∷ 65 ∷ 13 ∷ 10 ∷ [])
-    ≡ Refused 0 Uncarried
+    ≡ refusal 0 Uncarried
 unfolding csv_judged rows_of row_fault row_fits is_postcode text_fault filled_fault outward_fault class allowed inward_fault inward_letter suffix_fault
 street-81 = refl
 
@@ -350,7 +351,7 @@ pub rule-1 :
     44 ∷ 44 ∷ 44 ∷ 44 ∷ 44 ∷ 83 ∷ 44 ∷ 32 ∷ 44 ∷ 49 ∷ 65 ∷ 13 ∷ 10 ∷ [])
     1
     []
-    ≡ said (Refused 0 (Combination 1 0)) []
+    ≡ said (refusal 0 (Combination 1 0)) []
 unfolding csv_label csv_judged row_label rows_of row_fault row_fits is_postcode text_fault filled_fault outward_fault class allowed inward_fault inward_letter suffix_fault row_resolved row_elements forbidden_in value digit_value numeric_like number_text lines_of label_of room_outcome
 rule-1 = refl
 
@@ -361,7 +362,7 @@ pub rule-2 :
     83 ∷ 44 ∷ 32 ∷ 44 ∷ 49 ∷ 65 ∷ 13 ∷ 10 ∷ [])
     1
     []
-    ≡ said (Refused 0 (Combination 2 0)) []
+    ≡ said (refusal 0 (Combination 2 0)) []
 unfolding csv_label csv_judged row_label rows_of row_fault row_fits is_postcode text_fault filled_fault outward_fault class allowed inward_fault inward_letter suffix_fault row_resolved row_elements forbidden_in value digit_value numeric_like number_text lines_of label_of room_outcome
 rule-2 = refl
 
@@ -372,7 +373,7 @@ pub padding :
     44 ∷ 44 ∷ 83 ∷ 44 ∷ 32 ∷ 44 ∷ 49 ∷ 65 ∷ 13 ∷ 10 ∷ [])
     1
     []
-    ≡ said (Refused 0 (Room 10)) []
+    ≡ said (refusal 0 (Room 10)) []
 unfolding csv_label csv_judged row_label rows_of row_fault row_fits is_postcode text_fault filled_fault outward_fault class allowed inward_fault inward_letter suffix_fault row_resolved row_elements forbidden_in value digit_value numeric_like number_text lines_of label_of room_outcome
 padding = refl
 

@@ -1,15 +1,11 @@
 -- The labels of a file of CSV PAF, one, in turn or listed.
 -- Assumes nothing.
-use Rattle.std.specs.Prelude.{ℕ, zero, suc, ◌+◌, Bool, false, cond, not, List, [], ◌∷◌, ◌++◌, eqb, get_or}
+use Rattle.std.specs.Prelude.{ℕ, zero, suc, Bool, false, cond, not, List, [], ◌∷◌, ◌++◌, eqb, get_or}
 use Rattle.std.proofs.Math.Option.{Option, none, some}
 use Rattle.field.specs.Digits.{value}
 use Rattle.field.specs.Text.{trim}
 use Rattle.refusal.specs.declared.Reason.TheVariants.{NoSuchNumber, Combination}
-use Rattle.refusal.specs.declared.Answer.{Answer}
-use Rattle.refusal.specs.declared.Answer.TheVariants.{Refused}
 use Rattle.refusal.specs.Outcome.{Outcome, said, afterwards}
-use Rattle.run.specs.declared.Series.{Series}
-use Rattle.run.specs.declared.Series.TheVariants.{Unasked}
 use Rattle.run.specs.Series.{run_from}
 use Rattle.source.specs.Address.{Elements, present}
 use Rattle.source.specs.Resolve.{Resolved, elements, refused, forbidden_of}
@@ -18,6 +14,8 @@ use Rattle.label.specs.Label.{resolved_outcome}
 use Rattle.item.specs.Lines.{spaced_number}
 use Rattle.item.specs.Item.{item_outcome}
 use Rattle.csv_paf.specs.File.{fields_of, rows_of, outward_in, inward_in, csv_judged}
+use Rattle.refusal.specs.Answer.{Answer, refusal}
+use Rattle.run.specs.Series.{Series}
 
 -- a field's text: "trailing spaces are padding"
 abbrev pub text_at : List (List ℕ) → ℕ → List ℕ
@@ -72,7 +70,7 @@ resolved_of (some row) = some (row_resolved row)
 
 -- "then 7 where the row asked for is not there; then 8 of that row ..; then 10"
 abbrev pub label_or : Option Resolved → List ℕ → Outcome Answer
-label_or none out = said (Refused 0 NoSuchNumber) out
+label_or none out = said (refusal 0 NoSuchNumber) out
 label_or (some r) out = resolved_outcome r out
 
 unfoldable pub row_label : List ℕ → (row : ℕ) → List ℕ → Outcome Answer
@@ -80,11 +78,11 @@ row_label csv row out = label_or (resolved_of (kth_of (rows_of csv) row)) out
 
 -- "reading: 14, 15, 8, 10"
 unfoldable pub csv_label : List ℕ → (row : ℕ) → List ℕ → Outcome Answer
-csv_label csv row out = afterwards Refused (csv_judged csv) out (row_label csv row out)
+csv_label csv row out = afterwards refusal (csv_judged csv) out (row_label csv row out)
 
 -- a run of labels
 unfoldable pub csv_labels : List ℕ → (first count : ℕ) → List ℕ → Outcome Series
-csv_labels csv first count out = afterwards Unasked (csv_judged csv) out (run_from (csv_label csv) first count out)
+csv_labels csv first count out = afterwards refusal (csv_judged csv) out (run_from (csv_label csv) first count out)
 
 -- a listing: the line `row N`, then the label or the line of its refusal
 abbrev pub row_word : List ℕ
@@ -97,7 +95,7 @@ unfoldable pub row_item : List ℕ → (row : ℕ) → List ℕ → Outcome Answ
 row_item csv row out = item_outcome (row_line row) (resolved_of (kth_of (rows_of csv) row)) out
 
 unfoldable pub csv_item : List ℕ → (row : ℕ) → List ℕ → Outcome Answer
-csv_item csv row out = afterwards Refused (csv_judged csv) out (row_item csv row out)
+csv_item csv row out = afterwards refusal (csv_judged csv) out (row_item csv row out)
 
 unfoldable pub csv_list : List ℕ → (first count : ℕ) → List ℕ → Outcome Series
-csv_list csv first count out = afterwards Unasked (csv_judged csv) out (run_from (csv_item csv) first count out)
+csv_list csv first count out = afterwards refusal (csv_judged csv) out (run_from (csv_item csv) first count out)

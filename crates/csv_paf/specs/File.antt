@@ -8,11 +8,10 @@ use Rattle.field_outward.specs.Outward.{outward_fault}
 use Rattle.field_outward.specs.Inward.{inward_fault, suffix_fault}
 use Rattle.file_compare.specs.Order.{same}
 use Rattle.refusal.specs.declared.Reason.TheVariants.{BadRow, Uncarried}
-use Rattle.refusal.specs.declared.Verdict.{Verdict}
-use Rattle.refusal.specs.declared.Verdict.TheVariants.{Fine, Bad}
-use Rattle.refusal.specs.declared.Answer.{Answer}
-use Rattle.refusal.specs.declared.Answer.TheVariants.{Value, Refused}
 use Rattle.refusal.specs.Verdict.{or_else}
+use Rattle.std.specs.Prelude.{Ok, Err}
+use Rattle.refusal.specs.Answer.{Answer, refusal}
+use Rattle.refusal.specs.Verdict.{Verdict, fine}
 
 -- ---- rows and fields
 
@@ -143,9 +142,9 @@ row_fault row = field_fault (forms_for (fields_of row)) 1 (fields_of row) (is_en
 
 -- "the first malformed field of the first such row", rows counted on from n
 abbrev pub first_bad_row : ℕ → List (List ℕ) → Verdict
-first_bad_row n [] = Fine
+first_bad_row n [] = fine
 first_bad_row n (row ∷ rows) =
-    cond (eqb (row_fault row) 0) (first_bad_row (suc n) rows) (Bad (BadRow n (row_fault row)))
+    cond (eqb (row_fault row) 0) (first_bad_row (suc n) rows) (Err (BadRow n (row_fault row)))
 
 -- ---- refusal 15
 
@@ -177,12 +176,12 @@ all_fit (row ∷ rows) = row_fits row && all_fit rows
 
 -- "14 of any row first, then 15 of any row"
 abbrev pub rows_judged : List (List ℕ) → Verdict
-rows_judged rows = or_else (first_bad_row 1 rows) (cond (all_fit rows) Fine (Bad Uncarried))
+rows_judged rows = or_else (first_bad_row 1 rows) (cond (all_fit rows) fine (Err Uncarried))
 
 -- how many rows, or the refusal
 abbrev pub judged_as : Verdict → ℕ → Answer
-judged_as Fine rows = Value rows
-judged_as (Bad why) rows = Refused 0 why
+judged_as (Ok _) rows = Ok rows
+judged_as (Err why) rows = refusal 0 why
 
 -- "an empty file has none and is accepted"
 unfoldable pub csv_judged : List ℕ → Answer

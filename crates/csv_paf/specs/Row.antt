@@ -4,11 +4,7 @@ use Rattle.std.specs.Prelude.{ℕ, Bool, true, cond, not, ◌&&◌, List, [], �
 use Rattle.std.proofs.Math.Option.{Option, none, some}
 use Rattle.field.specs.Test.{every}
 use Rattle.refusal.specs.declared.Reason.TheVariants.{NoSuchNumber, Uncarried}
-use Rattle.refusal.specs.declared.Answer.{Answer}
-use Rattle.refusal.specs.declared.Answer.TheVariants.{Refused}
 use Rattle.refusal.specs.Outcome.{Outcome, said, afterwards}
-use Rattle.run.specs.declared.Series.{Series}
-use Rattle.run.specs.declared.Series.TheVariants.{Unasked}
 use Rattle.run.specs.Series.{run_from}
 use Rattle.source.specs.Address.{Lookup, Address, Elements}
 use Rattle.source.specs.Resolve.{Resolved, elements, refused, resolve}
@@ -16,6 +12,8 @@ use Rattle.label.specs.Lines.{spaced, street, number_text}
 use Rattle.label.specs.Label.{room_outcome}
 use Rattle.ask.specs.Source.{Source}
 use Rattle.ask.specs.Labels.{kth}
+use Rattle.refusal.specs.Answer.{Answer, refusal}
+use Rattle.run.specs.Series.{Series}
 
 -- "Small User Organisation Indicator. Can have the values 'Y' or space"
 abbrev pub indicator_mark : Bool → ℕ
@@ -99,14 +97,14 @@ carried e =
 
 -- "Writing: the label's own, 15, then 10"
 unfoldable pub written_outcome : (row : List ℕ) → Elements → List ℕ → Outcome Answer
-written_outcome row e out = cond (carried e) (room_outcome row out) (said (Refused 0 Uncarried) out)
+written_outcome row e out = cond (carried e) (room_outcome row out) (said (refusal 0 Uncarried) out)
 
 abbrev pub row_outcome : Address → Resolved → List ℕ → Outcome Answer
 row_outcome a (elements e) out = written_outcome (row_of a e) e out
-row_outcome a (refused why) out = said (Refused 0 why) out
+row_outcome a (refused why) out = said (refusal 0 why) out
 
 abbrev pub row_or : Lookup → Option Address → List ℕ → Outcome Answer
-row_or look none out = said (Refused 0 NoSuchNumber) out
+row_or look none out = said (refusal 0 NoSuchNumber) out
 row_or look (some a) out = row_outcome a (resolve look a) out
 
 unfoldable pub kth_row : Lookup → List Address → ℕ → List ℕ → Outcome Answer
@@ -114,8 +112,8 @@ kth_row look addresses k out = row_or look (kth addresses k) out
 
 -- the row of a view, of any source
 unfoldable pub view_row : Source → (view : ℕ) → List ℕ → Outcome Answer
-view_row s view out = afterwards Refused s.judged out (kth_row s.look s.views view out)
+view_row s view out = afterwards refusal s.judged out (kth_row s.look s.views view out)
 
 -- a run of rows
 unfoldable pub view_rows : Source → (first count : ℕ) → List ℕ → Outcome Series
-view_rows s first count out = afterwards Unasked s.judged out (run_from (view_row s) first count out)
+view_rows s first count out = afterwards refusal s.judged out (run_from (view_row s) first count out)

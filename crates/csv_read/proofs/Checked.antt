@@ -2,23 +2,24 @@
 -- Assumes nothing.
 use Prim.Native.Nat.{ℕ, suc, ◌+◌, ◌≤◌, ◌<◌}
 use mathlib.Core.Path.{◌≡◌, refl, sym, ap, ap₂, ◌∙◌}
-use mathlib.Core.Bool.{Bool, true, false, cond, ◌&&◌}
+use mathlib.Core.Bool.{Bool, true, false, cond, ◌&&◌, and_assoc}
 use mathlib.Core.List.{List, [], ◌∷◌}
 use native.Mathlib.Omega.{arith}
 use native.Mathlib.Numerals.{add-one}
 use borrow.Author.Tests.{eq-eqb, ne_eqb}
 use lib.Dec.{eqb}
+use Rattle.field.proofs.Tests.{and-true}
 use lib.ListN.{length, drop, get_or, drop_of_length-le}
 use lib.Seq.{drop-cons}
 use Rattle.refusal.specs.declared.Reason.TheVariants.{BadRow, Uncarried}
-use Rattle.refusal.specs.declared.Verdict.{Verdict}
-use Rattle.refusal.specs.declared.Verdict.TheVariants.{Fine, Bad}
-use Rattle.refusal.specs.declared.Answer.TheVariants.{Value, Refused}
 use Rattle.refusal.specs.Verdict.{or_else}
-use Rattle.csv_paf.specs.File.{behind_row, rows_of, row_fault, first_bad_row, row_fits, all_fit, rows_judged, judged_as, csv_judged}
+use Rattle.csv_paf.specs.File.{behind_row, rows_of, row_fault, first_bad_row, row_fits, all_fit, judged_as, csv_judged}
 use Rattle.csv_paf.proofs.Rows.{rows_none, rows_next}
 use Rattle.csv_read.specs.Judged.{Ends}
-use Rattle.csv_read.specs.declared.rows.Judged.{Judged}
+use Rattle.csv_read.specs.declared.rows.Row.{Row}
+use Rattle.std.specs.Prelude.{Ok, Err}
+use Rattle.refusal.specs.Answer.{refusal}
+use Rattle.refusal.specs.Verdict.{Verdict, fine}
 
 -- so many rows before a place have no fault; whether none of them is refused with 15
 pub record Checking (csv : List ℕ) (rows : ℕ) (fit : Bool) (at : ℕ) : Type 0 where
@@ -32,21 +33,13 @@ pub checking-start : (csv : List ℕ) → Checking csv 0 true 0
 checking-start csv =
     record { within = omega arith; few = omega arith; bad = refl; fits = refl; many = omega arith }
 
-and_assoc : (a b c : Bool) → a && (b && c) ≡ (a && b) && c
-and_assoc true b c = refl
-and_assoc false b c = refl
-
 module _ {csv : List ℕ} {rows : ℕ} {fit : Bool} {at : ℕ} (k : Checking csv rows fit at) where
   -- no row is left
   module _ (end : length csv ≤ at) where
     none : rows_of (drop at csv) ≡ []
     none = ap rows_of (drop_of_length-le csv {i = at} end) ∙ rows_none
 
-    and-true : (b : Bool) → b && true ≡ b
-    and-true true = refl
-    and-true false = refl
-
-    no-bad : first_bad_row 1 (rows_of csv) ≡ Fine
+    no-bad : first_bad_row 1 (rows_of csv) ≡ fine
     no-bad = k.bad ∙ ap (first_bad_row (suc rows)) none
 
     fit_all : all_fit (rows_of csv) ≡ fit
@@ -58,17 +51,17 @@ module _ {csv : List ℕ} {rows : ℕ} {fit : Bool} {at : ℕ} (k : Checking csv
         zero_more : (n : ℕ) → n + 0 ≡ n
         zero_more n = omega arith
 
-    judged-as : csv_judged csv ≡ judged_as (cond fit Fine (Bad Uncarried)) rows
+    judged-as : csv_judged csv ≡ judged_as (cond fit fine (Err Uncarried)) rows
     unfolding csv_judged
     judged-as =
         ap₂ judged_as
-        (ap₂ (λ (v : Verdict) (t : Bool). or_else v (cond t Fine (Bad Uncarried))) no-bad fit_all) rows_all
+        (ap₂ (λ (v : Verdict) (t : Bool). or_else v (cond t fine (Err Uncarried))) no-bad fit_all) rows_all
 
-    pub checked-fine : fit ≡ true → Value rows ≡ csv_judged csv
-    checked-fine e = sym (judged-as ∙ ap (λ (t : Bool). judged_as (cond t Fine (Bad Uncarried)) rows) e)
+    pub checked-fine : fit ≡ true → Ok rows ≡ csv_judged csv
+    checked-fine e = sym (judged-as ∙ ap (λ (t : Bool). judged_as (cond t fine (Err Uncarried)) rows) e)
 
-    pub checked-long : fit ≡ false → Refused 0 Uncarried ≡ csv_judged csv
-    checked-long e = sym (judged-as ∙ ap (λ (t : Bool). judged_as (cond t Fine (Bad Uncarried)) rows) e)
+    pub checked-long : fit ≡ false → refusal 0 Uncarried ≡ csv_judged csv
+    checked-long e = sym (judged-as ∙ ap (λ (t : Bool). judged_as (cond t fine (Err Uncarried)) rows) e)
 
   -- a row is left
   module _ (left : at < length csv) where
@@ -83,33 +76,33 @@ module _ {csv : List ℕ} {rows : ℕ} {fit : Bool} {at : ℕ} (k : Checking csv
 
     told : first_bad_row 1 (rows_of csv)
         ≡ cond (eqb (row_fault row) 0) (first_bad_row (suc (suc rows)) (rows_of (behind_row row)))
-        (Bad (BadRow (suc rows) (row_fault row)))
+        (Err (BadRow (suc rows) (row_fault row)))
     told = k.bad ∙ ap (first_bad_row (suc rows)) next
 
-    pub checked-bad : {fault : ℕ} → fault ≡ row_fault row → (fault ≡ 0 → ⊥) → Refused 0 (BadRow (rows + 1) fault) ≡ csv_judged csv
+    pub checked-bad : {fault : ℕ} → fault ≡ row_fault row → (fault ≡ 0 → ⊥) → refusal 0 (BadRow (rows + 1) fault) ≡ csv_judged csv
     unfolding csv_judged
     checked-bad {fault} is some =
         sym
-        (ap (λ (v : Verdict). judged_as (or_else v (cond (all_fit (rows_of csv)) Fine (Bad Uncarried))) (length (rows_of csv)))
+        (ap (λ (v : Verdict). judged_as (or_else v (cond (all_fit (rows_of csv)) fine (Err Uncarried))) (length (rows_of csv)))
         (told
-        ∙ (ap (λ (t : Bool). cond t (first_bad_row (suc (suc rows)) (rows_of (behind_row row))) (Bad (BadRow (suc rows) (row_fault row))))
+        ∙ (ap (λ (t : Bool). cond t (first_bad_row (suc (suc rows)) (rows_of (behind_row row))) (Err (BadRow (suc rows) (row_fault row))))
         (ne_eqb (row_fault row) 0 (λ z. some (is ∙ z)))
-        ∙ ap₂ (λ (n f : ℕ). Bad (BadRow n f)) (sym (add-one rows)) (sym is))))
+        ∙ ap₂ (λ (n f : ℕ). Err (BadRow n f)) (sym (add-one rows)) (sym is))))
 
-    pub checking-step : {j : Judged} → row_fault row ≡ 0 → Ends csv at j → Checking csv (rows + 1) (fit && j.fits) j.end
-    checking-step {j} fine e =
+    pub checking-step : {j : Row} → Ends csv at j → Checking csv (rows + 1) (fit && j.fits) j.end
+    checking-step {j} e =
         record {
           within = e.high;
           few = omega (arith, k.few, e.on);
           bad =
               told
-              ∙ (ap (λ (t : Bool). cond t (first_bad_row (suc (suc rows)) (rows_of (behind_row row))) (Bad (BadRow (suc rows) (row_fault row))))
-              (eq-eqb (row_fault row) 0 fine)
+              ∙ (ap (λ (t : Bool). cond t (first_bad_row (suc (suc rows)) (rows_of (behind_row row))) (Err (BadRow (suc rows) (row_fault row))))
+              (eq-eqb (row_fault row) 0 e.sound)
               ∙ ap₂ (λ (n : ℕ) (r : List ℕ). first_bad_row (suc n) (rows_of r)) (sym (add-one rows)) (sym e.behind));
           fits =
               k.fits
               ∙ (ap (λ (rs : List (List ℕ)). fit && all_fit rs) next
-              ∙ (and_assoc fit (row_fits row) (all_fit (rows_of (behind_row row)))
+              ∙ (sym (and_assoc fit (row_fits row) (all_fit (rows_of (behind_row row))))
               ∙ ap₂ (λ (t : Bool) (r : List ℕ). (fit && t) && all_fit (rows_of r)) (sym e.fits) (sym e.behind)));
           many =
               k.many

@@ -1,16 +1,15 @@
 -- Laws of the forms of fields, in the order in which the code asks.
 -- Assumes nothing.
 use Prim.Native.Nat.{ℕ, zero, suc, ◌+◌, ◌-◌, ◌≤◌, ◌<◌}
-use mathlib.Core.Path.{◌≡◌, refl, sym, ap, ap₂, ◌∙◌}
-use mathlib.Core.Bool.{Bool, true, false, cond, not, ◌&&◌}
+use mathlib.Core.Path.{◌≡◌, refl, sym, ap, ◌∙◌}
+use mathlib.Core.Bool.{Bool, true, false, cond, ◌&&◌}
 use mathlib.Core.List.{List, [], ◌∷◌}
 use native.Mathlib.Omega.{arith}
 use borrow.Author.Tests.{lt-leb, le-leb, ne_eqb}
-use lib.Dec.{eqb, leb}
+use lib.Dec.{eqb}
 use lib.ListN.{length, take, drop, get_or, length-drop}
 use lib.Seq.{take_all, get_or-drop}
-use Rattle.field.specs.Test.{within}
-use Rattle.field.specs.Text.{blank, text_fault, filled_fault}
+use Rattle.field.specs.Text.{blank}
 use Rattle.field_outward.specs.Inward.{inward_fault}
 use Rattle.file_compare.specs.Order.{same}
 use Rattle.csv_paf.specs.File.{padded, is_outward, is_postcode, is_text, is_filled, outward_in, inward_in, double_form, organisation_form, forms_for}

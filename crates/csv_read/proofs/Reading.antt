@@ -1,32 +1,24 @@
 -- A row read field by field: where reading begins, goes on and ends.
 -- Assumes nothing.
 use Prim.Native.Nat.{ℕ, zero, suc, ◌+◌, ◌≤◌, ◌<◌}
-use mathlib.Core.Path.{◌≡◌, refl, sym, ap, ap₂, subst, ◌∙◌}
-use mathlib.Core.Bool.{Bool, true, false, cond, not, ◌&&◌}
+use mathlib.Core.Path.{◌≡◌, refl, sym, ap, ap₂, ◌∙◌}
+use mathlib.Core.Bool.{Bool, true, false, cond, ◌&&◌, and_assoc}
 use mathlib.Core.List.{List, [], ◌∷◌}
 use native.Mathlib.Omega.{arith}
 use native.Mathlib.Nat.{add-zero}
 use native.Mathlib.Numerals.{add-one}
-use borrow.Author.Tests.{leb-true, eqb-true, eqb-false, eq-eqb, ne_eqb}
+use borrow.Author.Tests.{leb-true, eqb-true, eqb-false}
 use lib.Dec.{eqb, leb}
 use lib.ListN.{length, drop, get_or}
 use lib.Seq.{drop-cons, drop-drop, get_or-drop}
 use Rattle.field.specs.Test.{every}
-use Rattle.field.proofs.Tests.{and_left, and_right}
+use Rattle.field.proofs.Tests.{and_left, and_right, and-true}
 use Rattle.field.specs.Text.{blank, part}
 use Rattle.csv_paf.specs.File.{fields_of, is_ended, behind_row, forms_for, field_fault, row_fault, widths, field_fits, fields_fit, row_fits}
-use Rattle.csv_read.specs.declared.rows.Judged.{Judged}
+use Rattle.std.specs.Prelude.{Ok, Err}
 use Rattle.csv_read.specs.Cut.{more_fields, field_end}
-use Rattle.csv_read.specs.Judged.{no_form, Reading, faulty_row, ended_row, Ends, Judges}
+use Rattle.csv_read.specs.Judged.{no_form, Reading, ended_row, Judges}
 use Rattle.csv_read.proofs.Cut.{end_low, fields_at, ended_at, behind-at, comma-within, fields-behind, ended-behind, row-behind, fields-none, first-as, return-ended, return-behind, return-high, other-ended}
-
-pub not-not : (t : Bool) → not (not t) ≡ t
-not-not true = refl
-not-not false = refl
-
-and_assoc : (a b c : Bool) → a && (b && c) ≡ (a && b) && c
-and_assoc true b c = refl
-and_assoc false b c = refl
 
 -- no field is wider than 80
 at_most : (s : List ℕ) (n most : ℕ) → every (λ w. leb w most) s ≡ true → get_or s n 0 ≤ most
@@ -36,18 +28,6 @@ at_most (x ∷ xs) (suc n) most e = at_most xs n most (and_right (leb x most) (e
 
 pub width_small : (n : ℕ) → get_or widths n 0 ≤ 80
 width_small n = at_most widths n 80 refl
-
--- ---- a row that ends behind its n-th field
-
-module _ (csv : List ℕ) (n end : ℕ) (fits : Bool) where
-  pub not_last : (n ≡ 15 → ⊥) → ended_row csv n end fits ≡ faulty_row (n + 2)
-  not_last h = rw (ne_eqb n 15 h) refl
-
-  pub not-ended : n ≡ 15 → (get_or csv end 0 ≡ 13 → ⊥) → ended_row csv n end fits ≡ faulty_row (n + 2)
-  not-ended e h = rw (eq-eqb n 15 e, ne_eqb (get_or csv end 0) 13 h) refl
-
-  pub all-ended : n ≡ 15 → get_or csv end 0 ≡ 13 → ended_row csv n end fits ≡ record { fault = 0; fits = fits; end = end + 2 }
-  all-ended e r = rw (eq-eqb n 15 e, eq-eqb (get_or csv end 0) 13 r) refl
 
 -- ---- field by field
 
@@ -123,7 +103,7 @@ module _ {csv : List ℕ} {at n start : ℕ} {before fit : Bool} (r : Reading cs
           r.fits
           ∙ (ap (λ (s : List ℕ). fit && fields_fit s (fields_of (drop start csv))) (drop-cons widths n 0 h)
           ∙ (ap (λ (t : List (List ℕ)). fit && fields_fit (get_or widths n 0 ∷ drop (suc n) widths) t) first
-          ∙ and_assoc fit (field_fits (get_or widths n 0) f) (fields_fit (drop (suc n) widths) rest)))
+          ∙ sym (and_assoc fit (field_fits (get_or widths n 0) f) (fields_fit (drop (suc n) widths) rest))))
 
       one_less : drop (n + 1) fs ≡ rest
       one_less = sym (drop-drop 1 n fs) ∙ ap (drop 1) (r.fields ∙ first)
@@ -187,37 +167,30 @@ module _ {csv : List ℕ} {at n start : ℕ} {before fit : Bool} (r : Reading cs
         no-fits [] = refl
         no-fits (w ∷ ws) = refl
 
-        and-true : (b : Bool) → b && true ≡ b
-        and-true true = refl
-        and-true false = refl
-
         fits_all : row_fits (drop at csv) ≡ fits-now
         fits_all =
             fits-e
             ∙ (ap (λ (t : List (List ℕ)). fits-now && fields_fit (drop (suc n) widths) t) none
             ∙ (ap (λ (t : Bool). fits-now && t) (no-fits (drop (suc n) widths)) ∙ and-true fits-now))
 
-        faulty-judges : row_fault (drop at csv) ≡ n + 2 → Judges csv at (faulty_row (n + 2))
-        faulty-judges q = record { fault = sym q; ends = λ z. absurd (omega (arith, z)) }
+        faulty-judges : row_fault (drop at csv) ≡ n + 2 → Judges csv at (Err (n + 2))
+        faulty-judges q = record { is = sym q; some = omega arith }
 
-        good-judges : n ≡ 15 → get_or csv e 0 ≡ 13 → Judges csv at (record { fault = 0; fits = fits-now; end = e + 2 })
+        good-judges : n ≡ 15 → get_or csv e 0 ≡ 13 → Judges csv at (Ok (record { fits = fits-now; end = e + 2 }))
         good-judges e15 cr =
             record {
-              fault = sym (last-field e15 ∙ ap (λ (t : Bool). cond t 0 (n + 2)) (return-ended csv start e is cr));
-              ends = λ z.
-                  record {
-                    fits = sym fits_all;
-                    behind = sym (behind-e ∙ return-behind csv start e is cr);
-                    high = return-high csv start e is cr;
-                    on = omega (arith, r.low, is, end_low csv start);
-                  };
+              sound = last-field e15 ∙ ap (λ (t : Bool). cond t 0 (n + 2)) (return-ended csv start e is cr);
+              fits = sym fits_all;
+              behind = sym (behind-e ∙ return-behind csv start e is cr);
+              high = return-high csv start e is cr;
+              on = omega (arith, r.low, is, end_low csv start);
             }
 
         pub reading-ends : Judges csv at (ended_row csv n e fits-now)
         reading-ends = by_last (eqb n 15) refl
           where
             by-return : (t : Bool) → n ≡ 15 → eqb (get_or csv e 0) 13 ≡ t
-                → Judges csv at (cond t (record { fault = 0; fits = fits-now; end = e + 2 }) (faulty_row (n + 2)))
+                → Judges csv at (cond t (Ok (record { fits = fits-now; end = e + 2 })) (Err (n + 2)))
             by-return true e15 cr = good-judges e15 (eqb-true (get_or csv e 0) 13 cr)
             by-return false e15 cr =
                 faulty-judges
@@ -227,14 +200,7 @@ module _ {csv : List ℕ} {at n start : ℕ} {before fit : Bool} (r : Reading cs
             by_last : (t : Bool) → eqb n 15 ≡ t
                 → Judges csv at
                 (cond t
-                (cond (eqb (get_or csv e 0) 13) (record { fault = 0; fits = fits-now; end = e + 2 }) (faulty_row (n + 2)))
-                (faulty_row (n + 2)))
+                (cond (eqb (get_or csv e 0) 13) (Ok (record { fits = fits-now; end = e + 2 })) (Err (n + 2)))
+                (Err (n + 2)))
             by_last true q = by-return (eqb (get_or csv e 0) 13) (eqb-true n 15 q) refl
             by_last false q = faulty-judges (early (eqb-false n 15 q))
-
--- a row with a fault, as it is handed back
-pub judged-faulty : (csv : List ℕ) (at fault : ℕ) {j : Judged} → j ≡ faulty_row (suc fault)
-    → row_fault (drop at csv) ≡ suc fault
-    → Judges csv at j
-judged-faulty csv at fault is q =
-    subst (Judges csv at) (sym is) (record { fault = sym q; ends = λ z. absurd (omega (arith, z)) })

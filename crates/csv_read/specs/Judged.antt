@@ -1,9 +1,9 @@
 -- A row as it is judged.
 -- Assumes nothing.
-use Rattle.std.specs.Prelude.{ℕ, suc, ◌+◌, ◌≤◌, ◌<◌, ◌≡◌, Bool, false, cond, ◌&&◌, List, [], ◌∷◌, eqb, length, drop, get_or}
+use Rattle.std.specs.Prelude.{ℕ, suc, ◌+◌, ◌≤◌, ◌<◌, ◌≡◌, Bool, false, cond, ◌&&◌, List, [], ◌∷◌, eqb, length, drop, get_or, Result, Ok, Err, MatchResult}
 use Rattle.field.specs.Text.{blank}
 use Rattle.csv_paf.specs.File.{fields_of, is_ended, behind_row, forms_for, field_fault, row_fault, widths, fields_fit, row_fits}
-use Rattle.csv_read.specs.declared.rows.Judged.{Judged}
+use Rattle.csv_read.specs.declared.rows.Row.{Row}
 
 -- no field is of this form
 abbrev pub no_form : List ℕ → Bool
@@ -21,23 +21,23 @@ pub record Reading (csv : List ℕ) (at n start : ℕ) (before fit : Bool) : Typ
   pub fits : row_fits (drop at csv) ≡ (fit && fields_fit (drop n widths) (fields_of (drop start csv)))
   pub last : before ≡ blank (get_or ([] ∷ fields_of (drop at csv)) n [])
 
--- a row with a fault, and one that ends at a place behind its n-th field
-abbrev pub faulty_row : ℕ → Judged
-faulty_row fault = record { fault = fault; fits = false; end = 0 }
-
-abbrev pub ended_row : List ℕ → (n end : ℕ) → Bool → Judged
+-- a row that ends at a place behind its n-th field
+abbrev pub ended_row : List ℕ → (n end : ℕ) → Bool → Result Row ℕ
 ended_row csv n end fits =
-    cond (eqb n 15)
-    (cond (eqb (get_or csv end 0) 13) (record { fault = 0; fits = fits; end = end + 2 }) (faulty_row (n + 2)))
-    (faulty_row (n + 2))
+    cond (eqb n 15) (cond (eqb (get_or csv end 0) 13) (Ok (record { fits = fits; end = end + 2 })) (Err (n + 2))) (Err (n + 2))
 
 -- where a row without a fault ends, and whether it is not refused with 15
-pub record Ends (csv : List ℕ) (at : ℕ) (j : Judged) : Type 0 where
-  pub fits : j.fits ≡ row_fits (drop at csv)
-  pub behind : drop j.end csv ≡ behind_row (drop at csv)
-  pub high : j.end ≤ length csv
-  pub on : at < j.end
+pub record Ends (csv : List ℕ) (at : ℕ) (row : Row) : Type 0 where
+  pub sound : row_fault (drop at csv) ≡ 0
+  pub fits : row.fits ≡ row_fits (drop at csv)
+  pub behind : drop row.end csv ≡ behind_row (drop at csv)
+  pub high : row.end ≤ length csv
+  pub on : at < row.end
 
-pub record Judges (csv : List ℕ) (at : ℕ) (j : Judged) : Type 0 where
-  pub fault : j.fault ≡ row_fault (drop at csv)
-  pub ends : j.fault ≡ 0 → Ends csv at j
+-- the fault of a row that has one
+pub record Faulty (csv : List ℕ) (at fault : ℕ) : Type 0 where
+  pub is : fault ≡ row_fault (drop at csv)
+  pub some : 0 < fault
+
+abbrev pub Judges : List ℕ → ℕ → Result Row ℕ → Type 0
+Judges csv at row = MatchResult row (Ends csv at) (Faulty csv at)

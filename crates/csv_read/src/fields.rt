@@ -18,12 +18,10 @@ fn ends_field(csv: &[u8], i: usize) -> bool
 pub fn field_end(csv: &[u8], at: usize) -> usize
     ensures { result ≡ field_end csv.now at }
 {
-    let mut i = at;
-    while i < csv.len() {
+    for i in at..csv.len() {
         if ends_field(csv, i) {
             return i;
         }
-        i += 1;
     }
-    i
+    at.max(csv.len())
 }

@@ -9,10 +9,8 @@ pub fn has_none(s: &[u8], b: u8) -> bool
     ensures { result ≡ every (λ x. not (eqb x b)) s.now }
 {
     let mut bad = false;
-    let mut i = 0;
-    while i < s.len() {
-        bad = bad | (s[i] == b);
-        i += 1;
+    for &x in s {
+        bad |= x == b;
     }
     !bad
 }

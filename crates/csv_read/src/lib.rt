@@ -20,25 +20,17 @@ pub fn check_csv(csv: &[u8]) -> Answer
     let mut fit = true;
     let mut at = 0;
     while at < csv.len() {
-        let row = judge_row(csv, at);
         rows += 1;
-        if row.fault != 0 {
-            return Answer::Refused {
-                file: 0,
-                reason: Reason::BadRow {
-                    row: rows,
-                    field: row.fault,
-                },
-            };
+        match judge_row(csv, at) {
+            Ok(row) => {
+                fit &= row.fits;
+                at = row.end;
+            }
+            Err(field) => return Err(Reason::BadRow { row: rows, field }.into()),
         }
-        fit = fit & row.fits;
-        at = row.end;
     }
     if fit {
-        return Answer::Value(rows);
+        return Ok(rows);
     }
-    Answer::Refused {
-        file: 0,
-        reason: Reason::Uncarried,
-    }
+    Err(Reason::Uncarried.into())
 }

@@ -2,61 +2,37 @@
 ghost use Rattle.std.specs.Prelude.{◌≡◌, ◌+◌, ◌≤◌, ◌<◌, length, get_or};
 ghost use Rattle.field.specs.Test.{every};
 ghost use Rattle.csv_paf.specs.File.{widths, not_quote, field_fits};
-ghost use Rattle.csv_read.specs.Judged.{faulty_row, ended_row, Judges};
+ghost use Rattle.csv_read.specs.Judged.{ended_row, Judges};
 
 use crate::fields::field_end;
 use crate::forms::is_formed;
+use crate::inner::has_none;
 use field_test::all_are;
 use file_record::{byte_of, part_of};
 
-// A row: its first malformed field, 0 where there is none, and then whether no field is too long or has a quote, and where
-// the row behind it begins.
+// A row without a malformed field: whether none is too long or has a quote, and where the row behind it begins.
 #[derive(Clone, Copy)]
-pub struct Judged {
-    pub fault: usize,
+pub struct Row {
     pub fits: bool,
     pub end: usize,
 }
 
-fn faulty(fault: usize) -> Judged
-    ensures { result ≡ faulty_row fault }
-{
-    Judged {
-        fault,
-        fits: false,
-        end: 0,
-    }
-}
-
 // A row that ends at a place behind its n-th field: all is well where this is the last and CR LF ends it.
-fn ended_row(csv: &[u8], n: usize, end: usize, fits: bool) -> Judged
+fn ended_row(csv: &[u8], n: usize, end: usize, fits: bool) -> Result<Row, usize>
     requires { (n < 16) × (end ≤ length csv.now) }
     ensures { result ≡ ended_row csv.now n end fits }
 {
-    if n != 15 {
-        return faulty(n + 2);
+    if n != 15 || byte_of(csv, end) != 13 {
+        return Err(n + 2);
     }
-    if byte_of(csv, end) != 13 {
-        return faulty(n + 2);
-    }
-    Judged {
-        fault: 0,
-        fits,
-        end: end + 2,
-    }
+    Ok(Row { fits, end: end + 2 })
 }
 
-// Whether no byte is a quote. No byte ends the loop, so that many are taken at once.
+// Whether no byte is a quote.
 fn no_quote(f: &[u8]) -> bool
     ensures { result ≡ every not_quote f.now }
 {
-    let mut bad = false;
-    let mut i = 0;
-    while i < f.len() {
-        bad = bad | (f[i] == 34);
-        i += 1;
-    }
-    !bad
+    has_none(f, b'"')
 }
 
 // How long the n-th field may be.
@@ -76,28 +52,26 @@ fn field_fits(f: &[u8], n: usize) -> bool
     (f.len() <= width_of(n)) & plain
 }
 
-// The row that begins at a place, field by field.
-pub fn judge_row(csv: &[u8], at: usize) -> Judged
+// The row that begins at a place, field by field, or its first malformed field, counted from 1.
+pub fn judge_row(csv: &[u8], at: usize) -> Result<Row, usize>
     requires { at ≤ length csv.now }
     ensures { Judges csv.now at result }
 {
-    let mut fit = true;
+    let mut fits = true;
     let mut alone = true;
     let mut start = at;
-    let mut n = 0;
-    while n < 16 {
+    for n in 0..16 {
         let end = field_end(csv, start);
         let f = part_of(csv, start, end);
         if !is_formed(csv, start, f, n, alone) {
-            return faulty(n + 1);
+            return Err(n + 1);
         }
-        fit = fit & field_fits(f, n);
+        fits &= field_fits(f, n);
         if byte_of(csv, end) != b',' {
-            return ended_row(csv, n, end, fit);
+            return ended_row(csv, n, end, fits);
         }
         alone = all_are(f, 32);
         start = end + 1;
-        n += 1;
     }
-    faulty(17)
+    Err(17)
 }

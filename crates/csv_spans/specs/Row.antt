@@ -1,6 +1,6 @@
 -- A row of an accepted file, and what its fields say as spans.
 -- Assumes nothing.
-use Rattle.std.specs.Prelude.{ℕ, suc, ◌≤◌, ◌≡◌, true, List, [], length, drop, get_or}
+use Rattle.std.specs.Prelude.{ℕ, ◌≤◌, ◌≡◌, true, List, [], length, drop, get_or}
 use Rattle.field.specs.Digits.{value}
 use Rattle.label.specs.Spans.{text_in2}
 use Rattle.csv_paf.specs.File.{fields_of, row_fault, row_fits}

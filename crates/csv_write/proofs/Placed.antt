@@ -7,7 +7,6 @@ use mathlib.Core.Option.{none, some}
 use borrow.Author.Tests.{eq-eqb, ne_eqb}
 use lib.ListN.{length}
 use Rattle.refusal.specs.declared.Reason.TheVariants.{NoSuchNumber}
-use Rattle.refusal.specs.declared.Answer.TheVariants.{Value, Refused}
 use Rattle.refusal.specs.Outcome.{said}
 use Rattle.refusal.proofs.Answers.{refused-value}
 use Rattle.refusal.proofs.Outcomes.{answer-of}
@@ -21,9 +20,11 @@ use Rattle.csv_write.specs.declared.Ending.{Ending}
 use Rattle.csv_write.specs.Ending.{written_by, EndingOf}
 use Rattle.csv_write.specs.Placed.{placed_row}
 use Rattle.csv_write.proofs.Written.{written-within}
+use Rattle.std.specs.Prelude.{Ok}
+use Rattle.refusal.specs.Answer.{refusal}
 
 -- what is answered with bytes fits
-row_within : (a : Address) (r : Resolved) (out : List ℕ) (b : ℕ) → (row_outcome a r out).answer ≡ Value b
+row_within : (a : Address) (r : Resolved) (out : List ℕ) (b : ℕ) → (row_outcome a r out).answer ≡ Ok b
     → b ≤ length (row_outcome a r out).memory
 row_within a (elements e) out b is = written-within (row_of a e) e out b is
 row_within a (refused why) out b is = absurd (refused-value 0 b why is)
@@ -39,7 +40,7 @@ row-alike a b s (elements e) out = rw (s.type, s.indicator, s.suffix)
 row-alike a b s (refused why) out = refl
 
 module _ (look : Lookup) (a : Address) (place : ℕ) (out : List ℕ) where
-  pub no_place : place ≡ 0 → placed_row look a place out ≡ said (Refused 0 NoSuchNumber) out
+  pub no_place : place ≡ 0 → placed_row look a place out ≡ said (refusal 0 NoSuchNumber) out
   unfolding placed_row
   no_place e = rw (eq-eqb place 0 e)
 
@@ -48,7 +49,7 @@ module _ (look : Lookup) (a : Address) (place : ℕ) (out : List ℕ) where
   some-place there r e = rw (ne_eqb place 0 there) (ap (λ (r : Resolved). row_outcome a r out) e)
 
   -- what is answered with bytes is an address's, and fits
-  module _ (b : ℕ) (e : (placed_row look a place out).answer ≡ Value b) where
+  module _ (b : ℕ) (e : (placed_row look a place out).answer ≡ Ok b) where
     pub placed-there : place ≡ 0 → ⊥
     placed-there z = refused-value 0 b NoSuchNumber (sym (answer-of (no_place z)) ∙ e)
 

@@ -10,7 +10,6 @@ use lib.ListN.{length, get_or}
 use lib.Seq.{drop-cons}
 use Rattle.field.specs.Text.{part}
 use Rattle.refusal.specs.declared.Reason.TheVariants.{Uncarried}
-use Rattle.refusal.specs.declared.Answer.TheVariants.{Value, Refused}
 use Rattle.refusal.specs.Outcome.{said}
 use Rattle.refusal.proofs.Answers.{refused-value}
 use Rattle.refusal.proofs.Outcomes.{answer-of}
@@ -18,6 +17,8 @@ use Rattle.source.specs.Address.{Elements}
 use Rattle.label.specs.Label.{room_outcome}
 use Rattle.label.proofs.Room.{room_within}
 use Rattle.csv_paf.specs.Row.{carried, written_outcome}
+use Rattle.std.specs.Prelude.{Ok}
+use Rattle.refusal.specs.Answer.{refusal}
 
 -- the two bytes of a suffix
 pub suffix-bytes : (own : List ℕ) (at : ℕ) → at + 2 ≤ length own
@@ -33,12 +34,12 @@ module _ (row : List ℕ) (e : Elements) (out : List ℕ) where
   unfolding written_outcome
   written-carried is = rw is
 
-  pub written-not : carried e ≡ false → said (Refused 0 Uncarried) out ≡ written_outcome row e out
+  pub written-not : carried e ≡ false → said (refusal 0 Uncarried) out ≡ written_outcome row e out
   unfolding written_outcome
   written-not is = rw is
 
   -- what is answered with bytes fits
-  pub written-within : (b : ℕ) → (written_outcome row e out).answer ≡ Value b
+  pub written-within : (b : ℕ) → (written_outcome row e out).answer ≡ Ok b
       → b ≤ length (written_outcome row e out).memory
   written-within b is = by-test (carried e) refl
     where

@@ -2,12 +2,12 @@
 -- Assumes nothing.
 use Rattle.std.specs.Prelude.{ℕ, ◌+◌, ◌≡◌, List, [], ◌∷◌}
 use Rattle.field.specs.Text.{part}
-use Rattle.refusal.specs.declared.Answer.{Answer}
 use Rattle.refusal.specs.Outcome.{Outcome}
 use Rattle.source.specs.declared.DeliveryPoint.{DeliveryPoint}
 use Rattle.source.specs.Address.{Elements}
 use Rattle.csv_paf.specs.Row.{row_text, written_outcome}
 use Rattle.csv_write.specs.declared.Ending.{Ending}
+use Rattle.refusal.specs.Answer.{Answer}
 
 abbrev pub suffix_of : Ending → List ℕ
 suffix_of x = x.digit ∷ x.letter ∷ []

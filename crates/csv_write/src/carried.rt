@@ -18,10 +18,8 @@ fn all_plain(s: &[u8]) -> bool
     ensures { result ≡ plain s.now }
 {
     let mut bad = false;
-    let mut i = 0;
-    while i < s.len() {
-        bad = bad | is_marked(s[i]);
-        i += 1;
+    for &b in s {
+        bad |= is_marked(b);
     }
     !bad
 }

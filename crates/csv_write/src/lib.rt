@@ -50,15 +50,9 @@ pub fn print_row<'a>(a: &'a [u8], b: &'a [u8], e: Spans, x: Ending, out: &mut [u
     if is_carried(a, b, e) {
         let needed = needed_of(a, b, e, out.len());
         if out.len() < needed {
-            return Answer::Refused {
-                file: 0,
-                reason: Reason::Room { needed },
-            };
+            return Err(Reason::Room { needed }.into());
         }
-        return Answer::Value(write_row(a, b, e, x, out));
+        return Ok(write_row(a, b, e, x, out));
     }
-    Answer::Refused {
-        file: 0,
-        reason: Reason::Uncarried,
-    }
+    Err(Reason::Uncarried.into())
 }

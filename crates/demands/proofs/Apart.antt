@@ -9,8 +9,6 @@ use lib.ListN.{length}
 use native.Mathlib.Omega.{arith}
 use Rattle.refusal.specs.Refusal.{number}
 use Rattle.refusal.specs.declared.Reason.{Reason}
-use Rattle.run.specs.declared.Series.{Series}
-use Rattle.run.specs.declared.Series.TheVariants.{Unasked, Stopped, Done}
 use Rattle.ask.specs.Runs.{views_run, code_run}
 use Rattle.ask.specs.Lists.{views_list, code_list}
 use Rattle.pack.specs.Opening.{point_count}
@@ -26,6 +24,9 @@ use Rattle.demands.specs.Csv.{OfRow, OfCsvLabel, OfCsv, ForCsv, rows_written, ro
 use Rattle.demands.proofs.Csv.{rows-say, lent_rows, csv-whole, csv-labels-say, csv-list-says}
 use Rattle.demands.proofs.Says.{StopOf, StopSays, SeriesOf, SeriesBy, views-say, codes-say, packs-say, list-says, code-list-says, pack-list-says}
 use Rattle.demands.proofs.Lent.{lent-apt, code-whole}
+use Rattle.std.specs.Prelude.{Ok, Err}
+use Rattle.run.specs.Series.{Series}
+use Rattle.run.specs.declared.Run.TheVariants.{Stopped, Done}
 
 -- what is said of a stop, and of what refuses the whole, holds of the run
 series-apart : (Whole Stop : Reason → Type 0) (Judged : ℕ → Reason → Type 0) (Kind : Reason → Type 0)
@@ -34,9 +35,9 @@ series-apart : (Whole Stop : Reason → Type 0) (Judged : ℕ → Reason → Typ
     → (limit : ℕ) (s : Series)
     → SeriesOf Judged Kind limit s
     → SeriesApart Whole Stop s
-series-apart Whole Stop Judged Kind whole stop limit (Unasked file why) h = whole file why h
-series-apart Whole Stop Judged Kind whole stop limit (Stopped labels bytes why) h = stop why h.1
-series-apart Whole Stop Judged Kind whole stop limit (Done labels bytes) h = tt
+series-apart Whole Stop Judged Kind whole stop limit (Err r) h = whole r.file r.reason h
+series-apart Whole Stop Judged Kind whole stop limit (Ok (Stopped labels bytes why)) h = stop why h.1
+series-apart Whole Stop Judged Kind whole stop limit (Ok (Done labels bytes)) h = tt
 
 module _ (Whole : Reason → Type 0) (limit : ℕ) (s : Series) where
   run-stops : SeriesBy Whole StopSays limit s → SeriesApart Whole OfLabel s
@@ -47,10 +48,10 @@ module _ (Whole : Reason → Type 0) (limit : ℕ) (s : Series) where
 
 -- 7 and 10 are of a label
 item-of-label : (Whole : Reason → Type 0) (s : Series) → SeriesApart Whole OfItem s → SeriesApart Whole OfLabel s
-item-of-label Whole (Unasked file why) h = h
-item-of-label Whole (Stopped labels bytes why) h =
+item-of-label Whole (Err r) h = h
+item-of-label Whole (Ok (Stopped labels bytes why)) h =
     ⊎_elim (λ (e : number why ≡ 7). (omega arith, omega arith)) (λ (e : number why ≡ 10). (omega arith, omega arith)) h
-item-of-label Whole (Done labels bytes) h = tt
+item-of-label Whole (Ok (Done labels bytes)) h = tt
 
 -- ---- whatever is lent
 
@@ -89,9 +90,9 @@ module _ (pack : List ℕ) (first count : ℕ) (out : List ℕ) where
 wider : (Whole Other Stop : Reason → Type 0) → ((why : Reason) → Whole why → Other why) → (s : Series)
     → SeriesApart Whole Stop s
     → SeriesApart Other Stop s
-wider Whole Other Stop more (Unasked file why) h = more why h
-wider Whole Other Stop more (Stopped labels bytes why) h = h
-wider Whole Other Stop more (Done labels bytes) h = h
+wider Whole Other Stop more (Err r) h = more r.reason h
+wider Whole Other Stop more (Ok (Stopped labels bytes why)) h = h
+wider Whole Other Stop more (Ok (Done labels bytes)) h = h
 
 -- where no book is lent, 28 refuses nothing; with it, nothing is left out
 no-book : (lent : Lent) → (IsBook lent → ⊥) → (why : Reason) → WholeFor lent why → OfWhole why

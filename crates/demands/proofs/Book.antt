@@ -15,8 +15,6 @@ use Rattle.field_outward.specs.Outward.{outward_fault}
 use Rattle.refusal.specs.declared.Reason.{Reason}
 use Rattle.refusal.specs.declared.Reason.TheVariants.{NoSuchNumber, BadCode, Later}
 use Rattle.refusal.specs.declared.LaterReason.TheVariants.{InsertedTwice, NotPresent, Unpaired, NoFreeSlot, NotABook}
-use Rattle.refusal.specs.declared.Answer.{Answer}
-use Rattle.refusal.specs.declared.Answer.TheVariants.{Value, Refused}
 use Rattle.refusal.specs.Outcome.{Outcome, said, after, afterwards}
 use Rattle.refusal.specs.Refusal.{detail, second}
 use Rattle.refusal.specs.Packed.{Fits}
@@ -62,20 +60,22 @@ use Rattle.pack_sound.proofs.Elements.{all-printed}
 use Rattle.demands.proofs.Capitals.{all-capital}
 use Rattle.demands.proofs.Says.{then_is, table-says, code-few}
 use Rattle.demands.proofs.Unused.{fields_fit, unmoved}
+use Rattle.std.specs.Prelude.{Ok, Err}
+use Rattle.refusal.specs.Answer.{Answer, refusal}
 
 -- ---- as a source
 
 -- what may refuse a call over no book may refuse one over a book
 wider : (a : Answer) → Judging a → AnswerIs (WholeBy OfBook) a
-wider (Value n) h = tt
-wider (Refused file why) h = record { apart = inl h.apart; fits = h.fits }
+wider (Ok n) h = tt
+wider (Err r) h = record { apart = inl h.apart; fits = h.fits }
 
 -- "28 not a book"
 pub book-says : (book : List ℕ) → AnswerIs (WholeBy OfBook) (book_judged book)
 unfolding book_judged
 book-says book = by-test (is_book book)
   where
-    by-test : (t : Bool) → AnswerIs (WholeBy OfBook) (cond t (Value (count_of book)) (Refused 0 (Later NotABook)))
+    by-test : (t : Bool) → AnswerIs (WholeBy OfBook) (cond t (Ok (count_of book)) (refusal 0 (Later NotABook)))
     by-test true = tt
     by-test false =
         record {
@@ -121,7 +121,7 @@ pub place-line-short : (place : ℕ) → place < 1_048_576 → length (place_lin
 place-line-short place h = simp length-append (omega (arith, decimal-short place (omega (arith, h))))
 
 module _ (book table : List ℕ) where
-  book-taken : {n : ℕ} → (book_of book table).judged ≡ Value n → BookFacts book × Accepted table_format table
+  book-taken : {n : ℕ} → (book_of book table).judged ≡ Ok n → BookFacts book × Accepted table_format table
   book-taken e = (book-facts book (book-good book table e), table-accepted book table e)
 
   book-packable : Packable (book_of book table)
@@ -142,7 +142,7 @@ module _ (book table : List ℕ) where
 
 -- ---- what its calls say
 
-refused-fits : (why : Reason) → second why ≡ 0 → detail why ≡ 0 → Fits (Refused 0 why)
+refused-fits : (why : Reason) → second why ≡ 0 → detail why ≡ 0 → Fits (refusal 0 why)
 refused-fits why s d =
     record { file_fits = lit< tt; second_fits = omega (arith, s); detail_fits = omega (arith, d) }
 
@@ -150,18 +150,18 @@ judged-fits : (book : List ℕ) → Fits (book_judged book)
 unfolding book_judged
 judged-fits book = by-test (is_book book) refl
   where
-    by-test : (t : Bool) → is_book book ≡ t → Fits (cond t (Value (count_of book)) (Refused 0 (Later NotABook)))
+    by-test : (t : Bool) → is_book book ≡ t → Fits (cond t (Ok (count_of book)) (refusal 0 (Later NotABook)))
     by-test true e = omega (arith, (book-facts book e).few)
     by-test false e = refused-fits (Later NotABook) refl refl
 
 -- behind a book that is one
 behind-fits : (book : List ℕ) (next : Outcome Answer) → (BookFacts book → Fits next.answer)
-    → Fits (afterwards Refused (book_judged book) book next).answer
+    → Fits (afterwards refusal (book_judged book) book next).answer
 behind-fits book next fits = by-judged (book_judged book) refl (judged-fits book)
   where
-    by-judged : (j : Answer) → book_judged book ≡ j → Fits j → Fits (afterwards Refused j book next).answer
-    by-judged (Value n) e h = fits (book-facts book (is-book book e))
-    by-judged (Refused file why) e h = h
+    by-judged : (j : Answer) → book_judged book ≡ j → Fits j → Fits (afterwards refusal j book next).answer
+    by-judged (Ok n) e h = fits (book-facts book (is-book book e))
+    by-judged (Err r) e h = h
 
 module _ (book : List ℕ) (facts : BookFacts book) where
   place-fits : (id : List ℕ) → is_kept book id ≡ true → place_kept book id ≤ 256
@@ -170,11 +170,11 @@ module _ (book : List ℕ) (facts : BookFacts book) where
       omega (arith, facts.few, facts.good.placed (keeper (slot_at book) id) low)
 
   absent-fits : (id after : List ℕ)
-      → Fits (cond (is_kept book id) (said (Value (place_kept book id)) after) (said (Refused 0 (Later NotPresent)) book)).answer
+      → Fits (cond (is_kept book id) (said (Ok (place_kept book id)) after) (said (refusal 0 (Later NotPresent)) book)).answer
   absent-fits id after = by-test (is_kept book id) refl
     where
       by-test : (t : Bool) → is_kept book id ≡ t
-          → Fits (cond t (said (Value (place_kept book id)) after) (said (Refused 0 (Later NotPresent)) book)).answer
+          → Fits (cond t (said (Ok (place_kept book id)) after) (said (refusal 0 (Later NotPresent)) book)).answer
       by-test true e = omega (arith, place-fits id e)
       by-test false e = refused-fits (Later NotPresent) refl refl
 
@@ -185,8 +185,8 @@ module _ (book : List ℕ) (facts : BookFacts book) where
     where
       by_tests : (t u : Bool) (after : List ℕ)
           → Fits
-          (cond t (said (Refused 0 (Later InsertedTwice)) book)
-          (cond u (said (Value (suc (count_of book))) after) (said (Refused 0 (Later NoFreeSlot)) book))).answer
+          (cond t (said (refusal 0 (Later InsertedTwice)) book)
+          (cond u (said (Ok (suc (count_of book))) after) (said (refusal 0 (Later NoFreeSlot)) book))).answer
       by_tests true u after = refused-fits (Later InsertedTwice) refl refl
       by_tests false true after = omega (arith, facts.few)
       by_tests false false after = refused-fits (Later NoFreeSlot) refl refl
@@ -206,32 +206,32 @@ unfolding event_outcome
 event-fits book points view fits = behind-fits book _ (λ facts. by-judged facts (checked point_format points) fits)
   where
     by_place : (t : Bool) → BookFacts book
-        → Fits (cond t (said (Refused 0 NoSuchNumber) book) (event_done book (event_at points (wanted_at [] points view)))).answer
+        → Fits (cond t (said (refusal 0 NoSuchNumber) book) (event_done book (event_at points (wanted_at [] points view)))).answer
     by_place true facts = refused-fits NoSuchNumber refl refl
     by_place false facts = done-fits book facts (event_at points (wanted_at [] points view))
 
     by-judged : BookFacts book → (j : Answer) → Fits j
         → Fits
-        (afterwards Refused j book
-        (cond (eqb (wanted_at [] points view) 0) (said (Refused 0 NoSuchNumber) book)
+        (afterwards refusal j book
+        (cond (eqb (wanted_at [] points view) 0) (said (refusal 0 NoSuchNumber) book)
         (event_done book (event_at points (wanted_at [] points view))))).answer
-    by-judged facts (Value n) h = by_place (eqb (wanted_at [] points view) 0) facts
-    by-judged facts (Refused file why) h = h
+    by-judged facts (Ok n) h = by_place (eqb (wanted_at [] points view) 0) facts
+    by-judged facts (Err r) h = h
 
 pub present-fits : (book code : List ℕ) → Fits (book_live book code)
 unfolding book_live
 present-fits book code = by-judged (book_judged book) refl (judged-fits book)
   where
     by-code : (t : Bool) → BookFacts book
-        → Fits (cond t (Value (length (in_code code (addresses_of book)))) (Refused 0 BadCode))
+        → Fits (cond t (Ok (length (in_code code (addresses_of book)))) (refusal 0 BadCode))
     by-code true facts = omega (arith, code-few code (addresses_of book), book-count book, facts.few)
     by-code false facts = refused-fits BadCode refl refl
 
     by-judged : (j : Answer) → book_judged book ≡ j → Fits j
         → Fits
-        (after j (cond (eqb (outward_fault code) 0) (Value (length (in_code code (addresses_of book)))) (Refused 0 BadCode)))
-    by-judged (Value n) e h = by-code (eqb (outward_fault code) 0) (book-facts book (is-book book e))
-    by-judged (Refused file why) e h = h
+        (after j (cond (eqb (outward_fault code) 0) (Ok (length (in_code code (addresses_of book)))) (refusal 0 BadCode)))
+    by-judged (Ok n) e h = by-code (eqb (outward_fault code) 0) (book-facts book (is-book book e))
+    by-judged (Err r) e h = h
 
 -- ---- what its events do
 
@@ -259,10 +259,10 @@ left-again book o a is e =
     (ap (λ (x : Outcome Answer). is_book x.memory) e ∙ is, ap (λ (x : Outcome Answer). means x.memory) e)
 
 file_refused : (book points : List ℕ) (view : ℕ) {file : ℕ} {why : Reason} → is_book book ≡ true
-    → checked point_format points ≡ Refused file why
-    → event_outcome book points view ≡ said (Refused file why) book
+    → checked point_format points ≡ refusal file why
+    → event_outcome book points view ≡ said (refusal file why) book
 unfolding event_outcome book_judged
-file_refused book points view is e = simp is (afterwards-refused Refused book _ e)
+file_refused book points view is e = simp is (afterwards-refused refusal book _ e)
 
 called-again : (book : List ℕ) → is_book book ≡ true → (c : Named)
     → (is_book (event_outcome book c.points c.view).memory ≡ true)
@@ -280,7 +280,7 @@ called-again book is c = by-judged (checked point_format points) refl
         (is_book (event_outcome book points c.view).memory ≡ true)
         × (means (event_outcome book points c.view).memory ≡ present_with (means book) e)
 
-    by_place : (t : Bool) → eqb place 0 ≡ t → (n : ℕ) → checked point_format points ≡ Value n
+    by_place : (t : Bool) → eqb place 0 ≡ t → (n : ℕ) → checked point_format points ≡ Ok n
         → Again (cond t none (event_at points place))
     by_place true e n taken =
         left-again book _ _ is (call_none book points c.view n is taken (eqb-true place 0 e))
@@ -290,8 +290,8 @@ called-again book is c = by-judged (checked point_format points) refl
         (eqb-false place 0 e))
 
     by-judged : (j : Answer) → checked point_format points ≡ j → Again (event_in j points place)
-    by-judged (Value n) e = by_place (eqb place 0) refl n e
-    by-judged (Refused file why) e = left-again book _ (Refused file why) is (file_refused book points c.view is e)
+    by-judged (Ok n) e = by_place (eqb place 0) refl n e
+    by-judged (Err r) e = left-again book _ (refusal r.file r.reason) is (file_refused book points c.view is e)
 
 calls-again : (calls : List Named) (book : List ℕ) → is_book book ≡ true → History book calls
 calls-again [] book is = record { again = is; meaning = refl }
@@ -314,7 +314,7 @@ book-kept =
 -- ---- unused rows
 
 taken-by : (book table : List ℕ) → BookFacts book → Accepted table_format table
-    → (book_of book table).judged ≡ Value (records table_format table)
+    → (book_of book table).judged ≡ Ok (records table_format table)
 unfolding book_judged
 taken-by book table facts t = rw (facts-book book facts, accepts table_format table t)
 

@@ -16,7 +16,6 @@ use Rattle.field.proofs.Tests.{and_left, and_right, range-low}
 use Rattle.field.proofs.Fronts.{digits-below}
 use Rattle.field_outward.specs.Outward.{class, outward_fault}
 use Rattle.field_outward.proofs.Codes.{sequence, no-pattern, not-four}
-use Rattle.refusal.specs.declared.Answer.TheVariants.{Value}
 use Rattle.source.specs.Address.{Lookup, Address, Elements}
 use Rattle.source.specs.Resolve.{elements_of}
 use Rattle.source.specs.Same.{AllOf}
@@ -51,6 +50,7 @@ use Rattle.csv_label.proofs.RowLaws.{accepted-row}
 use Rattle.demands.specs.Two.{refused_as, begins_small, NoneSmall, ViewsCapital, PointsCapital}
 use Rattle.demands.specs.Csv.{elements_for, RowsCapital}
 use Rattle.demands.proofs.Two.{all_then}
+use Rattle.std.specs.Prelude.{Ok}
 
 -- ---- the lines between labels
 
@@ -290,7 +290,7 @@ set-capital s a = all-capital (set_lookup s) (Main.addresses_in s) (views-printe
 
 -- ---- points
 
-module _ (pack : List ℕ) (n k : ℕ) (opens : opened pack ≡ Value n) (low : 1 ≤ k) (high : k ≤ n) where
+module _ (pack : List ℕ) (n k : ℕ) (opens : opened pack ≡ Ok n) (low : 1 ≤ k) (high : k ≤ n) where
   abbrev at : ℕ
   at = point_place pack k
 

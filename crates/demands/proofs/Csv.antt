@@ -19,23 +19,17 @@ use Rattle.refusal.specs.Refusal.{detail, second}
 use Rattle.refusal.specs.Packed.{Fits}
 use Rattle.refusal.specs.declared.Reason.{Reason}
 use Rattle.refusal.specs.declared.Reason.TheVariants.{NoSuchNumber, Combination, Room, BadRow, Uncarried}
-use Rattle.refusal.specs.declared.Answer.{Answer}
-use Rattle.refusal.specs.declared.Answer.TheVariants.{Value, Refused}
-use Rattle.refusal.specs.declared.Verdict.{Verdict}
-use Rattle.refusal.specs.declared.Verdict.TheVariants.{Fine, Bad}
 use Rattle.refusal.specs.Verdict.{or_else}
 use Rattle.refusal.specs.Outcome.{said, afterwards}
-use Rattle.refusal.proofs.Answers.{refused-value}
+use Rattle.refusal.proofs.Answers.{refused-value, same-reason}
 use Rattle.refusal.proofs.Outcomes.{afterwards-value, afterwards-refused}
 use Rattle.source.specs.Address.{Address, Elements, present}
 use Rattle.source.specs.Resolve.{Resolved, elements, refused, elements_of, resolve}
 use Rattle.source.proofs.Cases.{Resolving, mixed, lacking, fine, resolving, three-rules, eight-fields}
 use Rattle.label.specs.Label.{label_of, room_outcome}
-use Rattle.label.specs.Widths.{Fits as TextsFit}
 use Rattle.label.proofs.Room.{Fitting, fits, short, fitting}
 use Rattle.label.proofs.Bounds.{at-most-11-lines, slim-499, slim-lines}
 use Rattle.item.specs.Item.{resolved_text, item_outcome}
-use Rattle.run.specs.declared.Series.TheVariants.{Unasked}
 use Rattle.run.specs.Series.{Asking, run_from}
 use Rattle.run.proofs.Count.{LabelSays}
 use Rattle.ask.specs.Source.{Source}
@@ -97,14 +91,18 @@ use Rattle.demands.specs.Csv.{
 }
 use Rattle.demands.proofs.Two.{rule-line}
 use Rattle.demands.proofs.Says.{StopOf, OneOf, one_says, SeriesOf, SeriesBy, an-item-says, files-first, series-of}
+use Rattle.std.specs.Prelude.{Ok, Err}
+use Rattle.refusal.specs.Answer.{Answer, refusal}
+use Rattle.refusal.specs.Verdict.{Verdict, fine as unrefused}
+use Rattle.label.specs.Widths.{Fits as TextsFit}
 
 -- ---- a row is written
 
 module _ (s : Source) (view : ℕ) (out : List ℕ) where
-  module _ {n : ℕ} (taken : s.judged ≡ Value n) where
+  module _ {n : ℕ} (taken : s.judged ≡ Ok n) where
     asked : view_row s view out ≡ row_or s.look (kth s.views view) out
     unfolding view_row kth_row
-    asked = afterwards-value Refused out _ taken
+    asked = afterwards-value refusal out _ taken
 
     module _ (a : Address) (there : kth s.views view ≡ some a) where
       as_row : view_row s view out ≡ row_outcome a (resolve s.look a) out
@@ -117,7 +115,7 @@ module _ (s : Source) (view : ℕ) (out : List ℕ) where
       unfolding written_outcome
       printed-row p is = by-carried (carried e) refl
         where
-          of : view_row s view out ≡ cond (carried e) (room_outcome (row_for s.look a) out) (said (Refused 0 Uncarried) out)
+          of : view_row s view out ≡ cond (carried e) (room_outcome (row_for s.look a) out) (said (refusal 0 Uncarried) out)
           of = as_row ∙ ap (λ (r : Resolved). row_outcome a r out) is
 
           by-room : carried e ≡ true → view_row s view out ≡ room_outcome (row_for s.look a) out
@@ -129,11 +127,11 @@ module _ (s : Source) (view : ℕ) (out : List ℕ) where
           by-carried : (t : Bool) → carried e ≡ t → RowAsked s view out
           by-carried true q =
               by-room q
-              (of ∙ ap (λ (t : Bool). cond t (room_outcome (row_for s.look a) out) (said (Refused 0 Uncarried) out)) q)
+              (of ∙ ap (λ (t : Bool). cond t (room_outcome (row_for s.look a) out) (said (refusal 0 Uncarried) out)) q)
               (fitting (row_for s.look a) out)
           by-carried false q =
               not_carried taken a there p q
-              (of ∙ ap (λ (t : Bool). cond t (room_outcome (row_for s.look a) out) (said (Refused 0 Uncarried) out)) q)
+              (of ∙ ap (λ (t : Bool). cond t (room_outcome (row_for s.look a) out) (said (refusal 0 Uncarried) out)) q)
 
       found-row : RowAsked s view out
       found-row = by-case (resolving s.look a)
@@ -155,8 +153,8 @@ module _ (s : Source) (view : ℕ) (out : List ℕ) where
   row-asked = by-judged s.judged refl
     where
       by-judged : (j : Answer) → s.judged ≡ j → RowAsked s view out
-      by-judged (Value n) q = taken-row q
-      by-judged (Refused file why) q = files_refused q (afterwards-refused Refused out _ q)
+      by-judged (Ok n) q = taken-row q
+      by-judged (Err r) q = files_refused q (afterwards-refused refusal out _ q)
 
 -- ---- how long a row is
 
@@ -185,7 +183,7 @@ entry-fits w sound =
     }
 
 -- what a row is written from, by the view
-entry-sound : (s : Source) → ViewsSound s → (n view : ℕ) (a : Address) → s.judged ≡ Value n → kth s.views view ≡ some a
+entry-sound : (s : Source) → ViewsSound s → (n view : ℕ) (a : Address) → s.judged ≡ Ok n → kth s.views view ≡ some a
     → Printed s.look a
     → EntrySound (entry_of a (elements_of s.look a))
 entry-sound s sound n view a taken there p =
@@ -242,7 +240,7 @@ lent-text (set_files s) = views-text (main_of s) (set-views s)
 of_label : {why : Reason} → OfLabel why → second why ≡ 0 → detail why ≤ 499 → StopOf OfRow why
 of_label l v d = record { apart = inl l; no-view = v; small = d }
 
-module _ (s : Source) (bounded : RowsBounded s) {n : ℕ} (taken : s.judged ≡ Value n) (k : ℕ) (out : List ℕ) where
+module _ (s : Source) (bounded : RowsBounded s) {n : ℕ} (taken : s.judged ≡ Ok n) (k : ℕ) (out : List ℕ) where
   pub row-says : OneOf OfRow (length s.views) k (view_row s k out).answer
   row-says = by-case (row-asked s k out)
     where
@@ -268,13 +266,13 @@ rows-say Whole s apt bounded first count out =
 
 -- ---- a file is read
 
-first-bad : (n : ℕ) (rows : List (List ℕ)) (row field : ℕ) → first_bad_row n rows ≡ Bad (BadRow row field) → FirstBad n rows row field
+first-bad : (n : ℕ) (rows : List (List ℕ)) (row field : ℕ) → first_bad_row n rows ≡ Err (BadRow row field) → FirstBad n rows row field
 first-bad n [] row field e = let z : ◌≡◌ {A = ℕ} 0 1 = cc in absurd (omega arith)
 first-bad n (r ∷ rs) row field e = by-test (eqb (row_fault r) 0) refl e (λ q. first-bad (suc n) rs row field q)
   where
     by-test : (t : Bool) → eqb (row_fault r) 0 ≡ t
-        → cond t (first_bad_row (suc n) rs) (Bad (BadRow n (row_fault r))) ≡ Bad (BadRow row field)
-        → (first_bad_row (suc n) rs ≡ Bad (BadRow row field) → FirstBad (suc n) rs row field)
+        → cond t (first_bad_row (suc n) rs) (Err (BadRow n (row_fault r))) ≡ Err (BadRow row field)
+        → (first_bad_row (suc n) rs ≡ Err (BadRow row field) → FirstBad (suc n) rs row field)
         → FirstBad n (r ∷ rs) row field
     by-test true q z more = later (eqb-true (row_fault r) 0 q) (more z)
     by-test false q z more =
@@ -284,16 +282,16 @@ first-bad n (r ∷ rs) row field e = by-test (eqb (row_fault r) 0) refl e (λ q.
 
 -- the verdict over rows is fine or names a row
 pub data RowsVerdict (n : ℕ) (rows : List (List ℕ)) : Type 0 where
-  all-formed : AllFormed rows → first_bad_row n rows ≡ Fine → RowsVerdict n rows
-  one-bad : (row field : ℕ) → FirstBad n rows row field → first_bad_row n rows ≡ Bad (BadRow row field) → RowsVerdict n rows
+  all-formed : AllFormed rows → first_bad_row n rows ≡ unrefused → RowsVerdict n rows
+  one-bad : (row field : ℕ) → FirstBad n rows row field → first_bad_row n rows ≡ Err (BadRow row field) → RowsVerdict n rows
 
 rows-verdict : (n : ℕ) (rows : List (List ℕ)) → RowsVerdict n rows
 rows-verdict n [] = all-formed tt refl
 rows-verdict n (r ∷ rs) = by-test (eqb (row_fault r) 0) refl (rows-verdict (suc n) rs)
   where
     told : (t : Bool) → eqb (row_fault r) 0 ≡ t
-        → first_bad_row n (r ∷ rs) ≡ cond t (first_bad_row (suc n) rs) (Bad (BadRow n (row_fault r)))
-    told t q = ap (λ (u : Bool). cond u (first_bad_row (suc n) rs) (Bad (BadRow n (row_fault r)))) q
+        → first_bad_row n (r ∷ rs) ≡ cond t (first_bad_row (suc n) rs) (Err (BadRow n (row_fault r)))
+    told t q = ap (λ (u : Bool). cond u (first_bad_row (suc n) rs) (Err (BadRow n (row_fault r)))) q
 
     by-test : (t : Bool) → eqb (row_fault r) 0 ≡ t → RowsVerdict (suc n) rs → RowsVerdict n (r ∷ rs)
     by-test true q (all-formed h e) = all-formed (eqb-true (row_fault r) 0 q, h) (told true q ∙ e)
@@ -305,11 +303,11 @@ unfolding csv_judged
 csv-asked csv = by-verdict (rows-verdict 1 (rows_of csv))
   where
     judged : Verdict → Bool → Answer
-    judged v t = judged_as (or_else v (cond t Fine (Bad Uncarried))) (length (rows_of csv))
+    judged v t = judged_as (or_else v (cond t unrefused (Err Uncarried))) (length (rows_of csv))
 
-    by-fit : AllFormed (rows_of csv) → first_bad_row 1 (rows_of csv) ≡ Fine → (t : Bool) → all_fit (rows_of csv) ≡ t → CsvAsked csv
-    by-fit h e true q = accepted h q (ap (λ (v : Verdict). judged v (all_fit (rows_of csv))) e ∙ ap (judged Fine) q)
-    by-fit h e false q = not_carried h q (ap (λ (v : Verdict). judged v (all_fit (rows_of csv))) e ∙ ap (judged Fine) q)
+    by-fit : AllFormed (rows_of csv) → first_bad_row 1 (rows_of csv) ≡ unrefused → (t : Bool) → all_fit (rows_of csv) ≡ t → CsvAsked csv
+    by-fit h e true q = accepted h q (ap (λ (v : Verdict). judged v (all_fit (rows_of csv))) e ∙ ap (judged unrefused) q)
+    by-fit h e false q = not_carried h q (ap (λ (v : Verdict). judged v (all_fit (rows_of csv))) e ∙ ap (judged unrefused) q)
 
     by-verdict : RowsVerdict 1 (rows_of csv) → CsvAsked csv
     by-verdict (all-formed h e) = by-fit h e (all_fit (rows_of csv)) refl
@@ -336,11 +334,11 @@ bad-few {n} (here {row = row} q) = (omega arith, fault-few (forms_for (fields_of
 bad-few (later q b) = let h = bad-few b in (omega (arith, h.0), h.1)
 
 -- 14 and 15, whatever the file
-pub csv-whole : (csv : List ℕ) (file : ℕ) (why : Reason) → csv_judged csv ≡ Refused file why → OfCsv why
+pub csv-whole : (csv : List ℕ) (file : ℕ) (why : Reason) → csv_judged csv ≡ refusal file why → OfCsv why
 csv-whole csv file why e = by-case (csv-asked csv)
   where
-    same : {other : Reason} → csv_judged csv ≡ Refused 0 other → other ≡ why
-    same {other} q = let p = sym q ∙ e in cc
+    same : {other : Reason} → csv_judged csv ≡ refusal 0 other → other ≡ why
+    same {other} q = same-reason (sym q ∙ e)
 
     by-case : CsvAsked csv → OfCsv why
     by-case (row_malformed {row} {field} b q) =
@@ -363,7 +361,7 @@ csv-fits csv h = by-case (csv-asked csv)
     by-case (not_carried f l q) = rw q (record { file_fits = lit< tt; second_fits = lit< tt; detail_fits = lit< tt })
     by-case (accepted f l q) = rw q (omega (arith, rows-within csv, h))
 
-pub csv-says : (csv : List ℕ) → length csv < 4_294_967_296 → (file : ℕ) (why : Reason) → csv_judged csv ≡ Refused file why
+pub csv-says : (csv : List ℕ) → length csv < 4_294_967_296 → (file : ℕ) (why : Reason) → csv_judged csv ≡ refusal file why
     → CsvSays file why
 csv-says csv h file why e = record { apart = csv-whole csv file why e; fits = rw e at (csv-fits csv h) }
 
@@ -392,7 +390,7 @@ pub csv-label-asked : (csv : List ℕ) (row : ℕ) (out : List ℕ) → CsvLabel
 unfolding csv_label row_label row_resolved
 csv-label-asked csv row out = by-judged (csv_judged csv) refl
   where
-    by-room : (n : ℕ) → csv_judged csv ≡ Value n → (bytes : List ℕ) → kth_of (rows_of csv) row ≡ some bytes
+    by-room : (n : ℕ) → csv_judged csv ≡ Ok n → (bytes : List ℕ) → kth_of (rows_of csv) row ≡ some bytes
         → forbidden_in (elements_for bytes) ≡ 0
         → csv_label csv row out ≡ room_outcome (label_of (elements_for bytes)) out
         → Fitting (label_of (elements_for bytes)) out
@@ -400,7 +398,7 @@ csv-label-asked csv row out = by-judged (csv_judged csv) refl
     by-room n e bytes q z is (fits h k) = printed e bytes q z h (is ∙ k)
     by-room n e bytes q z is (short h k) = no_room e bytes q z h (is ∙ k)
 
-    by-rule : (n : ℕ) → csv_judged csv ≡ Value n → (bytes : List ℕ) → kth_of (rows_of csv) row ≡ some bytes
+    by-rule : (n : ℕ) → csv_judged csv ≡ Ok n → (bytes : List ℕ) → kth_of (rows_of csv) row ≡ some bytes
         → csv_label csv row out
         ≡ label_or
         (some
@@ -415,16 +413,16 @@ csv-label-asked csv row out = by-judged (csv_judged csv) refl
     by-rule n e bytes q is false z =
         forbidden_mix e bytes q (one_of_two (elements_for bytes) (eqb-false (forbidden_in (elements_for bytes)) 0 z)) (is ∙ rw z refl)
 
-    by-found : (n : ℕ) → csv_judged csv ≡ Value n → (o : Option (List ℕ)) → kth_of (rows_of csv) row ≡ o → CsvLabelAsked csv row out
+    by-found : (n : ℕ) → csv_judged csv ≡ Ok n → (o : Option (List ℕ)) → kth_of (rows_of csv) row ≡ o → CsvLabelAsked csv row out
     by-found n e none q =
-        no_number e q (afterwards-value Refused out _ e ∙ ap (λ (o : Option (List ℕ)). label_or (resolved_of o) out) q)
+        no_number e q (afterwards-value refusal out _ e ∙ ap (λ (o : Option (List ℕ)). label_or (resolved_of o) out) q)
     by-found n e (some bytes) q =
-        by-rule n e bytes q (afterwards-value Refused out _ e ∙ ap (λ (o : Option (List ℕ)). label_or (resolved_of o) out) q)
+        by-rule n e bytes q (afterwards-value refusal out _ e ∙ ap (λ (o : Option (List ℕ)). label_or (resolved_of o) out) q)
         (eqb (forbidden_in (elements_for bytes)) 0) refl
 
     by-judged : (j : Answer) → csv_judged csv ≡ j → CsvLabelAsked csv row out
-    by-judged (Value n) e = by-found n e (kth_of (rows_of csv) row) refl
-    by-judged (Refused file why) e = file_refused e (afterwards-refused Refused out _ e)
+    by-judged (Ok n) e = by-found n e (kth_of (rows_of csv) row) refl
+    by-judged (Err r) e = file_refused e (afterwards-refused refusal out _ e)
 
 pub csv-bounded : (csv : List ℕ) → CsvBounded csv
 csv-bounded csv n row bytes e q =
@@ -436,7 +434,7 @@ csv-bounded csv n row bytes e q =
       each = slim-lines (elements_for bytes) slim;
     }
 
-pub csv-label-says : (csv : List ℕ) (n : ℕ) → csv_judged csv ≡ Value n → (k : ℕ) (out : List ℕ)
+pub csv-label-says : (csv : List ℕ) (n : ℕ) → csv_judged csv ≡ Ok n → (k : ℕ) (out : List ℕ)
     → OneOf OfCsvLabel (length (rows_of csv)) k (csv_label csv k out).answer
 csv-label-says csv n taken k out = by-case (csv-label-asked csv k out)
   where
@@ -457,7 +455,7 @@ csv-label-says csv n taken k out = by-case (csv-label-asked csv k out)
 
 -- ---- an item of a listing
 
-module _ (csv : List ℕ) {n : ℕ} (taken : csv_judged csv ≡ Value n) where
+module _ (csv : List ℕ) {n : ℕ} (taken : csv_judged csv ≡ Ok n) where
   row_listed : (row : ℕ) (out : List ℕ) → RowListed csv row out (csv_item csv row out)
   unfolding csv_item row_item row_resolved
   row_listed row out = by-found (kth_of (rows_of csv) row) refl
@@ -465,7 +463,7 @@ module _ (csv : List ℕ) {n : ℕ} (taken : csv_judged csv ≡ Value n) where
       found : {o : Option (List ℕ)} → kth_of (rows_of csv) row ≡ o
           → csv_item csv row out ≡ item_outcome (row_line row) (resolved_of o) out
       found q =
-          afterwards-value Refused out _ taken
+          afterwards-value refusal out _ taken
           ∙ ap (λ (o : Option (List ℕ)). item_outcome (row_line row) (resolved_of o) out) q
 
       by-room : (bytes text : List ℕ) → kth_of (rows_of csv) row ≡ some bytes → UnderRow bytes text
@@ -498,30 +496,30 @@ module _ (csv : List ℕ) {n : ℕ} (taken : csv_judged csv ≡ Value n) where
       record {
         item = csv_item csv;
         each = row_listed;
-        in_turn = λ first count out. afterwards-value Unasked out _ taken;
+        in_turn = λ first count out. afterwards-value refusal out _ taken;
       }
 
 -- ---- runs and listings
 
 module _ (Whole : ℕ → Reason → Type 0) (Kind : Reason → Type 0) (ask : Asking) (csv : List ℕ)
-    (whole : (file : ℕ) (why : Reason) → csv_judged csv ≡ Refused file why → Whole file why)
-    (each : (n : ℕ) → csv_judged csv ≡ Value n → (k : ℕ) (o : List ℕ) → LabelSays Kind (length (rows_of csv)) k (ask k o).answer)
+    (whole : (file : ℕ) (why : Reason) → csv_judged csv ≡ refusal file why → Whole file why)
+    (each : (n : ℕ) → csv_judged csv ≡ Ok n → (k : ℕ) (o : List ℕ) → LabelSays Kind (length (rows_of csv)) k (ask k o).answer)
     (first count : ℕ) (out : List ℕ) where
   csv-next : SeriesOf Whole Kind (length (rows_of csv))
-      (afterwards Unasked (csv_judged csv) out (run_from ask first count out)).answer
+      (afterwards refusal (csv_judged csv) out (run_from ask first count out)).answer
   csv-next = by-judged (csv_judged csv) refl
     where
       by-judged : (j : Answer) → csv_judged csv ≡ j
           → SeriesOf Whole Kind (length (rows_of csv))
-          (afterwards Unasked (csv_judged csv) out (run_from ask first count out)).answer
-      by-judged (Value n) e =
-          rw (afterwards-value Unasked out (run_from ask first count out) e)
+          (afterwards refusal (csv_judged csv) out (run_from ask first count out)).answer
+      by-judged (Ok n) e =
+          rw (afterwards-value refusal out (run_from ask first count out) e)
           (series-of Whole Kind ask (length (rows_of csv)) (each n e) first count out)
-      by-judged (Refused file why) e =
-          rw (afterwards-refused Unasked out (run_from ask first count out) e) (whole file why e)
+      by-judged (Err r) e =
+          rw (afterwards-refused refusal out (run_from ask first count out) e) (whole r.file r.reason e)
 
 module _ (Whole : ℕ → Reason → Type 0) (csv : List ℕ)
-    (whole : (file : ℕ) (why : Reason) → csv_judged csv ≡ Refused file why → Whole file why) where
+    (whole : (file : ℕ) (why : Reason) → csv_judged csv ≡ refusal file why → Whole file why) where
   pub csv-labels-say : (first count : ℕ) (out : List ℕ)
       → SeriesOf Whole (StopOf OfCsvLabel) (length (rows_of csv)) (csv_labels csv first count out).answer
   unfolding csv_labels
@@ -530,14 +528,14 @@ module _ (Whole : ℕ → Reason → Type 0) (csv : List ℕ)
       (λ n e k o. one_says OfCsvLabel (length (rows_of csv)) k (csv_label csv k o).answer (csv-label-says csv n e k o))
 
 module _ (Whole : ℕ → Reason → Type 0) (Kind : Reason → Type 0) (none_left : Kind NoSuchNumber) (csv : List ℕ)
-    (whole : (file : ℕ) (why : Reason) → csv_judged csv ≡ Refused file why → Whole file why)
-    (room : (n : ℕ) → csv_judged csv ≡ Value n → (k : ℕ) (row : List ℕ) → kth_of (rows_of csv) k ≡ some row
+    (whole : (file : ℕ) (why : Reason) → csv_judged csv ≡ refusal file why → Whole file why)
+    (room : (n : ℕ) → csv_judged csv ≡ Ok n → (k : ℕ) (row : List ℕ) → kth_of (rows_of csv) k ≡ some row
     → Kind (Room (length (row_line k ++ resolved_text (row_resolved row))))) where
-  item-says : (n : ℕ) → csv_judged csv ≡ Value n → (k : ℕ) (out : List ℕ)
+  item-says : (n : ℕ) → csv_judged csv ≡ Ok n → (k : ℕ) (out : List ℕ)
       → LabelSays Kind (length (rows_of csv)) k (csv_item csv k out).answer
   unfolding csv_item row_item
   item-says n e k out =
-      rw (afterwards-value Refused out (row_item csv k out) e) (by-found (kth_of (rows_of csv) k) refl)
+      rw (afterwards-value refusal out (row_item csv k out) e) (by-found (kth_of (rows_of csv) k) refl)
     where
       by-found : (o : Option (List ℕ)) → kth_of (rows_of csv) k ≡ o
           → LabelSays Kind (length (rows_of csv)) k (item_outcome (row_line k) (resolved_of o) out).answer

@@ -16,8 +16,6 @@ use Rattle.refusal.specs.Refusal.{detail, second, with_view}
 use Rattle.refusal.specs.Packed.{word, FitsRefusal, Fits}
 use Rattle.refusal.specs.declared.Reason.{Reason}
 use Rattle.refusal.specs.declared.Reason.TheVariants.{NoSuchNumber, Combination, MissingKey, Room, BadCode}
-use Rattle.refusal.specs.declared.Answer.{Answer}
-use Rattle.refusal.specs.declared.Answer.TheVariants.{Value, Refused}
 use Rattle.refusal.specs.Outcome.{said, after, afterwards}
 use Rattle.refusal.proofs.Answers.{same-value}
 use Rattle.refusal.proofs.Outcomes.{afterwards-refused}
@@ -39,8 +37,6 @@ use Rattle.label.specs.Label.{label_of}
 use Rattle.item.specs.Lines.{point_line}
 use Rattle.item.specs.Item.{resolved_text}
 use Rattle.item.proofs.Lines.{worded-short, point-short, refused-short}
-use Rattle.run.specs.declared.Series.{Series}
-use Rattle.run.specs.declared.Series.TheVariants.{Unasked, Stopped, Done}
 use Rattle.ask.specs.Source.{Source}
 use Rattle.ask.specs.Labels.{kth, view_label, code_label}
 use Rattle.ask.specs.Runs.{views_run, code_run}
@@ -59,7 +55,6 @@ use Rattle.tally_bytes.proofs.Entries.{entries-long}
 use Rattle.changes_codes.specs.Codes.{codes_in, codes_outcome}
 use Rattle.changes_codes.proofs.Answered.{entries-few}
 use Rattle.mainfile_codes.specs.Codes as MainCodes
-use Rattle.mainfile_codes.proofs.Stretches.{entries-few as main-entries-few}
 use Rattle.changes_pair.specs.Live.{WantedPlace, WantedPlaces}
 use Rattle.changes_pair.proofs.Live.{all_wanted}
 use Rattle.mainfile.specs.Set.{Set, set_of, set_judged}
@@ -90,6 +85,11 @@ use Rattle.demands.specs.Csv.{OfRow, OfCsvLabel, elements_for, CsvSays}
 use Rattle.demands.proofs.Csv.{row-says, rows-say, lent_rows, csv-fits, csv-says, csv-bounded, csv-label-says, csv-labels-say, csv-list-says, rule-few}
 use Rattle.demands.proofs.Book.{book-fits, present-fits, event-fits, tidy-fits}
 use Rattle.demands.proofs.Lent.{set_says, addresses-says, lent-apt, code-whole}
+use Rattle.std.specs.Prelude.{Ok, Err}
+use Rattle.refusal.specs.Answer.{Answer, refusal}
+use Rattle.run.specs.Series.{Series}
+use Rattle.run.specs.declared.Run.TheVariants.{Stopped, Done}
+use Rattle.mainfile_codes.proofs.Stretches.{entries-few as main-entries-few}
 
 -- ---- files and what a point file lists
 
@@ -97,10 +97,10 @@ checked-fits : (f : Format) (file : List ℕ) → f.limit ≤ 1_000_000 → Judg
 checked-fits f file few says = by_answer (checked f file) refl says
   where
     by_answer : (r : Answer) → checked f file ≡ r → Judging r → Fits r
-    by_answer (Value n) e h =
+    by_answer (Ok n) e h =
         let a = accepted f file n e in
         omega (arith, same-value n (records f file) (sym e ∙ accepts f file a), within-limit f file a.is_whole)
-    by_answer (Refused file why) e h = h.fits
+    by_answer (Err r) e h = h.fits
 
 -- the file's own refusal first
 listed-fits : (f : Format) (file : List ℕ) → Judging (checked f file) → (next : Answer) → (Accepted f file → Fits next)
@@ -108,10 +108,10 @@ listed-fits : (f : Format) (file : List ℕ) → Judging (checked f file) → (n
 listed-fits f file says next fits = by_first (checked f file) refl says
   where
     by_first : (first : Answer) → checked f file ≡ first → Judging first → Fits (after first next)
-    by_first (Value n) e h = fits (accepted f file n e)
-    by_first (Refused file why) e h = h.fits
+    by_first (Ok n) e h = fits (accepted f file n e)
+    by_first (Err r) e h = h.fits
 
-no-such-number : Fits (Refused 0 NoSuchNumber)
+no-such-number : Fits (refusal 0 NoSuchNumber)
 no-such-number = record { file_fits = lit< tt; second_fits = lit< tt; detail_fits = lit< tt }
 
 -- one of these bytes is below what all of them are below
@@ -158,7 +158,7 @@ module _ (points : List ℕ) (p : Accepted point_format points) where
       place = get_or (wanted_in [] points) k 0
 
       by-test : (t : Bool) → eqb place 0 ≡ t
-          → Fits (cond t (Refused 0 NoSuchNumber) (Value (get_or (record_at 168 points place) 40 0)))
+          → Fits (cond t (refusal 0 NoSuchNumber) (Ok (get_or (record_at 168 points place) 40 0)))
       by-test true e = no-such-number
       by-test false e =
           omega (
@@ -171,7 +171,7 @@ module _ (points : List ℕ) (p : Accepted point_format points) where
   unfolding live_at
   live-fits code = by-test (eqb (outward_fault code) 0)
     where
-      by-test : (t : Bool) → Fits (cond t (Value (wanted_count code points)) (Refused 0 BadCode))
+      by-test : (t : Bool) → Fits (cond t (Ok (wanted_count code points)) (refusal 0 BadCode))
       by-test true = omega (arith, counted-few code)
       by-test false = code-says.fits
 
@@ -180,16 +180,16 @@ module _ (points : List ℕ) (p : Accepted point_format points) where
 main-fits : (s : Set) → Fits (MainList.views_answer s)
 main-fits s = by-judged (set_judged s) refl (set_says s)
   where
-    by-judged : (j : Answer) → set_judged s ≡ j → Judging j → Fits (after j (Value (views_in s.addresses)))
-    by-judged (Value n) e h =
+    by-judged : (j : Answer) → set_judged s ≡ j → Judging j → Fits (after j (Ok (views_in s.addresses)))
+    by-judged (Ok n) e h =
         omega (arith, within-limit addresses s.addresses (set-accepted s e).addresses.is_whole)
-    by-judged (Refused file why) e h = h.fits
+    by-judged (Err r) e h = h.fits
 
 main-live-fits : (file code : List ℕ) → Accepted addresses file → Fits (Main.live_at file code)
 unfolding Main.live_at
 main-live-fits file code a = by-test (eqb (outward_fault code) 0)
   where
-    by-test : (t : Bool) → Fits (cond t (Value (many_in file code)) (Refused 0 BadCode))
+    by-test : (t : Bool) → Fits (cond t (Ok (many_in file code)) (refusal 0 BadCode))
     by-test true =
         omega (
           arith,
@@ -206,25 +206,25 @@ room_fits n bytes out few long = by-test (leb (length bytes) (length out))
   where
     by-test : (t : Bool)
         → Fits
-        (cond t (said (Value n) (bytes ++ drop (length bytes) out)) (said (Refused 0 (Room (length bytes))) out)).answer
+        (cond t (said (Ok n) (bytes ++ drop (length bytes) out)) (said (refusal 0 (Room (length bytes))) out)).answer
     by-test true = omega arith
     by-test false = record { file_fits = lit< tt; second_fits = lit< tt; detail_fits = omega arith }
 
 codes-fit : (f : Format) (file : List ℕ) (es : List Entry) (out : List ℕ) → Judging (checked f file)
     → (Accepted f file → length es ≤ 1_000_000)
-    → Fits (afterwards Refused (checked f file) out (entries_outcome es out)).answer
+    → Fits (afterwards refusal (checked f file) out (entries_outcome es out)).answer
 codes-fit f file es out says few = by_first (checked f file) refl says
   where
     by_first : (first : Answer) → checked f file ≡ first → Judging first
-        → Fits (afterwards Refused first out (entries_outcome es out)).answer
-    by_first (Value n) e h = room_fits (length es) (entry_bytes es) out (few (accepted f file n e)) (entries-long es)
-    by_first (Refused file why) e h = h.fits
+        → Fits (afterwards refusal first out (entries_outcome es out)).answer
+    by_first (Ok n) e h = room_fits (length es) (entry_bytes es) out (few (accepted f file n e)) (entries-long es)
+    by_first (Err r) e h = h.fits
 
 -- ---- labels
 
 one-fits : (Kind : Reason → Type 0) (limit k : ℕ) (r : Answer) → OneOf Kind limit k r → Fits r
-one-fits Kind limit k (Value b) h = omega (arith, h.0)
-one-fits Kind limit k (Refused file why) h =
+one-fits Kind limit k (Ok b) h = omega (arith, h.0)
+one-fits Kind limit k (Err r) h =
     record {
       file_fits = rw h.0 (lit< tt);
       second_fits = rw h.1.no-view (lit< tt);
@@ -253,9 +253,9 @@ unfolding pack_label
 point-fits pack k out = by-opened (opened pack) refl
   where
     by-opened : (r : Answer) → opened pack ≡ r → Fits (pack_label pack k out).answer
-    by-opened (Value n) e = one-fits OfLabel n k (pack_label pack k out).answer (point-says pack n e k out)
-    by-opened (Refused file why) e =
-        rw (afterwards-refused Refused out _ e) (rw e at (opened-says pack)).fits
+    by-opened (Ok n) e = one-fits OfLabel n k (pack_label pack k out).answer (point-says pack n e k out)
+    by-opened (Err r) e =
+        rw (afterwards-refused refusal out _ e) (rw e at (opened-says pack)).fits
 
 suffix-fits : (pack : List ℕ) (k : ℕ) → Fits (pack_suffix pack k)
 suffix-fits pack k = by-case (suffix-asked pack k)
@@ -279,8 +279,8 @@ opened-fits : (pack : List ℕ) → ((i : ℕ) → get_or pack i 0 < 256) → Fi
 opened-fits pack bytes = by-opened (opened pack) refl (opened-says pack)
   where
     by-opened : (r : Answer) → opened pack ≡ r → Judging r → Fits r
-    by-opened (Value n) e h = omega (arith, (opened-all pack n e).counted, points_few pack bytes)
-    by-opened (Refused file why) e h = h.fits
+    by-opened (Ok n) e h = omega (arith, (opened-all pack n e).counted, points_few pack bytes)
+    by-opened (Err r) e h = h.fits
 
 -- ---- packs that are built
 
@@ -304,7 +304,7 @@ module _ (Whole : Reason → Type 0) (s : Source) (apt : AptBy Whole s) (code ou
   build-fits : Fits (pack_built s code out).answer
   build-fits = by-case (building s code out)
     where
-      small : {n : ℕ} → s.judged ≡ Value n → outward_fault code ≡ 0 → AllPrinted s.look (packed s code)
+      small : {n : ℕ} → s.judged ≡ Ok n → outward_fault code ≡ 0 → AllPrinted s.look (packed s code)
           → length (whole s code) < 4_294_967_296
       small e clean ps = omega (arith, (apt.packable.sound e code clean (all-fine s.look (packed s code) ps)).small)
 
@@ -337,9 +337,9 @@ small_by : (Whole : ℕ → Reason → Type 0) (Kind : Reason → Type 0) → ((
     → (limit : ℕ) (s : Series)
     → SeriesOf Whole Kind limit s
     → SeriesOf Whole SmallStop limit s
-small_by Whole Kind smaller limit (Unasked file why) h = h
-small_by Whole Kind smaller limit (Stopped labels bytes why) h = (h.0, smaller why h.1)
-small_by Whole Kind smaller limit (Done labels bytes) h = h
+small_by Whole Kind smaller limit (Err r) h = h
+small_by Whole Kind smaller limit (Ok (Stopped labels bytes why)) h = (h.0, smaller why h.1)
+small_by Whole Kind smaller limit (Ok (Done labels bytes)) h = h
 
 stop-small : (Kind : Reason → Type 0) (why : Reason) → StopOf Kind why → SmallStop why
 stop-small Kind why h = record { no-view = h.no-view; small = omega (arith, h.small) }
@@ -354,17 +354,17 @@ series-tells : (Whole : ℕ → Reason → Type 0) → ((file : ℕ) (why : Reas
     → ((Exception call → ⊥) → limit < 1_048_576)
     → Tells call (run s)
 unfolding word
-series-tells Whole whole call limit (Unasked file why) h below few =
-    record { fits = whole file why h; number = refl; all = λ none. refl }
-series-tells Whole whole call limit (Stopped labels bytes why) h below few =
+series-tells Whole whole call limit (Err r) h below few =
+    record { fits = whole r.file r.reason h; number = refl; all = λ none. refl }
+series-tells Whole whole call limit (Ok (Stopped labels bytes why)) h below few =
     record {
       fits = (omega arith, (h.1.no-view, h.1.small));
       number = rw (mod-mod labels 1_048_576);
       all = λ none.
-          ap (λ (n : ℕ). run (Stopped n bytes why))
+          ap (λ (n : ℕ). run (Ok (Stopped n bytes why)))
           (mod-eq_of_lt (omega (arith, h.0, few none)));
     }
-series-tells Whole whole call limit (Done labels bytes) h below few =
+series-tells Whole whole call limit (Ok (Done labels bytes)) h below few =
     record { fits = omega (arith, h); number = refl; all = λ none. refl }
 
 -- over a source that has no more than fit
@@ -409,7 +409,7 @@ module _ (Whole : Reason → Type 0) (s : Source) (apt : AptBy Whole s) (views :
       let text = resolved-short s.look a bounded in
       small-room _ (simp length-append (omega (arith, line, text)))
 
-point-small : (pack : List ℕ) → ((i : ℕ) → get_or pack i 0 < 256) → (n : ℕ) → opened pack ≡ Value n → (k : ℕ) → 1 ≤ k
+point-small : (pack : List ℕ) → ((i : ℕ) → get_or pack i 0 < 256) → (n : ℕ) → opened pack ≡ Ok n → (k : ℕ) → 1 ≤ k
     → k ≤ point_count pack
     → SmallStop (Room (length (point_line k ++ label_at pack k)))
 point-small pack bytes n e k low high =
@@ -442,20 +442,20 @@ row_fits files view out = by-judged (source_of lent).judged refl
     lent = lent_of files
 
     by-judged : (j : Answer) → (source_of lent).judged ≡ j → Fits (view_row (source_of lent) view out).answer
-    by-judged (Value n) e =
+    by-judged (Ok n) e =
         one-fits OfRow (length (source_of lent).views) view (view_row (source_of lent) view out).answer
         (row-says (source_of lent) (lent_rows files) e view out)
-    by-judged (Refused file why) e =
-        rw (afterwards-refused Refused out _ e) (source-refused (WholeFor lent) (source_of lent) (lent-apt lent) e).fits
+    by-judged (Err r) e =
+        rw (afterwards-refused refusal out _ e) (source-refused (WholeFor lent) (source_of lent) (lent-apt lent) e).fits
 
 csv-label-fits : (csv : List ℕ) → length csv < 4_294_967_296 → (row : ℕ) (out : List ℕ) → Fits (csv_label csv row out).answer
 unfolding csv_label
 csv-label-fits csv h row out = by-judged (csv_judged csv) refl
   where
     by-judged : (j : Answer) → csv_judged csv ≡ j → Fits (csv_label csv row out).answer
-    by-judged (Value n) e =
+    by-judged (Ok n) e =
         one-fits OfCsvLabel (length (rows_of csv)) row (csv_label csv row out).answer (csv-label-says csv n e row out)
-    by-judged (Refused file why) e = rw (afterwards-refused Refused out _ e) (rw e at (csv-fits csv h))
+    by-judged (Err r) e = rw (afterwards-refused refusal out _ e) (rw e at (csv-fits csv h))
 
 csv-tells : (call : Call) (csv : List ℕ) → (1_048_575 < length (rows_of csv) → Exception call) → length csv < 4_294_967_296
     → (s : Series)
@@ -484,7 +484,7 @@ row-text-short row h = by-test (eqb (forbidden_in (elements_for row)) 0)
           refused-short 8 (forbidden_in (elements_for row)) 0 (lit< tt) (omega (arith, rule-few (elements_for row))) (lit< tt),
         )
 
-row-item-small : (csv : List ℕ) → length csv < 4_294_967_296 → (n : ℕ) → csv_judged csv ≡ Value n → (k : ℕ) (row : List ℕ)
+row-item-small : (csv : List ℕ) → length csv < 4_294_967_296 → (n : ℕ) → csv_judged csv ≡ Ok n → (k : ℕ) (row : List ℕ)
     → kth_of (rows_of csv) k ≡ some row
     → SmallStop (Room (length (row_line k ++ resolved_text (row_resolved row))))
 unfolding row_line
@@ -500,7 +500,7 @@ tells (of_table table) typed out = answer-tells _ _ (checked-fits table_format t
 tells (of_points points) typed out = answer-tells _ _ (checked-fits point_format points (lit≤ tt) (points-says points))
 tells (of_views points) typed out =
     answer-tells _ _
-    (listed-fits point_format points (points-says points) (Value (wanted_count [] points))
+    (listed-fits point_format points (points-says points) (Ok (wanted_count [] points))
     (λ p. omega (arith, counted-few points p [])))
 tells (of_letter points view) typed out =
     answer-tells _ _

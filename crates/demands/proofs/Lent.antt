@@ -9,7 +9,6 @@ use native.Mathlib.Omega.{arith}
 use lib.Dec.{lit≤, lit<}
 use lib.ListN.{length, take, length-append}
 use Rattle.refusal.specs.declared.Reason.TheVariants.{BadCode}
-use Rattle.refusal.specs.declared.Answer.TheVariants.{Value}
 use Rattle.source.specs.Address.{Lookup, Address}
 use Rattle.source.specs.Resolve.{elements_of}
 use Rattle.source.specs.Same.{AllOf}
@@ -51,6 +50,7 @@ use Rattle.demands.proofs.Says.{then_is, checked-says, table-says, points-says}
 use Rattle.demands.proofs.Pair.{pair-packable}
 use Rattle.demands.proofs.Set.{set-packable, in_turn}
 use Rattle.demands.proofs.Book.{book-apt}
+use Rattle.std.specs.Prelude.{Ok}
 
 -- ---- a pair of files
 
@@ -162,6 +162,6 @@ code-whole (set s) = inr (lit≤ tt, lit≤ tt)
 code-whole (a_book book table) = inl (inr (lit≤ tt, lit≤ tt))
 
 -- so demand 3 holds of it
-pub lent-carries : (lent : Lent) (code out : List ℕ) (n : ℕ) → (pack_built (source_of lent) code out).answer ≡ Value n
+pub lent-carries : (lent : Lent) (code out : List ℕ) (n : ℕ) → (pack_built (source_of lent) code out).answer ≡ Ok n
     → Carries (source_of lent) code (take n (pack_built (source_of lent) code out).memory)
 lent-carries lent = carries (source_of lent) (lent-apt lent).packable

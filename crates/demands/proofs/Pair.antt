@@ -8,8 +8,6 @@ use native.Mathlib.Omega.{arith}
 use borrow.Author.Tests.{eq-eqb}
 use lib.ListN.{length}
 use Rattle.field_outward.specs.Outward.{outward_fault}
-use Rattle.refusal.specs.declared.Answer.{Answer}
-use Rattle.refusal.specs.declared.Answer.TheVariants.{Value, Refused}
 use Rattle.source.specs.Address.{Address}
 use Rattle.file.specs.Check.{records}
 use Rattle.file.specs.Formats.{table_format, point_format}
@@ -28,6 +26,8 @@ use Rattle.changes_sound.proofs.Sound.{pair-sound}
 use Rattle.demands.specs.Two.{IsValue, Taken, BothAccepted, ViewExactly, CodeExactly}
 use Rattle.demands.specs.Three.{Packable, packed}
 use Rattle.demands.proofs.Two.{view-exactly, code-exactly, exactly-where}
+use Rattle.std.specs.Prelude.{Ok, Err}
+use Rattle.refusal.specs.Answer.{Answer}
 
 pub pair-packable : (table points : List ℕ) → Packable (pair_of table points)
 pair-packable table points =
@@ -38,10 +38,10 @@ pair-packable table points =
 
 -- it is accepted exactly where both files are
 pub pair-taken : (table points : List ℕ) → Accepted table_format table → Accepted point_format points
-    → (pair_of table points).judged ≡ Value (records point_format points)
+    → (pair_of table points).judged ≡ Ok (records point_format points)
 pair-taken table points t p = rw (accepts table_format table t, accepts point_format points p)
 
-pub taken-pair : (table points : List ℕ) {n : ℕ} → (pair_of table points).judged ≡ Value n
+pub taken-pair : (table points : List ℕ) {n : ℕ} → (pair_of table points).judged ≡ Ok n
     → BothAccepted table points
 taken-pair table points e = (table-accepted table points e, points-accepted table points e)
 
@@ -49,8 +49,8 @@ taken-both : (table points : List ℕ) → Taken (pair_of table points) → Both
 taken-both table points t = by-judged (pair_of table points).judged refl t
   where
     by-judged : (j : Answer) → (pair_of table points).judged ≡ j → IsValue j → BothAccepted table points
-    by-judged (Value n) e t = taken-pair table points e
-    by-judged (Refused file why) e t = absurd t
+    by-judged (Ok n) e t = taken-pair table points e
+    by-judged (Err r) e t = absurd t
 
 both-taken : (table points : List ℕ) → BothAccepted table points → Taken (pair_of table points)
 both-taken table points b = rw (pair-taken table points b.0 b.1) tt
@@ -85,9 +85,9 @@ pair-headed table points k a e =
     ap (λ (n : ℕ). view_line n a.letter) number
 
 -- a pack has as many points as `ttw_live` says
-pub live-counted : (table points code : List ℕ) {n : ℕ} → (pair_of table points).judged ≡ Value n → outward_fault code ≡ 0
-    → live_answer points code ≡ Value (length (packed (pair_of table points) code))
+pub live-counted : (table points code : List ℕ) {n : ℕ} → (pair_of table points).judged ≡ Ok n → outward_fault code ≡ 0
+    → live_answer points code ≡ Ok (length (packed (pair_of table points) code))
 unfolding live_answer live_at
 live-counted table points code taken clean =
     rw (accepts point_format points (points-accepted table points taken), eq-eqb (outward_fault code) 0 clean)
-    (ap Value (sym (live-length points code clean)))
+    (ap Ok (sym (live-length points code clean)))

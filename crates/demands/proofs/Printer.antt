@@ -8,7 +8,6 @@ use mathlib.Core.Option.{Option, some}
 use native.Mathlib.Omega.{arith}
 use borrow.Author.Tests.{le-leb, eq-eqb}
 use Rattle.refusal.specs.declared.Reason.TheVariants.{Combination}
-use Rattle.refusal.specs.declared.Answer.TheVariants.{Value, Refused}
 use Rattle.refusal.proofs.Outcomes.{afterwards-value}
 use Rattle.source.specs.Address.{Lookup, Address, Elements}
 use Rattle.source.specs.Resolve.{Resolved, elements, refused, elements_of}
@@ -25,6 +24,8 @@ use Rattle.call.specs.Call.{source_of, Call, outcome_of, writing}
 use Rattle.demands.specs.Two.{Printed}
 use Rattle.demands.specs.Printer.{Prints, a_view, a_view_in_code, a_point, a_row, printer}
 use Rattle.demands.proofs.Three.{printed-resolves}
+use Rattle.std.specs.Prelude.{Ok}
+use Rattle.refusal.specs.Answer.{refusal}
 
 -- the k-th of some delivery points, which is printed
 kth-printed : (look : Lookup) (views : List Address) (k : ℕ) (out : List ℕ) (a : Address) (e : Elements)
@@ -38,30 +39,30 @@ kth-printed look views k out a e found p is =
     ∙ (ap (λ (r : Resolved). resolved_outcome r out) (printed-resolves look a p)
     ∙ ap (λ (e : Elements). room_outcome (label_of e) out) is)
 
-view-printed : (s : Source) (view : ℕ) (out : List ℕ) (a : Address) (e : Elements) {n : ℕ} → s.judged ≡ Value n
+view-printed : (s : Source) (view : ℕ) (out : List ℕ) (a : Address) (e : Elements) {n : ℕ} → s.judged ≡ Ok n
     → kth s.views view ≡ some a
     → Printed s.look a
     → elements_of s.look a ≡ e
     → view_label s view out ≡ room_outcome (label_of e) out
 unfolding view_label
 view-printed s view out a e taken found p is =
-    afterwards-value Refused out _ taken ∙ kth-printed s.look s.views view out a e found p is
+    afterwards-value refusal out _ taken ∙ kth-printed s.look s.views view out a e found p is
 
-point-printed : (pack : List ℕ) (k : ℕ) (out : List ℕ) {n : ℕ} → opened pack ≡ Value n → 1 ≤ k → k ≤ n
+point-printed : (pack : List ℕ) (k : ℕ) (out : List ℕ) {n : ℕ} → opened pack ≡ Ok n → 1 ≤ k → k ≤ n
     → pack_label pack k out ≡ room_outcome (label_of (elements_at pack (point_place pack k))) out
 unfolding pack_label point_label
 point-printed pack k out {n} opens low high =
     let counted : k ≤ point_count pack = omega (arith, (opened-all pack n opens).counted) in
     let there : is_point pack k ≡ true = simp (le-leb 1 k low, le-leb k (point_count pack) counted) in
-    afterwards-value Refused out _ opens ∙ rw there
+    afterwards-value refusal out _ opens ∙ rw there
 
-row-printed : (csv : List ℕ) (row : ℕ) (out bytes : List ℕ) {n : ℕ} → csv_judged csv ≡ Value n
+row-printed : (csv : List ℕ) (row : ℕ) (out bytes : List ℕ) {n : ℕ} → csv_judged csv ≡ Ok n
     → kth_of (rows_of csv) row ≡ some bytes
     → forbidden_in (row_elements (fields_of bytes)) ≡ 0
     → csv_label csv row out ≡ room_outcome (label_of (row_elements (fields_of bytes))) out
 unfolding csv_label row_label row_resolved
 row-printed csv row out bytes taken found z =
-    afterwards-value Refused out _ taken
+    afterwards-value refusal out _ taken
     ∙ (ap (λ (o : Option (List ℕ)). label_or (resolved_of o) out) found
     ∙ ap
     (λ (t : Bool).
@@ -79,7 +80,7 @@ one-printer call e (a_view {lent} {view} a taken found p is) out =
 one-printer call e (a_view_in_code {lent} {code} {k} a taken clean found p is) out =
     let s = source_of lent in
     ap writing
-    (by-good-code Refused code out _ s taken clean
+    (by-good-code refusal code out _ s taken clean
     ∙ kth-printed s.look (in_code code s.live) k out a e found p is)
 one-printer call e (a_point {pack} {k} opens low high is) out =
     ap writing

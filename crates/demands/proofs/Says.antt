@@ -15,10 +15,6 @@ use Rattle.field_outward.specs.Outward.{outward_fault}
 use Rattle.refusal.specs.Refusal.{number, detail, second, malformed_at}
 use Rattle.refusal.specs.declared.Reason.{Reason}
 use Rattle.refusal.specs.declared.Reason.TheVariants.{Length, Header, Trailer, NotAbove, Follower, NoSuchNumber, Room, BadPack, BadCode}
-use Rattle.refusal.specs.declared.Answer.{Answer}
-use Rattle.refusal.specs.declared.Answer.TheVariants.{Value, Refused}
-use Rattle.refusal.specs.declared.Verdict.{Verdict}
-use Rattle.refusal.specs.declared.Verdict.TheVariants.{Fine, Bad}
 use Rattle.refusal.specs.Verdict.{or_else}
 use Rattle.refusal.specs.Outcome.{Outcome, after, afterwards}
 use Rattle.refusal.proofs.Answers.{refused-value, same-value}
@@ -36,8 +32,6 @@ use Rattle.label.specs.Label.{room_outcome}
 use Rattle.label.proofs.Room.{Fitting, fits, short, fitting}
 use Rattle.item.specs.Lines.{point_line}
 use Rattle.item.specs.Item.{Heading, resolved_text, item_outcome}
-use Rattle.run.specs.declared.Series.{Series}
-use Rattle.run.specs.declared.Series.TheVariants.{Unasked, Stopped, Done}
 use Rattle.run.specs.Series.{Asking, run_from}
 use Rattle.run.proofs.Count.{LabelSays, RunSays, run-says}
 use Rattle.ask.specs.Source.{Source, in_code}
@@ -55,6 +49,11 @@ use Rattle.demands.specs.Apart.{OfLabel, OfWhole, AnswerIs}
 use Rattle.demands.specs.Two.{Printing, no_number, forbidden_mix, key_missing, no_room, printed, label_at, PointAsked, pack_refused, Bounded, AllBounded, NoneSmall}
 use Rattle.demands.specs.Apt.{WholeBy, WholeSays, Judging, Numbered, AptViews, AptBy}
 use Rattle.demands.proofs.Two.{printing, point-asked, points-bounded}
+use Rattle.std.specs.Prelude.{Ok, Err}
+use Rattle.refusal.specs.Answer.{Answer, refusal}
+use Rattle.refusal.specs.Verdict.{Verdict, fine}
+use Rattle.run.specs.Series.{Series}
+use Rattle.run.specs.declared.Run.TheVariants.{Stopped, Done}
 
 -- ---- refusals
 
@@ -66,8 +65,8 @@ pub record StopOf (Kind : Reason → Type 0) (why : Reason) : Type 0 where
 
 -- a label or a row says one of these and blames no file, or its bytes; and then it is one of so many
 abbrev pub OneOf : (Kind : Reason → Type 0) → (limit k : ℕ) → Answer → Type 0
-OneOf Kind limit k (Value b) = (b ≤ 499) × ((1 ≤ k) × (k ≤ limit))
-OneOf Kind limit k (Refused file why) = (file ≡ 0) × StopOf Kind why
+OneOf Kind limit k (Ok b) = (b ≤ 499) × ((1 ≤ k) × (k ≤ limit))
+OneOf Kind limit k (Err r) = (r.file ≡ 0) × StopOf Kind r.reason
 
 abbrev pub StopSays : Reason → Type 0
 StopSays = StopOf OfLabel
@@ -77,9 +76,9 @@ OneLabel = OneOf OfLabel
 
 -- a run or a listing, whose stops are of a kind; what refuses the whole is of another
 abbrev pub SeriesOf : (Whole : ℕ → Reason → Type 0) → (Kind : Reason → Type 0) → (limit : ℕ) → Series → Type 0
-SeriesOf Whole Kind limit (Unasked file why) = Whole file why
-SeriesOf Whole Kind limit (Stopped labels bytes why) = (labels ≤ limit) × Kind why
-SeriesOf Whole Kind limit (Done labels bytes) = labels ≤ limit
+SeriesOf Whole Kind limit (Err r) = Whole r.file r.reason
+SeriesOf Whole Kind limit (Ok (Stopped labels bytes why)) = (labels ≤ limit) × Kind why
+SeriesOf Whole Kind limit (Ok (Done labels bytes)) = labels ≤ limit
 
 abbrev pub SeriesBy : (Whole Kind : Reason → Type 0) → (limit : ℕ) → Series → Type 0
 SeriesBy Whole = SeriesOf (WholeBy Whole)
@@ -101,8 +100,8 @@ pub record Refusals (f : Format) (file : List ℕ) (Kind : Reason → Type 0) : 
 -- so the one that it gives is
 module _ (Kind : ℕ → Reason → Type 0) (f : Format) (file : List ℕ) (refusals : Refusals f file (Kind f.file)) where
   abbrev BadIs : Verdict → Type 0
-  BadIs Fine = Unit {0}
-  BadIs (Bad why) = Kind f.file why
+  BadIs (Ok _) = Unit {0}
+  BadIs (Err why) = Kind f.file why
 
   judged-is : (i : ℕ) → i < f.limit → BadIs (judged f file i)
   unfolding judged
@@ -110,8 +109,8 @@ module _ (Kind : ℕ → Reason → Type 0) (f : Format) (file : List ℕ) (refu
     where
       by_tests : (t u v : Bool) → in_place f file i ≡ v
           → BadIs
-          (cond t (cond u (cond v Fine (Bad (Follower (i + 1)))) (Bad (NotAbove (i + 1))))
-          (Bad (malformed_at (i + 1) (f.fault (at f file i)))))
+          (cond t (cond u (cond v fine (Err (Follower (i + 1)))) (Err (NotAbove (i + 1))))
+          (Err (malformed_at (i + 1) (f.fault (at f file i)))))
       by_tests true true true e = tt
       by_tests true true false e = refusals.misplaced i h e
       by_tests true false v e = refusals.not-above i h
@@ -123,8 +122,8 @@ module _ (Kind : ℕ → Reason → Type 0) (f : Format) (file : List ℕ) (refu
     where
       by-record : (v : Verdict) → BadIs v → BadIs (scan (judged f file) k (suc i))
           → BadIs (or_else v (scan (judged f file) k (suc i)))
-      by-record Fine here rest = rest
-      by-record (Bad why) here rest = here
+      by-record (Ok _) here rest = rest
+      by-record (Err why) here rest = here
 
   pub checked-is : AnswerIs Kind (checked f file)
   unfolding checked verdict
@@ -136,9 +135,9 @@ module _ (Kind : ℕ → Reason → Type 0) (f : Format) (file : List ℕ) (refu
           → BadIs
           (cond t
           (cond u
-          (cond v (scan (judged f file) (records f file - 2) 1) (Bad (Trailer (records f file))))
-          (Bad Header))
-          (Bad Length))
+          (cond v (scan (judged f file) (records f file - 2) 1) (Err (Trailer (records f file))))
+          (Err Header))
+          (Err Length))
       by_tests true true true e =
           scan-is (records f file - 2) 1 (omega (arith, at-least-two f file e, within-limit f file e))
       by_tests true true false e = refusals.trailer (records f file) (within-limit f file e)
@@ -146,14 +145,14 @@ module _ (Kind : ℕ → Reason → Type 0) (f : Format) (file : List ℕ) (refu
       by_tests false u v e = refusals.short
 
       by-verdict : (v : Verdict) → BadIs v → AnswerIs Kind (answered f file v)
-      by-verdict Fine h = tt
-      by-verdict (Bad why) h = h
+      by-verdict (Ok _) h = tt
+      by-verdict (Err why) h = h
 
 -- files that are tried one after another
 pub then_is : (Kind : ℕ → Reason → Type 0) (first next : Answer) → AnswerIs Kind first → AnswerIs Kind next
     → AnswerIs Kind (after first next)
-then_is Kind (Value n) next h k = k
-then_is Kind (Refused file why) next h k = h
+then_is Kind (Ok n) next h k = k
+then_is Kind (Err r) next h k = h
 
 -- a file whose number, records and faults are small
 module _ (f : Format) (blamed : f.file < 16) (few : f.limit ≤ 1_000_000) (near : (rec : List ℕ) → f.fault rec ≤ 170)
@@ -205,8 +204,8 @@ opened-says pack = by_tests (trailer_good pack) (all_rows_good pack) (all_points
     by_tests : (t u v w : Bool)
         → Judging
         (cond t
-        (cond u (cond v (cond w (Value (point_count pack)) (Refused 0 (BadPack 4))) (Refused 0 (BadPack 3))) (Refused 0 (BadPack 2)))
-        (Refused 0 (BadPack 1)))
+        (cond u (cond v (cond w (Ok (point_count pack)) (refusal 0 (BadPack 4))) (refusal 0 (BadPack 3))) (refusal 0 (BadPack 2)))
+        (refusal 0 (BadPack 1)))
     by_tests true true true true = tt
     by_tests true true true false = step 4 (lit≤ tt)
     by_tests true true false w = step 3 (lit≤ tt)
@@ -236,11 +235,11 @@ module _ (look : Lookup) (views : List Address) (bounded : AllBounded look views
   printing-says (printed a e p h is) =
       rw is ((kth-all (λ a. Bounded (elements_of look a)) views k a bounded e).bytes, kth-within views k a e)
 
-module _ (pack : List ℕ) (n : ℕ) (taken : opened pack ≡ Value n) (k : ℕ) (out : List ℕ) where
+module _ (pack : List ℕ) (n : ℕ) (taken : opened pack ≡ Ok n) (k : ℕ) (out : List ℕ) where
   pub point-says : OneLabel n k (pack_label pack k out).answer
   point-says = by-case (point-asked pack k out)
     where
-      small : {m : ℕ} → opened pack ≡ Value m → 1 ≤ k → k ≤ m → length (label_at pack k) ≤ 499
+      small : {m : ℕ} → opened pack ≡ Ok m → 1 ≤ k → k ≤ m → length (label_at pack k) ≤ 499
       small {m} e low high = (points-bounded pack m k e low high).bytes
 
       by-case : PointAsked pack k out → OneLabel n k (pack_label pack k out).answer
@@ -255,8 +254,8 @@ module _ (pack : List ℕ) (n : ℕ) (taken : opened pack ≡ Value n) (k : ℕ)
 -- what is said of one label, without its bytes
 pub one_says : (Kind : Reason → Type 0) (limit k : ℕ) (r : Answer) → OneOf Kind limit k r
     → LabelSays (StopOf Kind) limit k r
-one_says Kind limit k (Value b) h = h.1
-one_says Kind limit k (Refused file why) h = h.1
+one_says Kind limit k (Ok b) h = h.1
+one_says Kind limit k (Err r) h = h.1
 
 -- ---- items
 
@@ -297,9 +296,9 @@ series-of Whole Kind a limit says first count out =
     by-series (run_from a first count out).answer (run-says Kind a limit says count first out)
   where
     by-series : (s : Series) → RunSays Kind (limit - (first - 1)) s → SeriesOf Whole Kind limit s
-    by-series (Unasked file why) h = absurd h
-    by-series (Stopped labels bytes why) h = (omega (arith, h.0), h.1)
-    by-series (Done labels bytes) h = omega arith
+    by-series (Err r) h = absurd h
+    by-series (Ok (Stopped labels bytes why)) h = (omega (arith, h.0), h.1)
+    by-series (Ok (Done labels bytes)) h = omega arith
 
 -- those in a code are no more
 pub code-few : (code : List ℕ) (views : List Address) → length (in_code code views) ≤ length views
@@ -313,9 +312,9 @@ code-few code (a ∷ more) = by-test (same a.outward code) (code-few code more)
 
 more-say : (Whole Kind : Reason → Type 0) (m limit : ℕ) (s : Series) → m ≤ limit → SeriesBy Whole Kind m s
     → SeriesBy Whole Kind limit s
-more-say Whole Kind m limit (Unasked file why) l h = h
-more-say Whole Kind m limit (Stopped labels bytes why) l h = (omega (arith, h.0), h.1)
-more-say Whole Kind m limit (Done labels bytes) l h = omega arith
+more-say Whole Kind m limit (Err r) l h = h
+more-say Whole Kind m limit (Ok (Stopped labels bytes why)) l h = (omega (arith, h.0), h.1)
+more-say Whole Kind m limit (Ok (Done labels bytes)) l h = omega arith
 
 -- of apt views those in a code are apt
 pub code-apt : (look : Lookup) (code : List ℕ) (views : List Address) → AptViews look views → AptViews look (in_code code views)
@@ -328,14 +327,14 @@ code-apt look code views h =
     }
 
 module _ (Whole : Reason → Type 0) (s : Source) (says : AptBy Whole s) where
-  pub source-refused : {file : ℕ} {why : Reason} → s.judged ≡ Refused file why → WholeBy Whole file why
+  pub source-refused : {file : ℕ} {why : Reason} → s.judged ≡ refusal file why → WholeBy Whole file why
   source-refused e = rw e at says.judges
 
-  module _ {n : ℕ} (taken : s.judged ≡ Value n) (k : ℕ) (out : List ℕ) where
+  module _ {n : ℕ} (taken : s.judged ≡ Ok n) (k : ℕ) (out : List ℕ) where
     pub view-says : OneLabel (length s.views) k (view_label s k out).answer
     unfolding view_label
     view-says =
-        rw (afterwards-value Refused out (kth_label s.look s.views k out) taken)
+        rw (afterwards-value refusal out (kth_label s.look s.views k out) taken)
         (printing-says s.look s.views (says.views taken).bounded k out _ (printing s.look s.views k out))
 
     module _ (code : List ℕ) (clean : outward_fault code ≡ 0) where
@@ -345,7 +344,7 @@ module _ (Whole : Reason → Type 0) (s : Source) (says : AptBy Whole s) where
       pub code-label-says : OneLabel (length views) k (code_label s code k out).answer
       unfolding code_label
       code-label-says =
-          rw (by-good-code Refused code out (kth_label s.look views k out) s taken clean)
+          rw (by-good-code refusal code out (kth_label s.look views k out) s taken clean)
           (printing-says s.look views (code-apt s.look code s.live (says.live taken)).bounded k out _
           (printing s.look views k out))
 
@@ -354,40 +353,40 @@ module _ (Whole : Reason → Type 0) (s : Source) (says : AptBy Whole s) where
     abbrev next : Outcome Series
     next = run_from ask first count out
 
-    pub files-first : ((n : ℕ) → s.judged ≡ Value n → (k : ℕ) (o : List ℕ) → LabelSays Kind (length s.views) k (ask k o).answer)
-        → SeriesBy Whole Kind 1_048_575 (afterwards Unasked s.judged out next).answer
+    pub files-first : ((n : ℕ) → s.judged ≡ Ok n → (k : ℕ) (o : List ℕ) → LabelSays Kind (length s.views) k (ask k o).answer)
+        → SeriesBy Whole Kind 1_048_575 (afterwards refusal s.judged out next).answer
     files-first each = by-judged s.judged refl
       where
-        by-judged : (j : Answer) → s.judged ≡ j → SeriesBy Whole Kind 1_048_575 (afterwards Unasked s.judged out next).answer
-        by-judged (Value n) e =
-            rw (afterwards-value Unasked out next e)
+        by-judged : (j : Answer) → s.judged ≡ j → SeriesBy Whole Kind 1_048_575 (afterwards refusal s.judged out next).answer
+        by-judged (Ok n) e =
+            rw (afterwards-value refusal out next e)
             (more-say Whole Kind (length s.views) 1_048_575 next.answer (says.views e).few
             (series-of (WholeBy Whole) Kind ask (length s.views) (each n e) first count out))
-        by-judged (Refused file why) e = rw (afterwards-refused Unasked out next e) (source-refused e)
+        by-judged (Err r) e = rw (afterwards-refused refusal out next e) (source-refused e)
 
     module _ (malformed : Whole BadCode) (code : List ℕ) where
       abbrev coded : List Address
       coded = in_code code s.live
 
-      code-next : ((n : ℕ) → s.judged ≡ Value n → outward_fault code ≡ 0 → (k : ℕ) (o : List ℕ)
+      code-next : ((n : ℕ) → s.judged ≡ Ok n → outward_fault code ≡ 0 → (k : ℕ) (o : List ℕ)
           → LabelSays Kind (length coded) k (ask k o).answer)
-          → SeriesBy Whole Kind 1_048_575 (by_code Unasked s code out next).answer
+          → SeriesBy Whole Kind 1_048_575 (by_code refusal s code out next).answer
       code-next each = by-judged s.judged refl
         where
-          by-code : (n : ℕ) → s.judged ≡ Value n → (t : Bool) → eqb (outward_fault code) 0 ≡ t
-              → SeriesBy Whole Kind 1_048_575 (by_code Unasked s code out next).answer
+          by-code : (n : ℕ) → s.judged ≡ Ok n → (t : Bool) → eqb (outward_fault code) 0 ≡ t
+              → SeriesBy Whole Kind 1_048_575 (by_code refusal s code out next).answer
           by-code n e true c =
               let clean = eqb-true (outward_fault code) 0 c in
-              rw (by-good-code Unasked code out next s e clean)
+              rw (by-good-code refusal code out next s e clean)
               (more-say Whole Kind (length coded) 1_048_575 next.answer
               (code-apt s.look code s.live (says.live e)).few
               (series-of (WholeBy Whole) Kind ask (length coded) (each n e clean) first count out))
           by-code n e false c =
-              rw (by-bad-code Unasked code out next s e (eqb-false (outward_fault code) 0 c)) (code-by Whole malformed)
+              rw (by-bad-code refusal code out next s e (eqb-false (outward_fault code) 0 c)) (code-by Whole malformed)
 
-          by-judged : (j : Answer) → s.judged ≡ j → SeriesBy Whole Kind 1_048_575 (by_code Unasked s code out next).answer
-          by-judged (Value n) e = by-code n e (eqb (outward_fault code) 0) refl
-          by-judged (Refused file why) e = rw (by-refused Unasked code out next s e) (source-refused e)
+          by-judged : (j : Answer) → s.judged ≡ j → SeriesBy Whole Kind 1_048_575 (by_code refusal s code out next).answer
+          by-judged (Ok n) e = by-code n e (eqb (outward_fault code) 0) refl
+          by-judged (Err r) e = rw (by-refused refusal code out next s e) (source-refused e)
 
   module _ (first count : ℕ) (out : List ℕ) where
     pub views-say : SeriesBy Whole StopSays 1_048_575 (views_run s first count out).answer
@@ -410,45 +409,45 @@ module _ (Kind : Reason → Type 0) (none_left : Kind NoSuchNumber) (Whole : Rea
       (k : ℕ) (a : Address) → kth views k ≡ some a
       → Kind (Room (length (headings s.heading views k ++ resolved_text (resolve s.look a))))
 
-  pub list-says : ((n : ℕ) → s.judged ≡ Value n → Roomy s.views) → (first count : ℕ) (out : List ℕ)
+  pub list-says : ((n : ℕ) → s.judged ≡ Ok n → Roomy s.views) → (first count : ℕ) (out : List ℕ)
       → SeriesBy Whole Kind 1_048_575 (views_list s first count out).answer
   unfolding views_list views_listed view_item
   list-says room first count out =
       let heading = headings s.heading s.views in
       files-first Whole s says Kind (view_item heading s) first count out
       (λ n e k o.
-      rw (afterwards-value Refused o (kth_item heading s.look s.views k o) e)
+      rw (afterwards-value refusal o (kth_item heading s.look s.views k o) e)
       (kth-item-says Kind none_left heading s.look s.views (room n e) k o))
 
   module _ (malformed : Whole BadCode) (code : List ℕ) where
     abbrev listed : List Address
     listed = in_code code s.live
 
-    pub code-list-says : ((n : ℕ) → s.judged ≡ Value n → Roomy listed) → (first count : ℕ) (out : List ℕ)
+    pub code-list-says : ((n : ℕ) → s.judged ≡ Ok n → Roomy listed) → (first count : ℕ) (out : List ℕ)
         → SeriesBy Whole Kind 1_048_575 (code_list s code first count out).answer
     unfolding code_list code_listed code_item
     code-list-says room first count out =
         let heading = headings s.heading listed in
         code-next Whole s says Kind (code_item heading s code) first count out malformed code
         (λ n e clean k o.
-        rw (by-good-code Refused code o (kth_item heading s.look listed k o) s e clean)
+        rw (by-good-code refusal code o (kth_item heading s.look listed k o) s e clean)
         (kth-item-says Kind none_left heading s.look listed (room n e) k o))
 
 -- ---- of a pack
 
 module _ (Kind : Reason → Type 0) (ask : Asking) (pack : List ℕ)
-    (each : (n : ℕ) → opened pack ≡ Value n → (k : ℕ) (o : List ℕ) → LabelSays Kind (point_count pack) k (ask k o).answer)
+    (each : (n : ℕ) → opened pack ≡ Ok n → (k : ℕ) (o : List ℕ) → LabelSays Kind (point_count pack) k (ask k o).answer)
     (first count : ℕ) (out : List ℕ) where
-  pack-next : SeriesSays Kind (point_count pack) (afterwards Unasked (opened pack) out (run_from ask first count out)).answer
+  pack-next : SeriesSays Kind (point_count pack) (afterwards refusal (opened pack) out (run_from ask first count out)).answer
   pack-next = by-opened (opened pack) refl
     where
       by-opened : (r : Answer) → opened pack ≡ r
-          → SeriesSays Kind (point_count pack) (afterwards Unasked (opened pack) out (run_from ask first count out)).answer
-      by-opened (Value n) e =
-          rw (afterwards-value Unasked out (run_from ask first count out) e)
+          → SeriesSays Kind (point_count pack) (afterwards refusal (opened pack) out (run_from ask first count out)).answer
+      by-opened (Ok n) e =
+          rw (afterwards-value refusal out (run_from ask first count out) e)
           (series-of WholeSays Kind ask (point_count pack) (each n e) first count out)
-      by-opened (Refused file why) e =
-          rw (afterwards-refused Unasked out (run_from ask first count out) e) (rw e at (opened-says pack))
+      by-opened (Err r) e =
+          rw (afterwards-refused refusal out (run_from ask first count out) e) (rw e at (opened-says pack))
 
 pub packs-say : (pack : List ℕ) (first count : ℕ) (out : List ℕ)
     → SeriesSays StopSays (point_count pack) (pack_run pack first count out).answer
@@ -463,13 +462,13 @@ point-there pack k e =
     (leb-true 1 k (and_left (leb 1 k) (leb k (point_count pack)) e), leb-true k (point_count pack) (and_right (leb 1 k) (leb k (point_count pack)) e))
 
 module _ (Kind : Reason → Type 0) (none_left : Kind NoSuchNumber) (pack : List ℕ)
-    (room : (n : ℕ) → opened pack ≡ Value n → (k : ℕ) → 1 ≤ k → k ≤ point_count pack
+    (room : (n : ℕ) → opened pack ≡ Ok n → (k : ℕ) → 1 ≤ k → k ≤ point_count pack
     → Kind (Room (length (point_line k ++ label_at pack k)))) where
-  point-item-says : (n : ℕ) → opened pack ≡ Value n → (k : ℕ) (out : List ℕ)
+  point-item-says : (n : ℕ) → opened pack ≡ Ok n → (k : ℕ) (out : List ℕ)
       → LabelSays Kind (point_count pack) k (pack_item point_line pack k out).answer
   unfolding pack_item point_item
   point-item-says n e k out =
-      rw (afterwards-value Refused out (point_item point_line pack k out) e) (by-test (is_point pack k) refl)
+      rw (afterwards-value refusal out (point_item point_line pack k out) e) (by-test (is_point pack k) refl)
     where
       by-test : (t : Bool) → is_point pack k ≡ t
           → LabelSays Kind (point_count pack) k

@@ -1,13 +1,13 @@
 -- Demand 2 for sectors: what asking a pack for one comes to, case by case; and that the ten counts together are its points.
 -- Assumes nothing.
-use Prim.Native.Nat.{ℕ, zero, suc, ◌+◌, ◌≤◌, ◌<◌}
+use Prim.Native.Nat.{ℕ, zero, suc, ◌+◌, ◌≤◌}
 use mathlib.Core.Path.{◌≡◌, refl, sym, ap, ◌∙◌}
-use mathlib.Core.Bool.{Bool, true, false, cond, true≢false}
+use mathlib.Core.Bool.{Bool, true, false, cond}
 use mathlib.Core.List.{List}
 use native.Mathlib.Omega.{arith}
-use borrow.Author.Tests.{eqb-true, eq-eqb, le-leb, leb-true, leb-false}
-use lib.Dec.{eqb, leb}
-use lib.ListN.{length, get_or}
+use borrow.Author.Tests.{eqb-true, eq-eqb, leb-true, leb-false}
+use lib.Dec.{leb}
+use lib.ListN.{get_or}
 use Rattle.field.specs.Digits.{digit}
 use Rattle.field.specs.Text.{part}
 use Rattle.field.proofs.Tests.{and_left, and_right}
@@ -17,10 +17,8 @@ use Rattle.field_outward.proofs.Long.{inward-long}
 use Rattle.field_outward.proofs.Codes.{inward-bytes}
 use Rattle.refusal.specs.Outcome.{after}
 use Rattle.refusal.specs.declared.Reason.TheVariants.{BadDigit}
-use Rattle.refusal.specs.declared.Answer.{Answer}
-use Rattle.refusal.specs.declared.Answer.TheVariants.{Value, Refused}
 use Rattle.pack.specs.Names.{inward_at, postcode_width, point_width}
-use Rattle.pack.specs.Sectors.{in_sector, sector_counts, total}
+use Rattle.pack.specs.Sectors.{in_sector}
 use Rattle.pack.specs.Opening.{edition, outward, points_start, point_count, offset_kinds, rest_of, given, postcode_good, offsets_good, parts_good, points_good, all_points_good, digits_from, point_digits, opened}
 use Rattle.pack.specs.Points.{sector_answer, pack_sector}
 use Rattle.pack.proofs.Sectors.{AllDigits, how-many-few, digits_long, counts-together}
@@ -28,6 +26,8 @@ use Rattle.pack_carries.proofs.Point.{part-first}
 use Rattle.pack_counts.proofs.Laws.{read-is-counted}
 use Rattle.pack_open.proofs.Opened.{opened-all}
 use Rattle.demands.specs.Two.{SectorAsked, pack_refused, no_digit, counted, SectorsTogether}
+use Rattle.std.specs.Prelude.{Ok, Err}
+use Rattle.refusal.specs.Answer.{Answer, refusal}
 
 -- no sector has more points than there are
 pub sector-few : (pack : List ℕ) (d : ℕ) → in_sector d (point_digits pack) ≤ point_count pack
@@ -42,22 +42,22 @@ pub sector-asked : (pack : List ℕ) (d : ℕ) → SectorAsked pack d
 unfolding pack_sector sector_answer
 sector-asked pack d = by-opened (opened pack) refl
   where
-    asked : {n : ℕ} → opened pack ≡ Value n → pack_sector pack d ≡ sector_answer (point_digits pack) d
+    asked : {n : ℕ} → opened pack ≡ Ok n → pack_sector pack d ≡ sector_answer (point_digits pack) d
     asked e = ap (λ a. after a (sector_answer (point_digits pack) d)) e
 
-    by-digit : {n : ℕ} → opened pack ≡ Value n → (t : Bool) → leb d 9 ≡ t → SectorAsked pack d
+    by-digit : {n : ℕ} → opened pack ≡ Ok n → (t : Bool) → leb d 9 ≡ t → SectorAsked pack d
     by-digit {n} e true h =
         let low = leb-true d 9 h in
         counted e low
         (λ third. read-is-counted pack (opened-all pack n e).counts (eq-eqb (edition pack) 3 third) d (omega arith))
-        (asked e ∙ ap (λ t. cond t (Value (in_sector d (point_digits pack))) (Refused 0 BadDigit)) h)
+        (asked e ∙ ap (λ t. cond t (Ok (in_sector d (point_digits pack))) (refusal 0 BadDigit)) h)
     by-digit e false h =
         no_digit e (leb-false d 9 h)
-        (asked e ∙ ap (λ t. cond t (Value (in_sector d (point_digits pack))) (Refused 0 BadDigit)) h)
+        (asked e ∙ ap (λ t. cond t (Ok (in_sector d (point_digits pack))) (refusal 0 BadDigit)) h)
 
     by-opened : (o : Answer) → opened pack ≡ o → SectorAsked pack d
-    by-opened (Value n) e = by-digit e (leb d 9) refl
-    by-opened (Refused file why) e = pack_refused e (ap (λ a. after a (sector_answer (point_digits pack) d)) e)
+    by-opened (Ok n) e = by-digit e (leb d 9) refl
+    by-opened (Err r) e = pack_refused e (ap (λ a. after a (sector_answer (point_digits pack) d)) e)
 
 -- ---- together
 

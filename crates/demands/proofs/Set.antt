@@ -11,8 +11,6 @@ use lib.Dec.{lit≤}
 use lib.ListN.{length}
 use Rattle.field_outward.specs.Outward.{outward_fault}
 use Rattle.refusal.specs.declared.Reason.{Reason}
-use Rattle.refusal.specs.declared.Answer.{Answer}
-use Rattle.refusal.specs.declared.Answer.TheVariants.{Value, Refused}
 use Rattle.file_record.specs.Parts.{record_at}
 use Rattle.source.specs.Address.{Address}
 use Rattle.file.specs.Check.{checked}
@@ -47,6 +45,8 @@ use Rattle.demands.specs.Three.{Packable, packed}
 use Rattle.demands.specs.Apart.{OfSet, AnswerIs}
 use Rattle.demands.proofs.Two.{view-exactly, code-exactly, exactly-where}
 use Rattle.demands.proofs.Says.{then_is, checked-is}
+use Rattle.std.specs.Prelude.{Ok, Err}
+use Rattle.refusal.specs.Answer.{Answer}
 
 -- what holds of the refusals of each of the seven files holds of those of the set
 module _ (Kind : ℕ → Reason → Type 0) (s : Set) where
@@ -109,8 +109,8 @@ module _ (s : Set) where
   taken-all t = by-judged (set_judged s) refl t
     where
       by-judged : (j : Answer) → set_judged s ≡ j → IsValue j → AcceptedSet s
-      by-judged (Value n) e t = set-accepted s e
-      by-judged (Refused file why) e t = absurd t
+      by-judged (Ok n) e t = set-accepted s e
+      by-judged (Err r) e t = absurd t
 
   all-taken : AcceptedSet s → Taken (main_of s)
   all-taken a = rw (set-accepts s a) tt
@@ -138,13 +138,13 @@ module _ (s : Set) where
       let number : a.view ≡ k = omega (arith, numbered-on (length s.addresses / 88 - 2) 1 k a e) in ap number_line number
 
   -- it has as many views as its call says
-  pub views-counted : {n : ℕ} → set_judged s ≡ Value n → views_answer s ≡ Value (length (main_of s).views)
-  views-counted taken = rw taken (ap Value (sym (set-length s)))
+  pub views-counted : {n : ℕ} → set_judged s ≡ Ok n → views_answer s ≡ Ok (length (main_of s).views)
+  views-counted taken = rw taken (ap Ok (sym (set-length s)))
 
   -- of an accepted address file, whatever the other six are: a pack has as many points as the live ones of the code are said
   -- to be
   pub main-live-counted : (code : List ℕ) → Accepted Format.addresses s.addresses → outward_fault code ≡ 0
-      → live_answer s.addresses code ≡ Value (length (packed (main_of s) code))
+      → live_answer s.addresses code ≡ Ok (length (packed (main_of s) code))
   unfolding live_answer live_at
   main-live-counted code a clean =
-      rw (accepts Format.addresses s.addresses a, eq-eqb (outward_fault code) 0 clean) (ap Value (sym (in-code-many s code a)))
+      rw (accepts Format.addresses s.addresses a, eq-eqb (outward_fault code) 0 clean) (ap Ok (sym (in-code-many s code a)))

@@ -15,8 +15,6 @@ use Rattle.field.proofs.Tests.{and_left, and_right}
 use Rattle.field_outward.specs.Inward.{suffix_fault}
 use Rattle.field_outward.proofs.Long.{suffix-long}
 use Rattle.refusal.specs.Outcome.{after}
-use Rattle.refusal.specs.declared.Answer.{Answer}
-use Rattle.refusal.specs.declared.Answer.TheVariants.{Value, Refused}
 use Rattle.pack.specs.Names.{known, has_suffix, trailer_width}
 use Rattle.pack.specs.Opening.{edition, trailer_good, offset_kinds, rest_of, given, postcode_good, suffix_good, offsets_good, parts_good, opened}
 use Rattle.pack.specs.Points.{point_place, is_point, suffix_number, point_suffix, pack_suffix}
@@ -25,6 +23,8 @@ use Rattle.pack_open.proofs.Opened.{opened-all}
 use Rattle.pack_open.proofs.Fits.{point-good}
 use Rattle.demands.specs.Two.{suffix_at, SuffixAsked, pack_refused, no_number, no_suffix, told}
 use Rattle.demands.proofs.Two.{There, a_point, no-point, point-there}
+use Rattle.std.specs.Prelude.{Ok, Err}
+use Rattle.refusal.specs.Answer.{Answer}
 
 -- a well_formed suffix is a small number
 pub suffix-small : (s : List ℕ) → suffix_fault s ≡ 0 → suffix_number s < 65_536
@@ -42,7 +42,7 @@ suffix-small (a ∷ b ∷ c ∷ s) e = absurd (omega (arith, suffix-long (a ∷ 
 
 module _ (pack : List ℕ) (k : ℕ) where
   -- a pack that opens and has no suffix is of edition 1
-  of-first : {n : ℕ} → opened pack ≡ Value n → has_suffix (edition pack) ≡ false → edition pack ≡ 1
+  of-first : {n : ℕ} → opened pack ≡ Ok n → has_suffix (edition pack) ≡ false → edition pack ≡ 1
   unfolding trailer_good
   of-first {n} e none =
       let trailer = (opened-all pack n e).trailer in
@@ -62,7 +62,7 @@ module _ (pack : List ℕ) (k : ℕ) where
       by-test false e h = inr (eqb-true (edition pack) 3 h)
 
   -- its points are looked at
-  well_formed : {n : ℕ} → opened pack ≡ Value n → 1 ≤ k → k ≤ n → has_suffix (edition pack) ≡ true
+  well_formed : {n : ℕ} → opened pack ≡ Ok n → 1 ≤ k → k ≤ n → has_suffix (edition pack) ≡ true
       → suffix_fault (suffix_at pack k) ≡ 0
   unfolding parts_good suffix_good
   well_formed {n} e low high some =
@@ -81,7 +81,7 @@ module _ (pack : List ℕ) (k : ℕ) where
   unfolding pack_suffix
   suffix-asked = by-opened (opened pack) refl
     where
-      by-edition : {n : ℕ} → opened pack ≡ Value n → 1 ≤ k → k ≤ n → is_point pack k ≡ true
+      by-edition : {n : ℕ} → opened pack ≡ Ok n → 1 ≤ k → k ≤ n → is_point pack k ≡ true
           → (t : Bool) → has_suffix (edition pack) ≡ t
           → SuffixAsked pack k
       by-edition e low high p true s =
@@ -90,10 +90,10 @@ module _ (pack : List ℕ) (k : ℕ) where
       by-edition e low high p false s =
           no_suffix e low high (of-first e s) (ap (λ a. after a (point_suffix pack k)) e ∙ Law.no_suffix pack k p s)
 
-      by-point : {n : ℕ} → opened pack ≡ Value n → There pack n k → SuffixAsked pack k
+      by-point : {n : ℕ} → opened pack ≡ Ok n → There pack n k → SuffixAsked pack k
       by-point e (a_point low high t) = by-edition e low high t (has_suffix (edition pack)) refl
       by-point e (no-point h t) = no_number e h (ap (λ a. after a (point_suffix pack k)) e ∙ Law.no-point pack k t)
 
       by-opened : (o : Answer) → opened pack ≡ o → SuffixAsked pack k
-      by-opened (Value n) e = by-point e (point-there pack k e)
-      by-opened (Refused file why) e = pack_refused e (ap (λ a. after a (point_suffix pack k)) e)
+      by-opened (Ok n) e = by-point e (point-there pack k e)
+      by-opened (Err r) e = pack_refused e (ap (λ a. after a (point_suffix pack k)) e)

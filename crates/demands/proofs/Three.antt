@@ -11,10 +11,6 @@ use lib.Seq.{take-append_seam}
 use Rattle.field_outward.specs.Outward.{outward_fault}
 use Rattle.refusal.specs.declared.Reason.{Reason}
 use Rattle.refusal.specs.declared.Reason.TheVariants.{BadCode}
-use Rattle.refusal.specs.declared.Answer.{Answer}
-use Rattle.refusal.specs.declared.Answer.TheVariants.{Value, Refused}
-use Rattle.refusal.specs.declared.Verdict.{Verdict}
-use Rattle.refusal.specs.declared.Verdict.TheVariants.{Fine, Bad}
 use Rattle.refusal.specs.Outcome.{said}
 use Rattle.refusal.proofs.Answers.{refused-value, same-value}
 use Rattle.refusal.proofs.Outcomes.{answer-of, memory-of, afterwards-value}
@@ -22,7 +18,6 @@ use Rattle.source.specs.Address.{Lookup, Address}
 use Rattle.source.specs.Resolve.{forbidden, missing, elements_of, elements, resolve}
 use Rattle.source.proofs.Cases.{Resolving, mixed, lacking, fine, resolving}
 use Rattle.label.proofs.Room.{Fitting, fits, short, fitting}
-use Rattle.run.specs.declared.Series.TheVariants.{Unasked}
 use Rattle.run.proofs.Same.{same-run}
 use Rattle.item.specs.Item.{Heading}
 use Rattle.ask.specs.Source.{Source}
@@ -43,13 +38,16 @@ use Rattle.pack_carries.proofs.Labels.{pack-labels, pack-items, pack-suffixes, p
 use Rattle.pack_carries.proofs.Exactly.{rows-exactly}
 use Rattle.demands.specs.Two.{Printed}
 use Rattle.demands.specs.Three.{Packable, AllPrinted, FirstRefused, here, later, packed, whole, Building, files_refused, code_refused, view_refused, too_short, built, Carries}
+use Rattle.std.specs.Prelude.{Ok, Err}
+use Rattle.refusal.specs.Answer.{Answer, refusal}
+use Rattle.refusal.specs.Verdict.{Verdict, fine as unrefused}
 
 -- ---- which view is refused
 
 -- the first refusal, or none
 data First (look : Lookup) (views : List Address) : Type 0 where
-  none_refused : AllPrinted look views → first_bad look views ≡ Fine → First look views
-  one-refused : (why : Reason) → FirstRefused look views why → first_bad look views ≡ Bad why → First look views
+  none_refused : AllPrinted look views → first_bad look views ≡ unrefused → First look views
+  one-refused : (why : Reason) → FirstRefused look views why → first_bad look views ≡ Err why → First look views
 
 first : (look : Lookup) (views : List Address) → First look views
 first look [] = none_refused tt refl
@@ -68,56 +66,56 @@ module _ (s : Source) (code out : List ℕ) where
   unfolding pack_built cut_outcome
   building = by-judged s.judged refl
     where
-      cut : {n : ℕ} → s.judged ≡ Value n → outward_fault code ≡ 0 → (v : Verdict)
+      cut : {n : ℕ} → s.judged ≡ Ok n → outward_fault code ≡ 0 → (v : Verdict)
           → first_bad s.look (packed s code) ≡ v
           → pack_built s code out ≡ cut_with v (whole s code) out
       cut taken clean v e =
-          by-good-code Refused code out _ s taken clean ∙ ap (λ (v : Verdict). cut_with v (whole s code) out) e
+          by-good-code refusal code out _ s taken clean ∙ ap (λ (v : Verdict). cut_with v (whole s code) out) e
 
-      by-room : {n : ℕ} → s.judged ≡ Value n → outward_fault code ≡ 0 → AllPrinted s.look (packed s code)
-          → first_bad s.look (packed s code) ≡ Fine
+      by-room : {n : ℕ} → s.judged ≡ Ok n → outward_fault code ≡ 0 → AllPrinted s.look (packed s code)
+          → first_bad s.look (packed s code) ≡ unrefused
           → Fitting (whole s code) out
           → Building s code out
-      by-room taken clean ps e (fits h is) = built taken clean ps h (cut taken clean Fine e ∙ is)
-      by-room taken clean ps e (short h is) = too_short taken clean ps h (cut taken clean Fine e ∙ is)
+      by-room taken clean ps e (fits h is) = built taken clean ps h (cut taken clean unrefused e ∙ is)
+      by-room taken clean ps e (short h is) = too_short taken clean ps h (cut taken clean unrefused e ∙ is)
 
-      by-view : {n : ℕ} → s.judged ≡ Value n → outward_fault code ≡ 0 → First s.look (packed s code)
+      by-view : {n : ℕ} → s.judged ≡ Ok n → outward_fault code ≡ 0 → First s.look (packed s code)
           → Building s code out
       by-view taken clean (none_refused ps e) = by-room taken clean ps e (fitting (whole s code) out)
-      by-view taken clean (one-refused why r e) = view_refused taken clean r (cut taken clean (Bad why) e)
+      by-view taken clean (one-refused why r e) = view_refused taken clean r (cut taken clean (Err why) e)
 
-      by_code : {n : ℕ} → s.judged ≡ Value n → (t : Bool) → eqb (outward_fault code) 0 ≡ t → Building s code out
+      by_code : {n : ℕ} → s.judged ≡ Ok n → (t : Bool) → eqb (outward_fault code) 0 ≡ t → Building s code out
       by_code taken true e =
           by-view taken (eqb-true (outward_fault code) 0 e) (first s.look (packed s code))
       by_code taken false e =
           let fault = eqb-false (outward_fault code) 0 e in
           code_refused taken fault (bad-is taken fault)
         where
-          bad-is : {n : ℕ} → s.judged ≡ Value n → (outward_fault code ≡ 0 → ⊥)
-              → pack_built s code out ≡ said (Refused 0 BadCode) out
-          bad-is taken fault = by-bad-code Refused code out _ s taken fault
+          bad-is : {n : ℕ} → s.judged ≡ Ok n → (outward_fault code ≡ 0 → ⊥)
+              → pack_built s code out ≡ said (refusal 0 BadCode) out
+          bad-is taken fault = by-bad-code refusal code out _ s taken fault
 
       by-judged : (j : Answer) → s.judged ≡ j → Building s code out
-      by-judged (Value n) e = by_code e (eqb (outward_fault code) 0) refl
-      by-judged (Refused file why) e = files_refused e (refused-is e)
+      by-judged (Ok n) e = by_code e (eqb (outward_fault code) 0) refl
+      by-judged (Err r) e = files_refused e (refused-is e)
         where
-          refused-is : s.judged ≡ Refused file why → pack_built s code out ≡ said (Refused file why) out
-          refused-is e = by-refused Refused code out _ s e
+          refused-is : s.judged ≡ refusal r.file r.reason → pack_built s code out ≡ said (refusal r.file r.reason) out
+          refused-is e = by-refused refusal code out _ s e
 
   -- what is built is the pack, in front of the buffer
   pub record Built (n : ℕ) : Type 0 where
     pub count : ℕ
-    pub taken : s.judged ≡ Value count
+    pub taken : s.judged ≡ Ok count
     pub clean : outward_fault code ≡ 0
     pub printed : AllPrinted s.look (packed s code)
     pub long : n ≡ length (whole s code)
     pub room : length (whole s code) ≤ length out
     pub front : take n (pack_built s code out).memory ≡ whole s code
 
-  pub built-then : (n : ℕ) → (pack_built s code out).answer ≡ Value n → Built n
+  pub built-then : (n : ℕ) → (pack_built s code out).answer ≡ Ok n → Built n
   built-then n e = by-case building
     where
-      no : (file : ℕ) (why : Reason) → pack_built s code out ≡ said (Refused file why) out → Built n
+      no : (file : ℕ) (why : Reason) → pack_built s code out ≡ said (refusal file why) out → Built n
       no file why is = absurd (refused-value file n why (sym (answer-of is) ∙ e))
 
       by-case : Building s code out → Built n
@@ -146,40 +144,40 @@ pub printed-resolves : (look : Lookup) (a : Address) → Printed look a → reso
 unfolding resolve
 printed-resolves look a p = rw (eq-eqb (forbidden a) 0 p.0, eq-eqb (missing look a) 0 p.1)
 
-pub all-fine : (look : Lookup) (views : List Address) → AllPrinted look views → first_bad look views ≡ Fine
+pub all-fine : (look : Lookup) (views : List Address) → AllPrinted look views → first_bad look views ≡ unrefused
 all-fine look [] p = refl
 all-fine look (a ∷ more) p = rw (printed-resolves look a p.0, all-fine look more p.1)
 
-module _ (s : Source) (p : Packable s) (code : List ℕ) {n : ℕ} (taken : s.judged ≡ Value n)
+module _ (s : Source) (p : Packable s) (code : List ℕ) {n : ℕ} (taken : s.judged ≡ Ok n)
     (clean : outward_fault code ≡ 0) (printed : AllPrinted s.look (packed s code)) where
   sound : Sound s.look (packed s code) code
   sound = p.sound taken code clean (all-fine s.look (packed s code) printed)
 
-  opens : opened (whole s code) ≡ Value (length (packed s code))
+  opens : opened (whole s code) ≡ Ok (length (packed s code))
   opens = pack-opens s.look (packed s code) code sound
 
   labels : (k : ℕ) (out : List ℕ) → pack_label (whole s code) k out ≡ code_label s code k out
   unfolding code_label
   labels k out =
-      pack-labels s.look (packed s code) code sound k out ∙ sym (by-good-code Refused code out _ s taken clean)
+      pack-labels s.look (packed s code) code sound k out ∙ sym (by-good-code refusal code out _ s taken clean)
 
   runs : (first count : ℕ) (out : List ℕ) → pack_run (whole s code) first count out ≡ code_run s code first count out
   unfolding pack_run code_run
   runs first count out =
-      afterwards-value Unasked out _ opens
-      ∙ (same-run _ _ labels count first out ∙ sym (by-good-code Unasked code out _ s taken clean))
+      afterwards-value refusal out _ opens
+      ∙ (same-run _ _ labels count first out ∙ sym (by-good-code refusal code out _ s taken clean))
 
   items : (heading : Heading) (k : ℕ) (out : List ℕ) → pack_item heading (whole s code) k out ≡ code_item heading s code k out
   unfolding code_item
   items heading k out =
-      pack-items s.look (packed s code) code sound heading k out ∙ sym (by-good-code Refused code out _ s taken clean)
+      pack-items s.look (packed s code) code sound heading k out ∙ sym (by-good-code refusal code out _ s taken clean)
 
   lists : (heading : Heading) (first count : ℕ) (out : List ℕ)
       → pack_listed heading (whole s code) first count out ≡ code_listed heading s code first count out
   unfolding pack_listed code_listed
   lists heading first count out =
-      afterwards-value Unasked out _ opens
-      ∙ (same-run _ _ (items heading) count first out ∙ sym (by-good-code Unasked code out _ s taken clean))
+      afterwards-value refusal out _ opens
+      ∙ (same-run _ _ (items heading) count first out ∙ sym (by-good-code refusal code out _ s taken clean))
 
   pub whole_carries : Carries s code (whole s code)
   whole_carries =
@@ -201,7 +199,7 @@ module _ (s : Source) (p : Packable s) (code : List ℕ) {n : ℕ} (taken : s.ju
       }
 
 -- what building leaves in front of the buffer carries what the source says
-pub carries : (s : Source) → Packable s → (code out : List ℕ) (n : ℕ) → (pack_built s code out).answer ≡ Value n
+pub carries : (s : Source) → Packable s → (code out : List ℕ) (n : ℕ) → (pack_built s code out).answer ≡ Ok n
     → Carries s code (take n (pack_built s code out).memory)
 carries s p code out n e =
     let b = built-then s code out n e in

@@ -10,12 +10,8 @@ use lib.Dec.{lit<}
 use Rattle.refusal.specs.Refusal.{number, detail, second}
 use Rattle.refusal.specs.Packed.{FitsRefusal}
 use Rattle.refusal.specs.declared.Reason.{Reason}
-use Rattle.refusal.specs.declared.Answer.{Answer}
-use Rattle.refusal.specs.declared.Answer.TheVariants.{Value, Refused}
 use Rattle.refusal.proofs.Answers.{refused-value, same-value}
 use Rattle.refusal.proofs.Lossless.{FitsWord, word-plain, word-parts, refusal-word, number-above-0, number-to-28, same-reason, loses-nothing}
-use Rattle.run.specs.declared.Series.{Series}
-use Rattle.run.specs.declared.Series.TheVariants.{Unasked, Stopped, Done}
 use Rattle.run.specs.Packed.{packed_series, series_bytes}
 use Rattle.call.specs.Call.{Call, Saying, one, run, outcome_of}
 use Rattle.demands.specs.Apart.{OfLabel, OfWhole, OfBook, OfItem, SeriesApart, BookApart}
@@ -23,9 +19,13 @@ use Rattle.demands.specs.Fits.{FitsSeries, told_series, as_told, Exception, Type
 use Rattle.demands.specs.Csv.{OfRow, OfCsvLabel, OfCsv, RunApart, ForCsv, rows_written, rows_printed, rows_listed, Alike}
 use Rattle.demands.proofs.Apart.{book-apart, csv-apart}
 use Rattle.demands.proofs.Fits.{tells}
+use Rattle.std.specs.Prelude.{Ok, Err}
+use Rattle.refusal.specs.Answer.{Answer, refusal}
+use Rattle.run.specs.Series.{Series}
+use Rattle.run.specs.declared.Run.TheVariants.{Stopped, Done}
 
 -- what is told of a stop fits a word
-stop-word : (labels bytes : ℕ) (why : Reason) → FitsSeries (Stopped labels bytes why)
+stop-word : (labels bytes : ℕ) (why : Reason) → FitsSeries (Ok (Stopped labels bytes why))
     → FitsWord (number why) 0 labels (detail why)
 stop-word labels bytes why fits =
     record {
@@ -73,10 +73,10 @@ item-disjoint why other item whole same =
     item
 
 module _ (Whole Stop : Reason → Type 0) (disjoint : Disjoint Whole Stop) where
-  stop-unasked : (labels bytes file : ℕ) (why other : Reason) → FitsSeries (Stopped labels bytes why) → FitsRefusal file other
+  stop-unasked : (labels bytes file : ℕ) (why other : Reason) → FitsSeries (Ok (Stopped labels bytes why)) → FitsRefusal file other
       → Stop why
       → Whole other
-      → packed_series (Stopped labels bytes why) ≡ packed_series (Unasked file other)
+      → packed_series (Ok (Stopped labels bytes why)) ≡ packed_series (refusal file other)
       → ⊥
   stop-unasked labels bytes file why other p q label whole e =
       let same =
@@ -84,9 +84,9 @@ module _ (Whole Stop : Reason → Type 0) (disjoint : Disjoint Whole Stop) where
       (stop-word labels bytes why p) (refusal-word file other q) e in
       disjoint why other label whole same.number_same
 
-stop-done : (labels bytes done others : ℕ) (why : Reason) → FitsSeries (Stopped labels bytes why)
-    → FitsSeries (Done done others)
-    → packed_series (Stopped labels bytes why) ≡ packed_series (Done done others)
+stop-done : (labels bytes done others : ℕ) (why : Reason) → FitsSeries (Ok (Stopped labels bytes why))
+    → FitsSeries (Ok (Done done others))
+    → packed_series (Ok (Stopped labels bytes why)) ≡ packed_series (Ok (Done done others))
     → ⊥
 stop-done labels bytes done others why p q e =
     omega (
@@ -97,8 +97,8 @@ stop-done labels bytes done others why p q e =
 
 -- an answer as a run that is not asked
 abbrev unasked : Answer → Series
-unasked (Value n) = Done n 0
-unasked (Refused file why) = Unasked file why
+unasked (Ok n) = Ok (Done n 0)
+unasked (Err r) = refusal r.file r.reason
 
 -- two runs that fit, told by number and bytes
 module _ (Whole Stop : Reason → Type 0) (disjoint : Disjoint Whole Stop) where
@@ -106,13 +106,13 @@ module _ (Whole Stop : Reason → Type 0) (disjoint : Disjoint Whole Stop) where
       → SeriesApart Whole Stop t
       → SameTold before (run s) (run t)
       → s ≡ t
-  series-told before (Unasked f w) (Unasked g v) p q a b e =
-      ap unasked (loses-nothing (Refused f w) (Refused g v) p q e.0)
-  series-told before (Unasked f w) (Stopped l c v) p q a b e = absurd (stop-unasked Whole Stop disjoint l c f v w q p b a (sym e.0))
-  series-told before (Unasked f w) (Done l c) p q a b e =
-      absurd (refused-value f l w (loses-nothing (Refused f w) (Value l) p q e.0))
-  series-told before (Stopped l c v) (Unasked f w) p q a b e = absurd (stop-unasked Whole Stop disjoint l c f v w p q a b e.0)
-  series-told before (Stopped l c v) (Stopped m d w) p q a b e =
+  series-told before (Err r) (Err refused-by) p q a b e =
+      ap unasked (loses-nothing (refusal r.file r.reason) (refusal refused-by.file refused-by.reason) p q e.0)
+  series-told before (Err r) (Ok (Stopped l c v)) p q a b e = absurd (stop-unasked Whole Stop disjoint l c r.file v r.reason q p b a (sym e.0))
+  series-told before (Err r) (Ok (Done l c)) p q a b e =
+      absurd (refused-value r.file l r.reason (loses-nothing (refusal r.file r.reason) (Ok l) p q e.0))
+  series-told before (Ok (Stopped l c v)) (Err r) p q a b e = absurd (stop-unasked Whole Stop disjoint l c r.file v r.reason p q a b e.0)
+  series-told before (Ok (Stopped l c v)) (Ok (Stopped m d w)) p q a b e =
       let same =
       word-parts (number v) 0 l (detail v) (number w) 0 m (detail w) (stop-word l c v p) (stop-word m d w q) e.0 in
       rw (
@@ -120,23 +120,23 @@ module _ (Whole Stop : Reason → Type 0) (disjoint : Disjoint Whole Stop) where
         e.1,
         same-reason v w same.number_same same.detail-same (p.1.0 ∙ sym q.1.0),
       )
-  series-told before (Stopped l c v) (Done m d) p q a b e = absurd (stop-done l c m d v p q e.0)
-  series-told before (Done m d) (Unasked f w) p q a b e =
-      absurd (refused-value f m w (sym (loses-nothing (Value m) (Refused f w) p q e.0)))
-  series-told before (Done m d) (Stopped l c v) p q a b e = absurd (stop-done l c m d v q p (sym e.0))
-  series-told before (Done l c) (Done m d) p q a b e =
-      rw (same-value l m (loses-nothing (Value l) (Value m) p q e.0), e.1)
+  series-told before (Ok (Stopped l c v)) (Ok (Done m d)) p q a b e = absurd (stop-done l c m d v p q e.0)
+  series-told before (Ok (Done m d)) (Err r) p q a b e =
+      absurd (refused-value r.file m r.reason (sym (loses-nothing (Ok m) (refusal r.file r.reason) p q e.0)))
+  series-told before (Ok (Done m d)) (Ok (Stopped l c v)) p q a b e = absurd (stop-done l c m d v q p (sym e.0))
+  series-told before (Ok (Done l c)) (Ok (Done m d)) p q a b e =
+      rw (same-value l m (loses-nothing (Ok l) (Ok m) p q e.0), e.1)
 
 -- what is told has the bytes of what was said, and is a stop where that is one
 told-bytes : (before : ℕ) (s : Series) → series_bytes (told_series s) before ≡ series_bytes s before
-told-bytes before (Unasked file why) = refl
-told-bytes before (Stopped labels bytes why) = refl
-told-bytes before (Done labels bytes) = refl
+told-bytes before (Err r) = refl
+told-bytes before (Ok (Stopped labels bytes why)) = refl
+told-bytes before (Ok (Done labels bytes)) = refl
 
 told-kind : (Whole Stop : Reason → Type 0) (s : Series) → SeriesApart Whole Stop s → SeriesApart Whole Stop (told_series s)
-told-kind Whole Stop (Unasked file why) h = h
-told-kind Whole Stop (Stopped labels bytes why) h = h
-told-kind Whole Stop (Done labels bytes) h = h
+told-kind Whole Stop (Err r) h = h
+told-kind Whole Stop (Ok (Stopped labels bytes why)) h = h
+told-kind Whole Stop (Ok (Done labels bytes)) h = h
 
 runs-told : (Whole Stop : Reason → Type 0) → Disjoint Whole Stop → (before : ℕ) (call other : Call) (s t : Series)
     → Tells call (run s)

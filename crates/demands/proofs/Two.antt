@@ -15,8 +15,6 @@ use lib.ListN.{length}
 use Rattle.field_outward.specs.Outward.{outward_fault}
 use Rattle.refusal.specs.declared.Reason.{Reason}
 use Rattle.refusal.specs.declared.Reason.TheVariants.{Combination, MissingKey}
-use Rattle.refusal.specs.declared.Answer.{Answer}
-use Rattle.refusal.specs.declared.Answer.TheVariants.{Value, Refused}
 use Rattle.refusal.specs.Outcome.{Outcome, said, afterwards}
 use Rattle.refusal.proofs.Answers.{refused-value}
 use Rattle.refusal.proofs.Outcomes.{answer-of, afterwards-value, afterwards-refused}
@@ -35,7 +33,6 @@ use Rattle.label.proofs.Room.{Fitting, fits, short, fitting}
 use Rattle.label.proofs.Bounds.{at-most-11-lines, at-most-499, each_line}
 use Rattle.item.specs.Lines.{point_line, byte_text, refused_text, refused_line}
 use Rattle.item.specs.Item.{resolved_text, item_outcome}
-use Rattle.run.specs.declared.Series.TheVariants.{Unasked}
 use Rattle.ask.specs.Source.{Source, in_code}
 use Rattle.ask.specs.Labels.{kth, label_outcome, kth_label, view_label, code_label}
 use Rattle.ask.specs.Lists.{resolved_of, kth_item, view_item, code_item, views_listed, code_listed, heading_or, headings, views_list, code_list}
@@ -59,29 +56,31 @@ use Rattle.mainfile.specs.Set.{Set}
 use Rattle.mainfile.specs.Accepted.{AcceptedSet}
 use Rattle.mainfile.specs.Rows.{set_lookup}
 use Rattle.mainfile.specs.Addresses as Main
-use Rattle.mainfile_sound.proofs.Lengths.{views-fit as addresses-fit}
 use Rattle.mainfile_codes.specs.Codes as MainCodes
 use Rattle.mainfile_codes.specs.Told as MainTold
-use Rattle.mainfile_codes.proofs.Told.{codes-told as addresses-told}
 use Rattle.demands.specs.Two.{label_for, Printing, no_number, forbidden_mix, key_missing, no_room, printed, ViewAsked, CodeAsked, label_at, PointAsked, refused_as, Under, a_label, a_rule, a_field, ItemAsked, PointListed, listed, InTurn, CodesAsked, CodesOfPoints, CodesOfAddresses, file_refused, files_refused, code_refused, pack_refused, taken, Exactly, Taken, Prints, text_for, ViewExactly, CodeExactly, PointExactly, Bounded, AllBounded, PointsBounded}
+use Rattle.std.specs.Prelude.{Ok, Err}
+use Rattle.refusal.specs.Answer.{Answer, refusal}
+use Rattle.mainfile_sound.proofs.Lengths.{views-fit as addresses-fit}
+use Rattle.mainfile_codes.proofs.Told.{codes-told as addresses-told}
 
 -- ---- files and packs
 
 -- a table file or a point file; the value is how many records it has
-pub accepted-file : (f : Format) (file : List ℕ) → Accepted f file → checked f file ≡ Value (records f file)
+pub accepted-file : (f : Format) (file : List ℕ) → Accepted f file → checked f file ≡ Ok (records f file)
 accepted-file f file a = accepts f file a
 
-pub file-accepted : (f : Format) (file : List ℕ) (n : ℕ) → checked f file ≡ Value n → Accepted f file
+pub file-accepted : (f : Format) (file : List ℕ) (n : ℕ) → checked f file ≡ Ok n → Accepted f file
 file-accepted f file n e = accepted f file n e
 
 -- a pack; the value is how many points it has
 pub accepted-pack : (pack : List ℕ) → trailer_good pack ≡ true → all_rows_good pack ≡ true → all_points_good pack ≡ true
     → all_counts_good pack ≡ true
-    → opened pack ≡ Value (point_count pack)
+    → opened pack ≡ Ok (point_count pack)
 unfolding opened
 accepted-pack pack trailer rows points counts = simp (trailer, rows, points, counts)
 
-pub pack-accepted : (pack : List ℕ) (n : ℕ) → opened pack ≡ Value n → Opened pack n
+pub pack-accepted : (pack : List ℕ) (n : ℕ) → opened pack ≡ Ok n → Opened pack n
 pack-accepted pack n e = opened-all pack n e
 
 -- ---- labels of a source
@@ -114,29 +113,29 @@ module _ (s : Source) (out : List ℕ) where
   view-asked view = by-judged s.judged refl
     where
       by-judged : (j : Answer) → s.judged ≡ j → ViewAsked s view out
-      by-judged (Value n) e =
+      by-judged (Ok n) e =
           taken e
-          (subst (Printing s.look s.views view out) (sym (afterwards-value Refused out _ e))
+          (subst (Printing s.look s.views view out) (sym (afterwards-value refusal out _ e))
           (printing s.look s.views view out))
-      by-judged (Refused file why) e = files_refused e (afterwards-refused Refused out _ e)
+      by-judged (Err r) e = files_refused e (afterwards-refused refusal out _ e)
 
   module _ (code : List ℕ) (k : ℕ) where
     pub code-asked : CodeAsked s code k out
     unfolding code_label
     code-asked = by-judged s.judged refl
       where
-        by_code : {n : ℕ} → s.judged ≡ Value n → (t : Bool) → eqb (outward_fault code) 0 ≡ t → CodeAsked s code k out
+        by_code : {n : ℕ} → s.judged ≡ Ok n → (t : Bool) → eqb (outward_fault code) 0 ≡ t → CodeAsked s code k out
         by_code e true c =
             let clean = eqb-true (outward_fault code) 0 c in
             taken e clean
-            (subst (Printing s.look (in_code code s.live) k out) (sym (by-good-code Refused code out _ s e clean))
+            (subst (Printing s.look (in_code code s.live) k out) (sym (by-good-code refusal code out _ s e clean))
             (printing s.look (in_code code s.live) k out))
         by_code e false c =
-            let fault = eqb-false (outward_fault code) 0 c in code_refused e fault (by-bad-code Refused code out _ s e fault)
+            let fault = eqb-false (outward_fault code) 0 c in code_refused e fault (by-bad-code refusal code out _ s e fault)
 
         by-judged : (j : Answer) → s.judged ≡ j → CodeAsked s code k out
-        by-judged (Value n) e = by_code e (eqb (outward_fault code) 0) refl
-        by-judged (Refused file why) e = files_refused e (by-refused Refused code out _ s e)
+        by-judged (Ok n) e = by_code e (eqb (outward_fault code) 0) refl
+        by-judged (Err r) e = files_refused e (by-refused refusal code out _ s e)
 
 -- ---- labels of a pack
 
@@ -145,7 +144,7 @@ pub data There (pack : List ℕ) (n k : ℕ) : Type 0 where
   a_point : 1 ≤ k → k ≤ n → is_point pack k ≡ true → There pack n k
   no-point : (k < 1) ⊎ (n < k) → is_point pack k ≡ false → There pack n k
 
-pub point-there : (pack : List ℕ) {n : ℕ} (k : ℕ) → opened pack ≡ Value n → There pack n k
+pub point-there : (pack : List ℕ) {n : ℕ} (k : ℕ) → opened pack ≡ Ok n → There pack n k
 point-there pack {n} k e = by_tests (opened-all pack n e).counted (leb 1 k) (leb k (point_count pack)) refl refl
   where
     by_tests : n ≡ point_count pack → (t u : Bool) → leb 1 k ≡ t → leb k (point_count pack) ≡ u → There pack n k
@@ -159,21 +158,21 @@ module _ (pack : List ℕ) (k : ℕ) (out : List ℕ) where
   unfolding pack_label point_label
   point-asked = by-opened (opened pack) refl
     where
-      point : {n : ℕ} → opened pack ≡ Value n → pack_label pack k out ≡ point_label pack k out
-      point e = afterwards-value Refused out _ e
+      point : {n : ℕ} → opened pack ≡ Ok n → pack_label pack k out ≡ point_label pack k out
+      point e = afterwards-value refusal out _ e
 
-      by-room : {n : ℕ} → opened pack ≡ Value n → 1 ≤ k → k ≤ n → is_point pack k ≡ true → Fitting (label_at pack k) out
+      by-room : {n : ℕ} → opened pack ≡ Ok n → 1 ≤ k → k ≤ n → is_point pack k ≡ true → Fitting (label_at pack k) out
           → PointAsked pack k out
       by-room e low high t (fits h is) = printed e low high h (point e ∙ (rw t is))
       by-room e low high t (short h is) = no_room e low high h (point e ∙ (rw t is))
 
-      by-point : {n : ℕ} → opened pack ≡ Value n → There pack n k → PointAsked pack k out
+      by-point : {n : ℕ} → opened pack ≡ Ok n → There pack n k → PointAsked pack k out
       by-point e (a_point low high t) = by-room e low high t (fitting (label_at pack k) out)
       by-point e (no-point h t) = no_number e h (point e ∙ rw t)
 
       by-opened : (o : Answer) → opened pack ≡ o → PointAsked pack k out
-      by-opened (Value n) e = by-point e (point-there pack k e)
-      by-opened (Refused file why) e = pack_refused e (afterwards-refused Refused out _ e)
+      by-opened (Ok n) e = by-point e (point-there pack k e)
+      by-opened (Err r) e = pack_refused e (afterwards-refused refusal out _ e)
 
 -- ---- items of a listing
 
@@ -223,16 +222,16 @@ module _ (heading : Address → List ℕ) (look : Lookup) (views : List Address)
       by-found (some a) e = by_address a e (resolving look a)
 
 -- under the source's own headings, files and code being accepted
-module _ (s : Source) {n : ℕ} (taken : s.judged ≡ Value n) where
+module _ (s : Source) {n : ℕ} (taken : s.judged ≡ Ok n) where
   pub views-listed : InTurn (ItemAsked s.heading s.look s.views) (views_list s)
   unfolding views_list views_listed view_item
   views-listed =
       record {
         item = view_item (headings s.heading s.views) s;
         each = λ k out.
-            subst (ItemAsked s.heading s.look s.views k out) (sym (afterwards-value Refused out _ taken))
+            subst (ItemAsked s.heading s.look s.views k out) (sym (afterwards-value refusal out _ taken))
             (item-asked s.heading s.look s.views k out);
-        in_turn = λ first count out. afterwards-value Unasked out _ taken;
+        in_turn = λ first count out. afterwards-value refusal out _ taken;
       }
 
   pub code-listed : (code : List ℕ) → outward_fault code ≡ 0
@@ -243,18 +242,18 @@ module _ (s : Source) {n : ℕ} (taken : s.judged ≡ Value n) where
       record {
         item = code_item (headings s.heading views) s code;
         each = λ k out.
-            subst (ItemAsked s.heading s.look views k out) (sym (by-good-code Refused code out _ s taken clean))
+            subst (ItemAsked s.heading s.look views k out) (sym (by-good-code refusal code out _ s taken clean))
             (item-asked s.heading s.look views k out);
-        in_turn = λ first count out. by-good-code Unasked code out _ s taken clean;
+        in_turn = λ first count out. by-good-code refusal code out _ s taken clean;
       }
 
-module _ (pack : List ℕ) {n : ℕ} (opens : opened pack ≡ Value n) where
+module _ (pack : List ℕ) {n : ℕ} (opens : opened pack ≡ Ok n) where
   point-listed : (k : ℕ) (out : List ℕ) → PointListed pack n k out (pack_item point_line pack k out)
   unfolding pack_item point_item
   point-listed k out = by-point (point-there pack k opens)
     where
       point : pack_item point_line pack k out ≡ point_item point_line pack k out
-      point = afterwards-value Refused out _ opens
+      point = afterwards-value refusal out _ opens
 
       by-room : 1 ≤ k → k ≤ n → is_point pack k ≡ true → Fitting (point_line k ++ label_at pack k) out
           → PointListed pack n k out (pack_item point_line pack k out)
@@ -271,7 +270,7 @@ module _ (pack : List ℕ) {n : ℕ} (opens : opened pack ≡ Value n) where
       record {
         item = pack_item point_line pack;
         each = point-listed;
-        in_turn = λ first count out. afterwards-value Unasked out _ opens;
+        in_turn = λ first count out. afterwards-value refusal out _ opens;
       }
 
 -- ---- the list of codes
@@ -280,7 +279,7 @@ module _ (pack : List ℕ) {n : ℕ} (opens : opened pack ≡ Value n) where
 module _ (f : Format) (file : List ℕ) (Telling : List Entry → Type 0) (es : List Entry) (out : List ℕ)
     (told : Accepted f file → Telling es) where
   abbrev answered : Outcome Answer
-  answered = afterwards Refused (checked f file) out (entries_outcome es out)
+  answered = afterwards refusal (checked f file) out (entries_outcome es out)
 
   abbrev Asked : Type 0
   Asked = CodesAsked f file Telling es out answered
@@ -289,7 +288,7 @@ module _ (f : Format) (file : List ℕ) (Telling : List Entry → Type 0) (es : 
   entries-asked = by-checked (checked f file) refl
     where
       by-checked : (o : Answer) → checked f file ≡ o → Asked
-      by-checked (Value n) e = by-room (accepted f file n e) (leb bytes (length out)) refl
+      by-checked (Ok n) e = by-room (accepted f file n e) (leb bytes (length out)) refl
         where
           bytes : ℕ
           bytes = 8 * length es
@@ -301,12 +300,12 @@ module _ (f : Format) (file : List ℕ) (Telling : List Entry → Type 0) (es : 
           by-room a true h =
               let room = leb-true bytes (length out) h in
               listed a (told a) room
-              (afterwards-value Refused out _ e ∙ (entries_fit _ _ out (omega (arith, long)) ∙ rw long))
+              (afterwards-value refusal out _ e ∙ (entries_fit _ _ out (omega (arith, long)) ∙ rw long))
           by-room a false h =
               let none = leb-false bytes (length out) h in
               no_room a (told a) none
-              (afterwards-value Refused out _ e ∙ (falls-short _ _ out (omega (arith, long)) ∙ rw long))
-      by-checked (Refused file why) e = file_refused e (afterwards-refused Refused out _ e)
+              (afterwards-value refusal out _ e ∙ (falls-short _ _ out (omega (arith, long)) ∙ rw long))
+      by-checked (Err r) e = file_refused e (afterwards-refused refusal out _ e)
 
 -- of a point file, and of an address file
 pub codes-asked : (points out : List ℕ) → CodesOfPoints points out
@@ -322,7 +321,7 @@ main-codes-asked file out =
 
 -- what is refused is no value
 never : {Where : Type 0} {text out : List ℕ} {o : Outcome Answer} {file : ℕ} {why : Reason}
-    → o ≡ said (Refused file why) out → (Where → ⊥) → Exactly Where text out o
+    → o ≡ said (refusal file why) out → (Where → ⊥) → Exactly Where text out o
 never {Where} {text} {out} {o} {file} {why} is not =
     record {
       only = λ {n} e. absurd (refused-value file n why (sym (answer-of is) ∙ e));
@@ -345,10 +344,10 @@ module _ (look : Lookup) (views : List Address) (k : ℕ) (out : List ℕ) (o : 
       let e = printing-exactly p in record { only = λ v. (first, e.only v); then = λ w. e.then w.1 }
 
 module _ (s : Source) (out : List ℕ) where
-  is-taken : {n : ℕ} → s.judged ≡ Value n → Taken s
+  is-taken : {n : ℕ} → s.judged ≡ Ok n → Taken s
   is-taken e = rw e tt
 
-  not_taken : {file : ℕ} {why : Reason} → s.judged ≡ Refused file why → Taken s → ⊥
+  not_taken : {file : ℕ} {why : Reason} → s.judged ≡ refusal file why → Taken s → ⊥
   not_taken e w = rw e at w
 
   pub view-exactly : (view : ℕ) → ViewExactly (Taken s) s view out

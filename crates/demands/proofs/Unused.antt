@@ -6,8 +6,6 @@ use mathlib.Core.List.{List, [], ◌∷◌}
 use native.Mathlib.Omega.{arith}
 use lib.ListN.{length}
 use Rattle.file_record.specs.Parts.{record_at}
-use Rattle.refusal.specs.declared.Answer.TheVariants.{Value, Refused}
-use Rattle.refusal.specs.declared.Verdict.{Verdict}
 use Rattle.refusal.specs.Verdict.{or_else}
 use Rattle.refusal.proofs.Outcomes.{afterwards-value}
 use Rattle.file.specs.Formats.{table_format, point_format}
@@ -15,7 +13,6 @@ use Rattle.file.specs.Accepted.{Accepted}
 use Rattle.source.specs.Address.{Lookup, Address, keys_of}
 use Rattle.source.specs.Same.{AllOf, Agree, AllAgree}
 use Rattle.source.proofs.Same.{resolve_same}
-use Rattle.run.specs.declared.Series.TheVariants.{Unasked}
 use Rattle.run.proofs.Same.{same-run}
 use Rattle.ask.specs.Source.{Source, in_code}
 use Rattle.ask.specs.Labels.{code_first, kth_label, view_label, code_label}
@@ -36,11 +33,14 @@ use Rattle.mainfile.specs.Accepted.{AcceptedSet}
 use Rattle.mainfile.specs.Addresses as Main
 use Rattle.mainfile.specs.Main.{main_of}
 use Rattle.mainfile_check.proofs.Laws.{set-accepts}
-use Rattle.mainfile_sound.proofs.Addresses.{views-fields as addresses-fields}
 use Rattle.mainfile_views.specs.Range.{views_in}
 use Rattle.demands.specs.Unused.{SameRows, SameInSets, Unmoved}
 use Rattle.demands.proofs.Two.{all_then}
 use Rattle.demands.proofs.Pair.{pair-taken}
+use Rattle.std.specs.Prelude.{Ok}
+use Rattle.refusal.specs.Answer.{refusal}
+use Rattle.refusal.specs.Verdict.{Verdict}
+use Rattle.mainfile_sound.proofs.Addresses.{views-fields as addresses-fields}
 
 -- ---- any source: two look-ups for the same delivery points
 
@@ -56,28 +56,28 @@ module _ (look other : Lookup) where
   cut-same views code out fit h =
       ap₂ (λ (v : Verdict) (pack : List ℕ). cut_with v pack out) (bad-same views h) (pack-same look other views code fit h)
 
-module _ (one other : Source) {m n : ℕ} (t : one.judged ≡ Value m) (u : other.judged ≡ Value n)
+module _ (one other : Source) {m n : ℕ} (t : one.judged ≡ Ok m) (u : other.judged ≡ Ok n)
     (heading : other.heading ≡ one.heading) (views : other.views ≡ one.views) (live : other.live ≡ one.live)
     (agree : AllAgree one.look other.look one.views) (agree-live : AllAgree one.look other.look one.live)
     (fit : AllFit one.live) where
   labels : (view : ℕ) (out : List ℕ) → view_label one view out ≡ view_label other view out
   unfolding view_label
   labels view out =
-      afterwards-value Refused out _ t
+      afterwards-value refusal out _ t
       ∙ (kth-same one.look other.look out one.views view agree
-      ∙ (ap (λ (v : List Address). kth_label other.look v view out) (sym views) ∙ sym (afterwards-value Refused out _ u)))
+      ∙ (ap (λ (v : List Address). kth_label other.look v view out) (sym views) ∙ sym (afterwards-value refusal out _ u)))
 
   view-items : (view : ℕ) (out : List ℕ)
       → view_item (headings one.heading one.views) one view out
       ≡ view_item (headings other.heading other.views) other view out
   unfolding view_item
   view-items view out =
-      afterwards-value Refused out _ t
+      afterwards-value refusal out _ t
       ∙ (kth-item-same one.look other.look _ one.views view out agree
       ∙ (ap₂
       (λ (h : Address → List ℕ) (v : List Address). kth_item (headings h v) other.look v view out)
       (sym heading) (sym views)
-      ∙ sym (afterwards-value Refused out _ u)))
+      ∙ sym (afterwards-value refusal out _ u)))
 
   module _ (code : List ℕ) where
     in-code : AllAgree one.look other.look (in_code code one.live)
@@ -89,58 +89,58 @@ module _ (one other : Source) {m n : ℕ} (t : one.judged ≡ Value m) (u : othe
     code_labels : (k : ℕ) (out : List ℕ) → code_label one code k out ≡ code_label other code k out
     unfolding code_label
     code_labels k out =
-        afterwards-value Refused out _ t
-        ∙ (ap (code_first Refused code out)
+        afterwards-value refusal out _ t
+        ∙ (ap (code_first refusal code out)
         (kth-same one.look other.look out (in_code code one.live) k in-code
         ∙ ap (λ (v : List Address). kth_label other.look (in_code code v) k out) (sym live))
-        ∙ sym (afterwards-value Refused out _ u))
+        ∙ sym (afterwards-value refusal out _ u))
 
     code_items : (k : ℕ) (out : List ℕ)
         → code_item (headings one.heading (in_code code one.live)) one code k out
         ≡ code_item (headings other.heading (in_code code other.live)) other code k out
     unfolding code_item
     code_items k out =
-        afterwards-value Refused out _ t
-        ∙ (ap (code_first Refused code out)
+        afterwards-value refusal out _ t
+        ∙ (ap (code_first refusal code out)
         (kth-item-same one.look other.look _ (in_code code one.live) k out in-code
         ∙ ap₂
         (λ (h : Address → List ℕ) (v : List Address).
         kth_item (headings h (in_code code v)) other.look (in_code code v) k out)
         (sym heading) (sym live))
-        ∙ sym (afterwards-value Refused out _ u))
+        ∙ sym (afterwards-value refusal out _ u))
 
     code_lists : (first count : ℕ) (out : List ℕ) → code_list one code first count out ≡ code_list other code first count out
     unfolding code_list code_listed
     code_lists first count out =
-        afterwards-value Unasked out _ t
-        ∙ (ap (code_first Unasked code out) (same-run _ _ code_items count first out)
-        ∙ sym (afterwards-value Unasked out _ u))
+        afterwards-value refusal out _ t
+        ∙ (ap (code_first refusal code out) (same-run _ _ code_items count first out)
+        ∙ sym (afterwards-value refusal out _ u))
 
     packs : (out : List ℕ) → pack_built one code out ≡ pack_built other code out
     unfolding pack_built
     packs out =
-        afterwards-value Refused out _ t
-        ∙ (ap (code_first Refused code out)
+        afterwards-value refusal out _ t
+        ∙ (ap (code_first refusal code out)
         (cut-same one.look other.look (in_code code one.live) code out fit-code in-code
         ∙ ap (λ (v : List Address). cut_outcome other.look (in_code code v) code out) (sym live))
-        ∙ sym (afterwards-value Refused out _ u))
+        ∙ sym (afterwards-value refusal out _ u))
 
     code_runs : (first count : ℕ) (out : List ℕ) → code_run one code first count out ≡ code_run other code first count out
     unfolding code_run
     code_runs first count out =
-        afterwards-value Unasked out _ t
-        ∙ (ap (code_first Unasked code out) (same-run _ _ code_labels count first out)
-        ∙ sym (afterwards-value Unasked out _ u))
+        afterwards-value refusal out _ t
+        ∙ (ap (code_first refusal code out) (same-run _ _ code_labels count first out)
+        ∙ sym (afterwards-value refusal out _ u))
 
   runs : (first count : ℕ) (out : List ℕ) → views_run one first count out ≡ views_run other first count out
   unfolding views_run
   runs first count out =
-      afterwards-value Unasked out _ t ∙ (same-run _ _ labels count first out ∙ sym (afterwards-value Unasked out _ u))
+      afterwards-value refusal out _ t ∙ (same-run _ _ labels count first out ∙ sym (afterwards-value refusal out _ u))
 
   lists : (first count : ℕ) (out : List ℕ) → views_list one first count out ≡ views_list other first count out
   unfolding views_list views_listed
   lists first count out =
-      afterwards-value Unasked out _ t ∙ (same-run _ _ view-items count first out ∙ sym (afterwards-value Unasked out _ u))
+      afterwards-value refusal out _ t ∙ (same-run _ _ view-items count first out ∙ sym (afterwards-value refusal out _ u))
 
   pub unmoved : Unmoved one other
   unmoved =

@@ -4,11 +4,11 @@
 use Rattle.std.specs.Prelude.{ℕ, ◌≤◌, ◌≡◌, List, ◌⊎◌}
 use Rattle.refusal.specs.declared.Reason.{Reason}
 use Rattle.refusal.specs.Refusal.{number}
-use Rattle.refusal.specs.declared.Answer.{Answer}
-use Rattle.refusal.specs.declared.Answer.TheVariants.{Value, Refused}
-use Rattle.run.specs.declared.Series.{Series}
-use Rattle.run.specs.declared.Series.TheVariants.{Unasked, Stopped, Done}
 use Rattle.call.specs.Call.{Lent, pair, set, a_book, Call, of_labels, of_code_labels, of_list, of_code_list, of_pack_list, Saying, one, run}
+use Rattle.std.specs.Prelude.{Ok, Err}
+use Rattle.refusal.specs.Answer.{Answer}
+use Rattle.run.specs.Series.{Series}
+use Rattle.run.specs.declared.Run.TheVariants.{Stopped, Done}
 
 -- a label's own refusal, and one of the whole
 abbrev pub OfLabel : Reason → Type 0
@@ -33,8 +33,8 @@ OfSet file why = (1 ≤ file) × ((file ≤ 7) × (number why ≤ 5))
 
 -- an answer whose refusals are of a kind, with the file to blame
 abbrev pub AnswerIs : (Kind : ℕ → Reason → Type 0) → Answer → Type 0
-AnswerIs Kind (Value n) = Unit {0}
-AnswerIs Kind (Refused file why) = Kind file why
+AnswerIs Kind (Ok n) = Unit {0}
+AnswerIs Kind (Err r) = Kind r.file r.reason
 
 -- an item's: "It stops with 7 where no such view is left and with 10 before the first that does not fit in what is left"
 abbrev pub OfItem : Reason → Type 0
@@ -42,9 +42,9 @@ OfItem why = (number why ≡ 7) ⊎ (number why ≡ 10)
 
 -- what stops it is of a kind, and what refuses the whole of another
 abbrev pub SeriesApart : (Whole Stop : Reason → Type 0) → Series → Type 0
-SeriesApart Whole Stop (Unasked file why) = Whole why
-SeriesApart Whole Stop (Stopped labels bytes why) = Stop why
-SeriesApart Whole Stop (Done labels bytes) = Unit {0}
+SeriesApart Whole Stop (Err r) = Whole r.reason
+SeriesApart Whole Stop (Ok (Stopped labels bytes why)) = Stop why
+SeriesApart Whole Stop (Ok (Done labels bytes)) = Unit {0}
 
 abbrev pub StopsBy : (Stop : Reason → Type 0) → Series → Type 0
 StopsBy = SeriesApart OfWhole

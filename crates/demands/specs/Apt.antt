@@ -4,14 +4,14 @@
 use Rattle.std.specs.Prelude.{ℕ, ◌≤◌, ◌<◌, ◌≡◌, List, length}
 use Rattle.refusal.specs.Packed.{FitsRefusal}
 use Rattle.refusal.specs.declared.Reason.{Reason}
-use Rattle.refusal.specs.declared.Answer.{Answer}
-use Rattle.refusal.specs.declared.Answer.TheVariants.{Value}
 use Rattle.source.specs.Address.{Lookup, Address}
 use Rattle.source.specs.Same.{AllOf}
 use Rattle.ask.specs.Source.{Source}
 use Rattle.demands.specs.Two.{AllBounded, ViewsCapital}
 use Rattle.demands.specs.Three.{Packable}
 use Rattle.demands.specs.Apart.{OfWhole, AnswerIs}
+use Rattle.std.specs.Prelude.{Ok}
+use Rattle.refusal.specs.Answer.{Answer}
 
 -- a refusal of the whole, of those that may refuse it: a file's, a pack's, that of a code; a book's where one is lent
 pub record WholeBy (Whole : Reason → Type 0) (file : ℕ) (why : Reason) : Type 0 where
@@ -40,8 +40,8 @@ pub record AptViews (look : Lookup) (views : List Address) : Type 0 where
 -- a listing is short; and a pack can be cut from it
 pub record AptBy (Whole : Reason → Type 0) (s : Source) : Type 0 where
   pub judges : AnswerIs (WholeBy Whole) s.judged
-  pub views : {n : ℕ} → s.judged ≡ Value n → AptViews s.look s.views
-  pub live : {n : ℕ} → s.judged ≡ Value n → AptViews s.look s.live
+  pub views : {n : ℕ} → s.judged ≡ Ok n → AptViews s.look s.views
+  pub live : {n : ℕ} → s.judged ≡ Ok n → AptViews s.look s.live
   pub headed : (a : Address) → Numbered a → length (s.heading a) ≤ 80
   pub packable : Packable s
 

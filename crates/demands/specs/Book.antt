@@ -3,8 +3,6 @@
 -- Assumes nothing.
 use Rattle.std.specs.Prelude.{ℕ, ◌≡◌, true, cond, List, [], ◌∷◌, eqb}
 use Rattle.std.proofs.Math.Option.{Option, none, some}
-use Rattle.refusal.specs.declared.Answer.{Answer}
-use Rattle.refusal.specs.declared.Answer.TheVariants.{Value, Refused}
 use Rattle.file.specs.Check.{checked}
 use Rattle.file.specs.Formats.{table_format, point_format}
 use Rattle.file.specs.Accepted.{Accepted}
@@ -17,6 +15,8 @@ use Rattle.book.specs.Event.{Event, event_at, step_of, event_outcome, tidy_outco
 use Rattle.book.specs.Agrees.{NamedAgrees, Tidied, empty_book, stepped, EventsFine, RunAgrees}
 use Rattle.book_source.specs.Source.{addresses_of, book_of}
 use Rattle.demands.specs.Unused.{Unmoved}
+use Rattle.std.specs.Prelude.{Ok, Err}
+use Rattle.refusal.specs.Answer.{Answer}
 
 -- ---- events
 
@@ -27,8 +27,8 @@ pub record Named : Type 0 where
 
 -- the event that it names, if the file is accepted and has such a view
 abbrev pub event_in : Answer → (points : List ℕ) → (place : ℕ) → Option Event
-event_in (Value n) points place = cond (eqb place 0) none (event_at points place)
-event_in (Refused file why) points place = none
+event_in (Ok n) points place = cond (eqb place 0) none (event_at points place)
+event_in (Err r) points place = none
 
 abbrev pub event_of : Named → Option Event
 event_of call =
@@ -55,7 +55,7 @@ pub record History (book : List ℕ) (calls : List Named) : Type 0 where
 
 pub record BookKept : Type 0 where
   -- "each event is one function on that list (append, remove, replace)": the answer, the book and what it means
-  pub event : (book points : List ℕ) (view n : ℕ) → is_book book ≡ true → checked point_format points ≡ Value n
+  pub event : (book points : List ℕ) (view n : ℕ) → is_book book ≡ true → checked point_format points ≡ Ok n
       → (wanted_at [] points view ≡ 0 → ⊥)
       → NamedAgrees book (event_outcome book points view) (event_at points (wanted_at [] points view))
   -- "From empty, places list exactly what the accepted events say is present, in order of insertion"

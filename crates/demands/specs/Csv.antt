@@ -9,8 +9,6 @@ use Rattle.refusal.specs.Refusal.{number}
 use Rattle.refusal.specs.Packed.{FitsRefusal}
 use Rattle.refusal.specs.declared.Reason.{Reason}
 use Rattle.refusal.specs.declared.Reason.TheVariants.{NoSuchNumber, Combination, MissingKey, BadRow, Uncarried}
-use Rattle.refusal.specs.declared.Answer.{Answer}
-use Rattle.refusal.specs.declared.Answer.TheVariants.{Value, Refused}
 use Rattle.refusal.specs.Outcome.{Outcome, said}
 use Rattle.source.specs.Address.{Lookup, Address, Elements}
 use Rattle.source.specs.Resolve.{forbidden, missing, elements_of}
@@ -25,6 +23,8 @@ use Rattle.csv_back.specs.Back.{ViewBack, RunBack}
 use Rattle.call.specs.Call.{Files, Call, of_csv_rows, of_csv_labels, of_csv_list, Saying, one, run}
 use Rattle.demands.specs.Two.{written, too_short, Printed, refused_as, Bounded, NoneSmall}
 use Rattle.demands.specs.Apart.{OfLabel, OfWhole, OfItem, SeriesApart}
+use Rattle.std.specs.Prelude.{Ok}
+use Rattle.refusal.specs.Answer.{Answer, refusal}
 
 -- ---- a row is written
 
@@ -33,29 +33,29 @@ row_for look a = row_of a (elements_of look a)
 
 -- "Writing: the label's own, 15, then 10"
 pub data RowAsked (s : Source) (view : ℕ) (out : List ℕ) : Type 0 where
-  files_refused : {file : ℕ} {why : Reason} → s.judged ≡ Refused file why
-      → view_row s view out ≡ said (Refused file why) out
+  files_refused : {file : ℕ} {why : Reason} → s.judged ≡ refusal file why
+      → view_row s view out ≡ said (refusal file why) out
       → RowAsked s view out
-  no_number : {n : ℕ} → s.judged ≡ Value n → kth s.views view ≡ none
-      → view_row s view out ≡ said (Refused 0 NoSuchNumber) out
+  no_number : {n : ℕ} → s.judged ≡ Ok n → kth s.views view ≡ none
+      → view_row s view out ≡ said (refusal 0 NoSuchNumber) out
       → RowAsked s view out
-  forbidden_mix : {n : ℕ} → s.judged ≡ Value n → (a : Address) → kth s.views view ≡ some a → (forbidden a ≡ 0 → ⊥)
-      → view_row s view out ≡ said (Refused 0 (Combination (forbidden a) 0)) out
+  forbidden_mix : {n : ℕ} → s.judged ≡ Ok n → (a : Address) → kth s.views view ≡ some a → (forbidden a ≡ 0 → ⊥)
+      → view_row s view out ≡ said (refusal 0 (Combination (forbidden a) 0)) out
       → RowAsked s view out
-  key_missing : {n : ℕ} → s.judged ≡ Value n → (a : Address) → kth s.views view ≡ some a → forbidden a ≡ 0
+  key_missing : {n : ℕ} → s.judged ≡ Ok n → (a : Address) → kth s.views view ≡ some a → forbidden a ≡ 0
       → (missing s.look a ≡ 0 → ⊥)
-      → view_row s view out ≡ said (Refused 0 (MissingKey (missing s.look a) 0)) out
+      → view_row s view out ≡ said (refusal 0 (MissingKey (missing s.look a) 0)) out
       → RowAsked s view out
-  not_carried : {n : ℕ} → s.judged ≡ Value n → (a : Address) → kth s.views view ≡ some a → Printed s.look a
+  not_carried : {n : ℕ} → s.judged ≡ Ok n → (a : Address) → kth s.views view ≡ some a → Printed s.look a
       → carried (elements_of s.look a) ≡ false
-      → view_row s view out ≡ said (Refused 0 Uncarried) out
+      → view_row s view out ≡ said (refusal 0 Uncarried) out
       → RowAsked s view out
-  no_room : {n : ℕ} → s.judged ≡ Value n → (a : Address) → kth s.views view ≡ some a → Printed s.look a
+  no_room : {n : ℕ} → s.judged ≡ Ok n → (a : Address) → kth s.views view ≡ some a → Printed s.look a
       → carried (elements_of s.look a) ≡ true
       → length out < length (row_for s.look a)
       → view_row s view out ≡ too_short (row_for s.look a) out
       → RowAsked s view out
-  row_written : {n : ℕ} → s.judged ≡ Value n → (a : Address) → kth s.views view ≡ some a → Printed s.look a
+  row_written : {n : ℕ} → s.judged ≡ Ok n → (a : Address) → kth s.views view ≡ some a → Printed s.look a
       → carried (elements_of s.look a) ≡ true
       → length (row_for s.look a) ≤ length out
       → view_row s view out ≡ written (row_for s.look a) out
@@ -64,7 +64,7 @@ pub data RowAsked (s : Source) (view : ℕ) (out : List ℕ) : Type 0 where
 -- each row of whatever is lent that is not refused with 15
 abbrev pub EachRow : (List ℕ → Type 0) → Source → Type 0
 EachRow P s =
-    (n view : ℕ) (a : Address) → s.judged ≡ Value n → kth s.views view ≡ some a → Printed s.look a
+    (n view : ℕ) (a : Address) → s.judged ≡ Ok n → kth s.views view ≡ some a → Printed s.look a
     → carried (elements_of s.look a) ≡ true
     → P (row_for s.look a)
 
@@ -96,13 +96,13 @@ AllFormed (row ∷ rows) = (row_fault row ≡ 0) × AllFormed rows
 -- "14 of any row first, then 15 of any row"
 pub data CsvAsked (csv : List ℕ) : Type 0 where
   row_malformed : {row field : ℕ} → FirstBad 1 (rows_of csv) row field
-      → csv_judged csv ≡ Refused 0 (BadRow row field)
+      → csv_judged csv ≡ refusal 0 (BadRow row field)
       → CsvAsked csv
   not_carried : AllFormed (rows_of csv) → all_fit (rows_of csv) ≡ false
-      → csv_judged csv ≡ Refused 0 Uncarried
+      → csv_judged csv ≡ refusal 0 Uncarried
       → CsvAsked csv
   accepted : AllFormed (rows_of csv) → all_fit (rows_of csv) ≡ true
-      → csv_judged csv ≡ Value (length (rows_of csv))
+      → csv_judged csv ≡ Ok (length (rows_of csv))
       → CsvAsked csv
 
 -- what the label of a row is printed from
@@ -111,22 +111,22 @@ elements_for row = row_elements (fields_of row)
 
 -- "reading: 14, 15, 8, 10", with 7 before 8; "rules 1 and 2 by which fields are filled; rule 3 cannot occur"
 pub data CsvLabelAsked (csv : List ℕ) (row : ℕ) (out : List ℕ) : Type 0 where
-  file_refused : {file : ℕ} {why : Reason} → csv_judged csv ≡ Refused file why
-      → csv_label csv row out ≡ said (Refused file why) out
+  file_refused : {file : ℕ} {why : Reason} → csv_judged csv ≡ refusal file why
+      → csv_label csv row out ≡ said (refusal file why) out
       → CsvLabelAsked csv row out
-  no_number : {n : ℕ} → csv_judged csv ≡ Value n → kth_of (rows_of csv) row ≡ none
-      → csv_label csv row out ≡ said (Refused 0 NoSuchNumber) out
+  no_number : {n : ℕ} → csv_judged csv ≡ Ok n → kth_of (rows_of csv) row ≡ none
+      → csv_label csv row out ≡ said (refusal 0 NoSuchNumber) out
       → CsvLabelAsked csv row out
-  forbidden_mix : {n : ℕ} → csv_judged csv ≡ Value n → (bytes : List ℕ) → kth_of (rows_of csv) row ≡ some bytes
+  forbidden_mix : {n : ℕ} → csv_judged csv ≡ Ok n → (bytes : List ℕ) → kth_of (rows_of csv) row ≡ some bytes
       → (forbidden_in (elements_for bytes) ≡ 1) ⊎ (forbidden_in (elements_for bytes) ≡ 2)
-      → csv_label csv row out ≡ said (Refused 0 (Combination (forbidden_in (elements_for bytes)) 0)) out
+      → csv_label csv row out ≡ said (refusal 0 (Combination (forbidden_in (elements_for bytes)) 0)) out
       → CsvLabelAsked csv row out
-  no_room : {n : ℕ} → csv_judged csv ≡ Value n → (bytes : List ℕ) → kth_of (rows_of csv) row ≡ some bytes
+  no_room : {n : ℕ} → csv_judged csv ≡ Ok n → (bytes : List ℕ) → kth_of (rows_of csv) row ≡ some bytes
       → forbidden_in (elements_for bytes) ≡ 0
       → length out < length (label_of (elements_for bytes))
       → csv_label csv row out ≡ too_short (label_of (elements_for bytes)) out
       → CsvLabelAsked csv row out
-  printed : {n : ℕ} → csv_judged csv ≡ Value n → (bytes : List ℕ) → kth_of (rows_of csv) row ≡ some bytes
+  printed : {n : ℕ} → csv_judged csv ≡ Ok n → (bytes : List ℕ) → kth_of (rows_of csv) row ≡ some bytes
       → forbidden_in (elements_for bytes) ≡ 0
       → length (label_of (elements_for bytes)) ≤ length out
       → csv_label csv row out ≡ written (label_of (elements_for bytes)) out
@@ -135,13 +135,13 @@ pub data CsvLabelAsked (csv : List ℕ) (row : ℕ) (out : List ℕ) : Type 0 wh
 -- no label of a row of an accepted file is longer than one of document 01
 abbrev pub CsvBounded : (csv : List ℕ) → Type 0
 CsvBounded csv =
-    (n row : ℕ) (bytes : List ℕ) → csv_judged csv ≡ Value n → kth_of (rows_of csv) row ≡ some bytes
+    (n row : ℕ) (bytes : List ℕ) → csv_judged csv ≡ Ok n → kth_of (rows_of csv) row ≡ some bytes
     → Bounded (elements_for bytes)
 
 -- no line of such a label begins with a small letter
 abbrev pub RowsCapital : (csv : List ℕ) → Type 0
 RowsCapital csv =
-    (n row : ℕ) (bytes : List ℕ) → csv_judged csv ≡ Value n → kth_of (rows_of csv) row ≡ some bytes
+    (n row : ℕ) (bytes : List ℕ) → csv_judged csv ≡ Ok n → kth_of (rows_of csv) row ≡ some bytes
     → NoneSmall (lines_of (elements_for bytes))
 
 -- ---- an item of a listing
@@ -156,7 +156,7 @@ pub data UnderRow (bytes text : List ℕ) : Type 0 where
 -- the item of a row of an accepted file: "the line `row N`, then the label or the line of its refusal"
 pub data RowListed (csv : List ℕ) (row : ℕ) (out : List ℕ) (o : Outcome Answer) : Type 0 where
   no_number : kth_of (rows_of csv) row ≡ none
-      → o ≡ said (Refused 0 NoSuchNumber) out
+      → o ≡ said (refusal 0 NoSuchNumber) out
       → RowListed csv row out o
   no_room : (bytes text : List ℕ) → kth_of (rows_of csv) row ≡ some bytes → UnderRow bytes text
       → length out < length (row_line row ++ text)

@@ -3,21 +3,23 @@
 use Rattle.std.specs.Prelude.{ℕ, ◌%◌, ◌<◌, ◌≡◌, List, length, get_or}
 use Rattle.refusal.specs.Refusal.{detail, second}
 use Rattle.refusal.specs.Packed.{packed, FitsRefusal, Fits}
-use Rattle.run.specs.declared.Series.{Series}
-use Rattle.run.specs.declared.Series.TheVariants.{Unasked, Stopped, Done}
 use Rattle.run.specs.Packed.{packed_series, series_bytes}
 use Rattle.csv_paf.specs.File.{rows_of}
 use Rattle.pack.specs.Opening.{point_count}
 use Rattle.call.specs.Call.{Call, of_pack, of_pack_labels, of_pack_list, of_sector, of_csv, of_csv_label, of_csv_labels, of_csv_list, Saying, one, run, outcome_of, number_of}
+use Rattle.std.specs.Prelude.{Ok, Err}
+use Rattle.refusal.specs.Answer.{refusal}
+use Rattle.run.specs.Series.{Series}
+use Rattle.run.specs.declared.Run.TheVariants.{Stopped, Done}
 
 -- ---- what fits
 
 -- of a run or a listing: where it is done, the labels below 2 to the 56; where it stopped, the labels before it below 2 to the 20, and the
 -- refusal, which names no view
 abbrev pub FitsSeries : Series → Type 0
-FitsSeries (Unasked file why) = FitsRefusal file why
-FitsSeries (Stopped labels bytes why) = (labels < 1_048_576) × ((second why ≡ 0) × (detail why < 4_294_967_296))
-FitsSeries (Done labels bytes) = labels < 72_057_594_037_927_936
+FitsSeries (Err r) = FitsRefusal r.file r.reason
+FitsSeries (Ok (Stopped labels bytes why)) = (labels < 1_048_576) × ((second why ≡ 0) × (detail why < 4_294_967_296))
+FitsSeries (Ok (Done labels bytes)) = labels < 72_057_594_037_927_936
 
 abbrev pub FitsSaying : Saying → Type 0
 FitsSaying (one answer) = Fits answer
@@ -25,9 +27,9 @@ FitsSaying (run series) = FitsSeries series
 
 -- what is told: of a stop, the labels before it modulo 2 to the 20
 abbrev pub told_series : Series → Series
-told_series (Unasked file why) = Unasked file why
-told_series (Stopped labels bytes why) = Stopped (labels % 1_048_576) bytes why
-told_series (Done labels bytes) = Done labels bytes
+told_series (Err r) = refusal r.file r.reason
+told_series (Ok (Stopped labels bytes why)) = Ok (Stopped (labels % 1_048_576) bytes why)
+told_series (Ok (Done labels bytes)) = Ok (Done labels bytes)
 
 abbrev pub as_told : Saying → Saying
 as_told (one answer) = one answer

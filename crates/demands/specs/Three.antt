@@ -1,15 +1,12 @@
 -- Demand 3, over any source: why a pack is not built, and what one that is built carries.
 -- Assumes nothing.
-use Rattle.std.specs.Prelude.{ℕ, ◌≤◌, ◌<◌, ◌≡◌, List, [], ◌∷◌, ◌++◌, length, drop}
+use Rattle.std.specs.Prelude.{ℕ, ◌≤◌, ◌<◌, ◌≡◌, List, ◌∷◌, ◌++◌, length, drop}
 use Rattle.field.specs.Test.{elem}
 use Rattle.field_outward.specs.Outward.{outward_fault}
 use Rattle.refusal.specs.Refusal.{with_view}
 use Rattle.refusal.specs.declared.Reason.{Reason}
 use Rattle.refusal.specs.declared.Reason.TheVariants.{Room, BadCode}
-use Rattle.refusal.specs.declared.Answer.{Answer}
-use Rattle.refusal.specs.declared.Answer.TheVariants.{Value, Refused}
-use Rattle.refusal.specs.declared.Verdict.TheVariants.{Fine}
-use Rattle.refusal.specs.Outcome.{Outcome, said}
+use Rattle.refusal.specs.Outcome.{said}
 use Rattle.source.specs.Address.{Lookup, Address}
 use Rattle.source.specs.Resolve.{refused, resolve}
 use Rattle.source.specs.Same.{AllOf}
@@ -28,12 +25,15 @@ use Rattle.pack_items.specs.Lists.{pack_listed}
 use Rattle.pack_carries.specs.Used.{refers, Rises}
 use Rattle.pack_carries.specs.Rows.{rows_in, table_rows, organisation_rows}
 use Rattle.demands.specs.Two.{Printed}
+use Rattle.std.specs.Prelude.{Ok}
+use Rattle.refusal.specs.Answer.{refusal}
+use Rattle.refusal.specs.Verdict.{fine}
 
 -- what a source has to be: where its files are accepted, a well formed code gives what a pack can be cut from, unless one
 -- of the packed views is refused
 pub record Packable (s : Source) : Type 0 where
-  pub sound : {n : ℕ} → s.judged ≡ Value n → (code : List ℕ) → outward_fault code ≡ 0
-      → first_bad s.look (in_code code s.live) ≡ Fine
+  pub sound : {n : ℕ} → s.judged ≡ Ok n → (code : List ℕ) → outward_fault code ≡ 0
+      → first_bad s.look (in_code code s.live) ≡ fine
       → Sound s.look (in_code code s.live) code
 
 abbrev pub AllPrinted : Lookup → List Address → Type 0
@@ -56,23 +56,23 @@ module _ (s : Source) (code : List ℕ) where
 -- "Building is refused exactly when a live view of that code has a missing key or a forbidden combination, or the buffer is
 -- too short": what building comes to, case by case
 pub data Building (s : Source) (code out : List ℕ) : Type 0 where
-  files_refused : {file : ℕ} {why : Reason} → s.judged ≡ Refused file why
-      → pack_built s code out ≡ said (Refused file why) out
+  files_refused : {file : ℕ} {why : Reason} → s.judged ≡ refusal file why
+      → pack_built s code out ≡ said (refusal file why) out
       → Building s code out
-  code_refused : {n : ℕ} → s.judged ≡ Value n → (outward_fault code ≡ 0 → ⊥)
-      → pack_built s code out ≡ said (Refused 0 BadCode) out
+  code_refused : {n : ℕ} → s.judged ≡ Ok n → (outward_fault code ≡ 0 → ⊥)
+      → pack_built s code out ≡ said (refusal 0 BadCode) out
       → Building s code out
-  view_refused : {n : ℕ} {why : Reason} → s.judged ≡ Value n → outward_fault code ≡ 0
+  view_refused : {n : ℕ} {why : Reason} → s.judged ≡ Ok n → outward_fault code ≡ 0
       → FirstRefused s.look (packed s code) why
-      → pack_built s code out ≡ said (Refused 0 why) out
+      → pack_built s code out ≡ said (refusal 0 why) out
       → Building s code out
-  too_short : {n : ℕ} → s.judged ≡ Value n → outward_fault code ≡ 0 → AllPrinted s.look (packed s code)
+  too_short : {n : ℕ} → s.judged ≡ Ok n → outward_fault code ≡ 0 → AllPrinted s.look (packed s code)
       → length out < length (whole s code)
-      → pack_built s code out ≡ said (Refused 0 (Room (length (whole s code)))) out
+      → pack_built s code out ≡ said (refusal 0 (Room (length (whole s code)))) out
       → Building s code out
-  built : {n : ℕ} → s.judged ≡ Value n → outward_fault code ≡ 0 → AllPrinted s.look (packed s code)
+  built : {n : ℕ} → s.judged ≡ Ok n → outward_fault code ≡ 0 → AllPrinted s.look (packed s code)
       → length (whole s code) ≤ length out
-      → pack_built s code out ≡ said (Value (length (whole s code))) (whole s code ++ drop (length (whole s code)) out)
+      → pack_built s code out ≡ said (Ok (length (whole s code))) (whole s code ++ drop (length (whole s code)) out)
       → Building s code out
 
 -- "It holds each table row that its views refer to once, and no other": the rows, read back from the pack's bytes, are
@@ -90,7 +90,7 @@ pub record Rows (look : Lookup) (views : List Address) (pack : List ℕ) : Type 
 -- is the suffix of the k-th live view, and a sector has as many points as live views; "Demands 2 and 3 read edition 3"
 pub record Carries (s : Source) (code pack : List ℕ) : Type 0 where
   pub of_edition : edition pack ≡ 3
-  pub opens : opened pack ≡ Value (length (in_code code s.live))
+  pub opens : opened pack ≡ Ok (length (in_code code s.live))
   pub labels : (k : ℕ) (out : List ℕ) → pack_label pack k out ≡ code_label s code k out
   pub runs : (first count : ℕ) (out : List ℕ) → pack_run pack first count out ≡ code_run s code first count out
   pub lists : (heading : Heading) (first count : ℕ) (out : List ℕ)

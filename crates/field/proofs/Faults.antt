@@ -1,14 +1,14 @@
 -- Laws of `every` and of the first fault: what a loop over the bytes needs at each turn, and what callers need.
 -- Assumes nothing.
 use Prim.Native.Nat.{ℕ, suc, ◌+◌, ◌≤◌, ◌<◌}
-use mathlib.Core.Path.{◌≡◌, refl, sym, ap, ◌∙◌}
+use mathlib.Core.Path.{◌≡◌, refl}
 use mathlib.Core.Bool.{Bool, true, false, cond, not, ◌&&◌, ◌||◌}
 use mathlib.Core.List.{List, [], ◌∷◌}
 use native.Mathlib.Omega.{arith}
 use native.Mathlib.Numerals.{add-one}
 use lib.ListN.{length, drop, get_or, drop_of_length-le}
 use lib.Seq.{drop-cons}
-use Rattle.field.specs.Test.{every, fault_from, first_fault}
+use Rattle.field.specs.Test.{every, fault_from}
 use Rattle.field.proofs.Tests.{and_left, and_right, and-true}
 
 module _ (ok : ℕ → Bool) where

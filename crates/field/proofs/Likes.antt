@@ -1,7 +1,7 @@
 -- The cases of `numeric_like`, in the order in which the code tests.
 -- Assumes nothing.
 use Prim.Native.Nat.{ℕ, ◌≤◌, ◌<◌}
-use mathlib.Core.Path.{◌≡◌, refl, sym, ap, ◌∙◌}
+use mathlib.Core.Path.{◌≡◌, refl}
 use mathlib.Core.Bool.{Bool, true, false, ◌&&◌, ◌||◌}
 use mathlib.Core.List.{List, [], ◌∷◌}
 use native.Mathlib.Omega.{arith}
@@ -10,7 +10,7 @@ use lib.Dec.{eqb}
 use lib.ListN.{length, get_or}
 use Rattle.field.specs.Digits.{digit}
 use Rattle.field.specs.Text.{letter, from_end, numeric_like}
-use Rattle.field.proofs.Tests.{and-false, or-false}
+use Rattle.field.proofs.Tests.{or-false}
 
 -- fewer than two bytes: one
 pub like-short : (s : List ℕ) → length s < 2 → numeric_like s ≡ eqb (length s) 1

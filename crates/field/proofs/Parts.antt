@@ -6,7 +6,7 @@ use mathlib.Core.Bool.{Bool, true}
 use mathlib.Core.List.{List, [], ◌∷◌, ◌++◌}
 use native.Mathlib.Omega.{arith}
 use lib.Dec.{eqb}
-use lib.ListN.{take, drop}
+use lib.ListN.{drop}
 use lib.Seq.{take-add, drop-drop}
 use Rattle.field.specs.Test.{every}
 use Rattle.field.specs.Text.{blank, keep, trim, part, text_in}

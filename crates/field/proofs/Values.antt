@@ -10,7 +10,7 @@ use native.Mathlib.Nat.{add_assoc, mul_comm, mul_assoc, add-mul, suc-mul, mul-le
 use borrow.Author.Tests.{ne_eqb}
 use lib.Dec.{lit<, eqb}
 use lib.Pow.{pow-add}
-use lib.ListN.{length, take, drop, get_or, drop_of_length-le, length-take}
+use lib.ListN.{length, take, drop, get_or, drop_of_length-le}
 use lib.Seq.{drop-cons, take_all}
 use Rattle.field.specs.Digits.{digit, digit_value, zero_digit, value_from, value}
 use Rattle.field.specs.Test.{every}

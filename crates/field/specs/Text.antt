@@ -1,6 +1,6 @@
 -- Text fields: when one is well formed, what it says without its padding, and which texts are numeric-like.
 -- Assumes nothing.
-use Rattle.std.specs.Prelude.{ℕ, ◌-◌, Bool, true, false, cond, not, ◌&&◌, ◌||◌, List, [], ◌∷◌, leb, eqb, length, take, drop, get_or}
+use Rattle.std.specs.Prelude.{ℕ, ◌-◌, Bool, true, false, cond, ◌&&◌, ◌||◌, List, [], ◌∷◌, leb, eqb, length, take, drop, get_or}
 use Rattle.field.specs.Test.{within, member, only, first_fault}
 use Rattle.field.specs.Digits.{digit}
 

@@ -7,12 +7,12 @@ ghost use Rattle.field_outward.specs.Inward.{inward_letter, inward_fault, suffix
 
 use field_outward::inner::unless;
 
+// Whether a byte is a letter that may stand in an inward code.
+#[tactic(auto, unfolding(field_outward::specs::Inward::inward_letter))]
 fn is_inward_letter(b: u8) -> bool
     ensures { result ≡ inward_letter b }
 {
-    let barred = (b == b'C')
-        | ((b == b'I') | ((b == b'K') | ((b == b'M') | ((b == b'O') | (b == b'V')))));
-    field::is_letter(b) & !barred
+    field::is_letter(b) & !matches!(b, b'C' | b'I' | b'K' | b'M' | b'O' | b'V')
 }
 
 // The first fault of an inward code.

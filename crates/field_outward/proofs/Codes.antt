@@ -1,10 +1,10 @@
 -- Laws of codes: classes, the letters of each pattern, and codes of a known length.
 -- Assumes nothing.
 use Prim.Native.Nat.{ℕ, zero, suc, ◌+◌, ◌*◌, ◌≤◌}
-use mathlib.Core.Path.{◌≡◌, refl, ap, ◌∙◌}
+use mathlib.Core.Path.{◌≡◌, refl, sym, ap, ◌∙◌}
 use mathlib.Core.Bool.{Bool, true, false, cond, ◌&&◌}
 use mathlib.Core.List.{List, [], ◌∷◌}
-use mathlib.Core.Logic.{◌⊎◌, inl, inr}
+use mathlib.Core.Logic.{◌⊎◌, inl, inr, ⊎_elim}
 use native.Mathlib.Omega.{arith}
 use borrow.Author.Tests.{ne_eqb, leb-true}
 use lib.Dec.{leb, eqb}
@@ -13,6 +13,9 @@ use Rattle.field.specs.Test.{elem}
 use Rattle.field.specs.Text.{letter}
 use Rattle.field.specs.Digits.{digit}
 use Rattle.field.proofs.Tests.{and_left, and_right}
+use Rattle.field_outward.specs.declared.Class.{Class}
+use Rattle.field_outward.specs.declared.Class.TheVariants.{Padding, Letter, Digit, Other}
+use Rattle.field_outward.specs.Classes.{number_of}
 use Rattle.field_outward.specs.Inward.{fault_by, inward_letter, inward_fault, suffix_fault}
 use Rattle.field_outward.specs.Outward.{class, sequence_from, patterns, allowed, letters_fault, outward_fault}
 
@@ -38,7 +41,7 @@ third-on zero b n m = absurd (n refl)
 third-on (suc zero) b n m = absurd (m refl)
 third-on (suc (suc more)) b n m = refl
 
-class-to-3 : (b : ℕ) → class b ≤ 3
+pub class-to-3 : (b : ℕ) → class b ≤ 3
 unfolding class
 class-to-3 b = by_tests (letter b) (digit b) (eqb b 32)
   where
@@ -62,12 +65,31 @@ letter-class b = by_tests (letter b) (digit b) (eqb b 32)
     by_tests false false true = refl
     by_tests false false false = refl
 
+-- a class by its number
+pub not-letter : (p : Class) → (p ≡ Letter → ⊥) → number_of p ≡ 1 → ⊥
+not-letter Padding n e = omega arith
+not-letter Letter n e = n refl
+not-letter Digit n e = omega arith
+not-letter Other n e = omega arith
+
+pub not-digit : (p : Class) → (p ≡ Digit → ⊥) → number_of p ≡ 2 → ⊥
+not-digit Padding n e = omega arith
+not-digit Letter n e = omega arith
+not-digit Digit n e = n refl
+not-digit Other n e = omega arith
+
+pub not-padding : (p : Class) → (p ≡ Padding → ⊥) → number_of p ≡ 0 → ⊥
+not-padding Padding n e = n refl
+not-padding Letter n e = omega arith
+not-padding Digit n e = omega arith
+not-padding Other n e = omega arith
+
 -- the class sequence as the code computes it
 abbrev pub sequence : ℕ → ℕ → ℕ → ℕ → ℕ
 sequence a b c d = class a * 1000 + class b * 100 + class c * 10 + class d
 
 module _ (a b c d : ℕ) where
-  abbrev code : List ℕ
+  abbrev pub code : List ℕ
   code = a ∷ b ∷ c ∷ d ∷ []
 
   same-sequence : sequence_from 0 code ≡ sequence a b c d
@@ -157,6 +179,19 @@ module _ (a b c d : ℕ) where
         ne_eqb q 1210 n₃,
         ne_eqb q 1121 n₄,
       )
+
+-- the six patterns, by the number that each is
+module _ (a b c d : ℕ) where
+  pub unlike : (sequence a b c d ≡ 1200 → ⊥) → (sequence a b c d ≡ 1220 → ⊥) → (sequence a b c d ≡ 1120 → ⊥)
+      → (sequence a b c d ≡ 1122 → ⊥)
+      → (sequence a b c d ≡ 1210 → ⊥)
+      → (sequence a b c d ≡ 1121 → ⊥)
+      → 1 ≡ outward_fault (code a b c d)
+  unlike n₁ n₂ n₃ n₄ n₅ n₆ = sym (no-pattern a b c d (⊎_elim n₁ n₂) (⊎_elim n₃ n₄) n₅ n₆)
+
+-- what the classes of a code decide
+pub ruleset by_class =
+    (one-letter, two-letters, apart-letters, three-letters, unlike, class-to-3, not-letter, not-digit, not-padding)
 
 -- another length
 pub not-four : (s : List ℕ) → (length s ≡ 4 → ⊥) → outward_fault s ≡ 1

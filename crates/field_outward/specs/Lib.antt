@@ -1,3 +1,4 @@
 pub mod Letters
 pub mod Outward
 pub mod Inward
+pub mod Classes

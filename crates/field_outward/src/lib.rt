@@ -7,18 +7,31 @@ pub mod inner;
 ghost use Rattle.std.specs.Prelude.{◌≡◌, [], ◌∷◌, length};
 ghost use Rattle.field_outward.specs.Outward.{class, allowed, outward_fault};
 ghost use Rattle.field_outward.specs.Letters.{marked};
+ghost use Rattle.field_outward.specs.Classes.{number_of};
 
 use inner::unless;
 
-// What a byte of an outward code is: 1 a letter, 2 a digit, 0 padding, 3 none of these.
-fn class_of(b: u8) -> usize
-    ensures { result ≡ class b }
+// What a byte of an outward code is: padding, a letter, a digit, or none of these.
+#[derive(Clone, Copy, PartialEq, Eq)]
+enum Class {
+    Padding,
+    Letter,
+    Digit,
+    Other,
+}
+
+use Class::{Digit, Letter, Other, Padding};
+
+// The class of a byte.
+#[tactic(auto, unfolding(crate::specs::Outward::class))]
+fn class_of(b: u8) -> Class
+    ensures { number_of result ≡ class b }
 {
     match b {
-        b'A'..=b'Z' => 1,
-        b'0'..=b'9' => 2,
-        b' ' => 0,
-        _ => 3,
+        b'A'..=b'Z' => Letter,
+        b'0'..=b'9' => Digit,
+        b' ' => Padding,
+        _ => Other,
     }
 }
 
@@ -27,14 +40,11 @@ fn is_marked(row: &[u8], b: u8) -> bool
     requires { length row.now ≡ 26 }
     ensures { result ≡ marked row.now b }
 {
-    if field::is_letter(b) {
-        row[(b - 65) as usize] == b'+'
-    } else {
-        false
-    }
+    field::is_letter(b) && row[usize::from(b - b'A')] == b'+'
 }
 
 // Whether a letter may stand behind so many letters of an outward code: a row for the first, the second and the third.
+#[tactic(auto, unfolding(crate::specs::Outward::allowed))]
 fn is_allowed(before: usize, b: u8) -> bool
     ensures { result ≡ allowed before b }
 {
@@ -46,17 +56,23 @@ fn is_allowed(before: usize, b: u8) -> bool
     }
 }
 
-// The fault of a code of four bytes. The class sequence decides the pattern, and with it where the letters stand.
+// The fault of a code of four bytes. The classes of the bytes decide the pattern, and with it where the letters stand.
+#[tactic(auto, using(crate::proofs::Codes::by_class))]
 fn pattern_fault(a: u8, b: u8, c: u8, d: u8) -> usize
     ensures { result ≡ outward_fault (a ∷ b ∷ c ∷ d ∷ []) }
 {
-    let sequence = class_of(a) * 1000 + class_of(b) * 100 + class_of(c) * 10 + class_of(d);
     let first = is_allowed(0, a);
-    match sequence {
-        1200 | 1220 => unless(first, 1, 0),
-        1120 | 1122 => unless(first, 1, unless(is_allowed(1, b), 2, 0)),
-        1210 => unless(first, 1, unless(is_allowed(1, c), 3, 0)),
-        1121 => unless(
+    match (class_of(a), class_of(b), class_of(c), class_of(d)) {
+        // AN and ANN
+        (Letter, Digit, Padding | Digit, Padding) => unless(first, 1, 0),
+        // AAN and AANN
+        (Letter, Letter, Digit, Padding | Digit) => {
+            unless(first, 1, unless(is_allowed(1, b), 2, 0))
+        }
+        // ANA
+        (Letter, Digit, Letter, Padding) => unless(first, 1, unless(is_allowed(1, c), 3, 0)),
+        // AANA
+        (Letter, Letter, Digit, Letter) => unless(
             first,
             1,
             unless(is_allowed(1, b), 2, unless(is_allowed(2, d), 4, 0)),

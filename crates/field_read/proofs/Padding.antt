@@ -3,18 +3,20 @@
 use Prim.Native.Nat.{ℕ, ◌+◌, ◌-◌, ◌≤◌, ◌<◌}
 use mathlib.Core.Path.{◌≡◌, refl, sym, ap, ◌∙◌}
 use mathlib.Core.Bool.{Bool, true, false, cond, true≢false, ◌&&◌}
-use mathlib.Core.List.{List, [], ◌∷◌, ◌++◌}
+use mathlib.Core.List.{List, ◌++◌}
 use native.Mathlib.Omega.{arith}
-use native.Mathlib.Numerals.{add-one}
 use borrow.Author.Tests.{eq-eqb}
 use lib.Dec.{eqb}
-use lib.ListN.{length, take, drop, get_or}
+use lib.ListN.{length, get_or}
 use lib.Seq.{drop-cons}
 use Rattle.field.specs.Text.{blank, part, text_in}
 use Rattle.field.proofs.Tests.{and-true}
-use Rattle.field.proofs.Texts.{part_none, text-stop}
+use Rattle.field.proofs.Texts.{part_none, text-back, text-stop, text-none}
 use Rattle.field.proofs.Parts.{every_append, part_join, text-spaces}
 use Rattle.field_read.specs.Padding.{Padded}
+
+-- what the bytes of a text say, one after the other from its end
+pub ruleset from_end = (text-back, text-stop, text-none)
 
 -- what is not blank with spaces behind it is not blank without them
 blank-front : (s t : List ℕ) → blank t ≡ true → blank (s ++ t) ≡ false → blank s ≡ false

@@ -13,7 +13,11 @@ use field_word::inner::{are_digits, eight_blank, four_blank, value_at};
 fn digit_value(b: u8) -> usize
     ensures { result ≡ digit_value b }
 {
-    if is_digit(b) { (b - 48) as usize } else { 0 }
+    if is_digit(b) {
+        usize::from(b - b'0')
+    } else {
+        0
+    }
 }
 
 fn nine_digits(s: &[u8]) -> usize
@@ -21,10 +25,8 @@ fn nine_digits(s: &[u8]) -> usize
     ensures { result ≡ value_from 0 s.now }
 {
     let mut v = 0;
-    let mut i = 0;
-    while i < s.len() {
-        v = v * 10 + digit_value(s[i]);
-        i += 1;
+    for &b in s {
+        v = v * 10 + digit_value(b);
     }
     v
 }
@@ -68,13 +70,11 @@ fn value_of_nine(s: &[u8]) -> usize
 pub fn value_of(s: &[u8]) -> usize
     ensures { result ≡ value s.now }
 {
-    if s.len() == 8 {
-        return value_of_eight(s);
+    match s.len() {
+        8 => value_of_eight(s),
+        9 => value_of_nine(s),
+        _ => value_by_digits(s),
     }
-    if s.len() == 9 {
-        return value_of_nine(s);
-    }
-    value_by_digits(s)
 }
 
 // Whether each byte says 0 as a digit. No byte ends the loop, so that many are taken at once.
@@ -82,10 +82,8 @@ fn all_zero(s: &[u8]) -> bool
     ensures { result ≡ every zero_digit s.now }
 {
     let mut some = false;
-    let mut i = 0;
-    while i < s.len() {
-        some = some | (digit_value(s[i]) != 0);
-        i += 1;
+    for &b in s {
+        some |= digit_value(b) != 0;
     }
     !some
 }
@@ -102,16 +100,15 @@ pub fn says_zero(s: &[u8]) -> bool
 }
 
 // The text that a record has from `start` up to `end`, which lies in it, byte by byte.
+#[tactic(auto, using(crate::proofs::Padding::from_end))]
 fn text_by_bytes(rec: &[u8], start: usize, end: usize) -> &[u8]
     requires { end ≤ length rec.now }
     ensures { result.now ≡ text_in rec.now start end }
 {
-    let mut e = end;
-    while start < e {
-        if rec[e - 1] != 32 {
-            return &rec[start..e];
+    for i in (start..end).rev() {
+        if rec[i] != b' ' {
+            return &rec[start..i + 1];
         }
-        e -= 1;
     }
     &rec[..0]
 }
@@ -131,8 +128,8 @@ fn padded_from(rec: &[u8], end: usize) -> usize
     ensures { Padded rec.now end 1 result }
 {
     let four = less(end, 4, four_blank(rec, end - 4));
-    let two = less(four, 2, (rec[four - 2] == 32) & (rec[four - 1] == 32));
-    less(two, 1, rec[two - 1] == 32)
+    let two = less(four, 2, (rec[four - 2] == b' ') & (rec[four - 1] == b' '));
+    less(two, 1, rec[two - 1] == b' ')
 }
 
 // The text that a record has from `start` up to `end`, as a part of the record, its end before the padding. Eight bytes of
@@ -163,9 +160,5 @@ pub fn is_numeric_like(s: &[u8]) -> bool
         return n == 1;
     }
     let last = s[n - 1];
-    if is_digit(s[0]) {
-        is_digit(last) | (is_digit(s[n - 2]) & is_letter(last))
-    } else {
-        false
-    }
+    is_digit(s[0]) && (is_digit(last) | (is_digit(s[n - 2]) & is_letter(last)))
 }

@@ -1,16 +1,14 @@
 -- Laws of digits where a pattern wants them, and of texts without a fault.
 -- Assumes nothing.
-use Prim.Native.Nat.{ℕ, zero, suc, ◌+◌, ◌-◌, ◌≤◌, ◌<◌, min}
+use Prim.Native.Nat.{ℕ, zero, suc, ◌-◌, ◌≤◌, ◌<◌, min}
 use mathlib.Core.Path.{◌≡◌, refl, ◌∙◌}
-use mathlib.Core.Bool.{Bool, true, false, not, ◌&&◌, ◌||◌}
+use mathlib.Core.Bool.{Bool, true, false, not, ◌&&◌}
 use mathlib.Core.List.{List, [], ◌∷◌}
 use native.Mathlib.Omega.{arith}
 use native.Mathlib.Nat.{min-eq_left, min-eq_right}
-use native.Mathlib.Numerals.{add-one}
 use borrow.Author.Tests.{eq-eqb, leb-true, leb-false}
 use lib.Dec.{leb, eqb}
-use lib.ListN.{length, take, drop, get_or, drop_of_length-le}
-use lib.Seq.{drop-cons}
+use lib.ListN.{length, take, drop, drop_of_length-le}
 use Rattle.field.specs.Test.{every}
 use Rattle.field.specs.Digits.{digit, digits_fault}
 use Rattle.field.specs.Text.{text_byte, blank, starts_blank, text_fault, filled_fault, part}
@@ -18,18 +16,6 @@ use Rattle.field.proofs.Tests.{and_left, and_right, and-true}
 use Rattle.field.proofs.Texts.{text-blank, text-other, filled-other}
 use Rattle.field.proofs.Faults.{no-fault}
 use Rattle.field_test.specs.Pattern.{digits_where}
-
-gathered : (bad u rest : Bool) → not bad && (not u && rest) ≡ not (bad || u) && rest
-gathered true u rest = refl
-gathered false u rest = refl
-
--- one byte more of a loop that gathers
-pub where-step : (s pattern : List ℕ) (i : ℕ) (bad : Bool) → i < length s → i < length pattern
-    → not bad && digits_where (drop i s) (drop i pattern)
-    ≡ not (bad || (eqb (get_or pattern i 0) 57 && not (digit (get_or s i 0)))) && digits_where (drop (i + 1) s) (drop (i + 1) pattern)
-where-step s pattern i bad h k =
-    rw (add-one, drop-cons s i 0 h, drop-cons pattern i 0 k)
-    (gathered bad (eqb (get_or pattern i 0) 57 && not (digit (get_or s i 0))) (digits_where (drop (suc i) s) (drop (suc i) pattern)))
 
 no-pattern : (s : List ℕ) → digits_where s [] ≡ true
 no-pattern [] = refl

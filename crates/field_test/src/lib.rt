@@ -22,10 +22,8 @@ fn all_in(s: &[u8], low: u8, high: u8, from: u8, to: u8) -> bool
     ensures { result ≡ every (member low high from to) s.now }
 {
     let mut bad = false;
-    let mut i = 0;
-    while i < s.len() {
-        bad = bad | outside(s[i], low, high, from, to);
-        i += 1;
+    for &b in s {
+        bad |= outside(b, low, high, from, to);
     }
     !bad
 }
@@ -34,12 +32,10 @@ fn all_in(s: &[u8], low: u8, high: u8, from: u8, to: u8) -> bool
 fn first_out(s: &[u8], low: u8, high: u8, from: u8, to: u8) -> usize
     ensures { result ≡ first_fault (member low high from to) s.now }
 {
-    let mut i = 0;
-    while i < s.len() {
-        if outside(s[i], low, high, from, to) {
+    for (i, &b) in s.iter().enumerate() {
+        if outside(b, low, high, from, to) {
             return i + 1;
         }
-        i += 1;
     }
     0
 }
@@ -66,21 +62,21 @@ pub fn all_are(s: &[u8], b: u8) -> bool
 pub fn digits_fault(s: &[u8]) -> usize
     ensures { result ≡ digits_fault s.now }
 {
-    fault_of(s, 48, 57, 1, 0)
+    fault_of(s, b'0', b'9', 1, 0)
 }
 
 // Whether a text begins with a space, or has no byte at all.
 pub fn starts_blank(s: &[u8]) -> bool
     ensures { result ≡ starts_blank s.now }
 {
-    if s.len() == 0 { true } else { s[0] == 32 }
+    s.is_empty() || s[0] == b' '
 }
 
 // The first byte that may stand in no text.
 fn text_bytes_fault(s: &[u8]) -> usize
     ensures { result ≡ first_fault text_byte s.now }
 {
-    fault_of(s, 32, 126, 97, 122)
+    fault_of(s, b' ', b'~', b'a', b'z')
 }
 
 // The first fault of a text that may be blank.
@@ -88,7 +84,7 @@ pub fn text_fault(s: &[u8]) -> usize
     ensures { result ≡ text_fault s.now }
 {
     if starts_blank(s) {
-        if all_are(s, 32) { 0 } else { 1 }
+        if all_are(s, b' ') { 0 } else { 1 }
     } else {
         text_bytes_fault(s)
     }
@@ -109,12 +105,9 @@ pub fn filled_fault(s: &[u8]) -> usize
 pub fn digits_where(s: &[u8], pattern: &[u8]) -> bool
     ensures { result ≡ digits_where s.now pattern.now }
 {
-    let n = lesser(s.len(), pattern.len());
     let mut bad = false;
-    let mut i = 0;
-    while i < n {
-        bad = bad | ((pattern[i] == b'9') & outside(s[i], 48, 57, 1, 0));
-        i += 1;
+    for i in 0..lesser(s.len(), pattern.len()) {
+        bad |= (pattern[i] == b'9') & outside(s[i], b'0', b'9', 1, 0);
     }
     !bad
 }
@@ -123,12 +116,12 @@ pub fn digits_where(s: &[u8], pattern: &[u8]) -> bool
 pub fn are_digits(s: &[u8]) -> bool
     ensures { result ≡ every digit s.now }
 {
-    all_in(s, 48, 57, 1, 0)
+    all_in(s, b'0', b'9', 1, 0)
 }
 
 // Whether every byte may stand in a text: this looks for no place.
 pub fn are_text(s: &[u8]) -> bool
     ensures { result ≡ every text_byte s.now }
 {
-    all_in(s, 32, 126, 97, 122)
+    all_in(s, b' ', b'~', b'a', b'z')
 }

@@ -1,6 +1,6 @@
 -- Digits as bytes of a number: what they say, and that they weigh as they say.
 -- Assumes nothing.
-use Rattle.std.proofs.Common.{◌≡◌, ℕ, suc, ◌+◌, ◌-◌, ◌*◌, ◌/◌, ◌%◌, ◌^◌, ◌≤◌, Bool, true, false, ltb, List, [], ◌∷◌, ◌++◌, length, sym, refl, ap, ◌∙◌, ap₂, add_assoc, mul_assoc, add-mul, pow-suc, arith, length-append, ltb-false, ltb-true, le-ltb, lt-ltb}
+use Rattle.std.proofs.Common.{◌≡◌, ℕ, suc, ◌+◌, ◌-◌, ◌*◌, ◌/◌, ◌%◌, ◌^◌, ◌≤◌, Bool, true, false, ltb, List, [], ◌∷◌, ◌++◌, length, sym, refl, ◌∙◌, ap₂, add_assoc, mul_assoc, add-mul, pow-suc, arith, length-append, ltb-false, ltb-true, le-ltb, lt-ltb}
 use native.Mathlib.Nat.{pow-zero}
 use Rattle.field.specs.Test.{every}
 use Rattle.field.specs.Digits.{digit, digit_value, value_from}

@@ -1,7 +1,7 @@
 -- Laws of the check of a file.
 -- Assumes nothing.
 use Prim.Native.Nat.{ℕ, suc, ◌+◌, ◌-◌, ◌*◌, ◌≤◌, ◌<◌}
-use mathlib.Core.Path.{◌≡◌, refl, sym, ap, ◌∙◌}
+use mathlib.Core.Path.{◌≡◌, refl}
 use mathlib.Core.Bool.{true, false, ◌&&◌}
 use mathlib.Core.List.{List}
 use native.Mathlib.Omega.{arith}
@@ -12,8 +12,6 @@ use Rattle.field.proofs.Tests.{and_left, and_right}
 use Rattle.refusal.specs.Refusal.{malformed_at}
 use Rattle.refusal.specs.declared.Reason.{Reason}
 use Rattle.refusal.specs.declared.Reason.TheVariants.{Length, Header, Trailer, NotAbove, Follower}
-use Rattle.refusal.specs.declared.Verdict.{Verdict}
-use Rattle.refusal.specs.declared.Verdict.TheVariants.{Fine, Bad}
 use Rattle.file.specs.Check.{Format, records, whole, at, rises, in_place, judged, scan, verdict}
 use Rattle.file.specs.Formats.{format_of}
 use Rattle.file.specs.declared.Kind.{Kind}
@@ -29,6 +27,8 @@ use Rattle.file.specs.declared.MainKind.TheVariants.{
   Addresses,
 }
 use Rattle.file.specs.Mainfile.{main_limit, main_format}
+use Rattle.std.specs.Prelude.{Err}
+use Rattle.refusal.specs.Verdict.{Verdict, fine}
 
 -- what the files of a set have in common: "at most 1,000,000 records each", "6 doesn't occur"
 pub main-limit : (file : MainKind) → (main_format file).limit ≡ main_limit
@@ -79,57 +79,57 @@ module _ (f : Format) (file : List ℕ) (is_whole : whole f file ≡ true) where
 
 -- one record more of a scan up to `last`
 module _ (judge : ℕ → Verdict) (last i : ℕ) where
-  pub scan_step : i < last → judge i ≡ Fine → scan judge (last - i) i ≡ scan judge (last - (i + 1)) (i + 1)
+  pub scan_step : i < last → judge i ≡ fine → scan judge (last - i) i ≡ scan judge (last - (i + 1)) (i + 1)
   scan_step h e =
       let size : last - i ≡ suc (last - (i + 1)) = omega arith in
       let next : suc i ≡ i + 1 = omega arith in
       rw (size, e, next)
 
-  pub scan-stop : i < last → (why : Reason) → judge i ≡ Bad why → scan judge (last - i) i ≡ Bad why
+  pub scan-stop : i < last → (why : Reason) → judge i ≡ Err why → scan judge (last - i) i ≡ Err why
   scan-stop h why e =
       let size : last - i ≡ suc (last - (i + 1)) = omega arith in
       rw (size, e)
 
-  pub scan-end : last ≤ i → scan judge (last - i) i ≡ Fine
+  pub scan-end : last ≤ i → scan judge (last - i) i ≡ fine
   scan-end h = rw (let size : last - i ≡ 0 = omega arith in size)
 
 -- the four verdicts on a record
 module _ (f : Format) (file : List ℕ) (i : ℕ) where
   pub judged-malformed : (f.fault (at f file i) ≡ 0 → ⊥)
-      → judged f file i ≡ Bad (malformed_at (i + 1) (f.fault (at f file i)))
+      → judged f file i ≡ Err (malformed_at (i + 1) (f.fault (at f file i)))
   unfolding judged
   judged-malformed n = simp (ne_eqb (f.fault (at f file i)) 0 n)
 
   module _ (well_formed : f.fault (at f file i) ≡ 0) where
-    pub judged-falls : rises f file i ≡ false → judged f file i ≡ Bad (NotAbove (i + 1))
+    pub judged-falls : rises f file i ≡ false → judged f file i ≡ Err (NotAbove (i + 1))
     unfolding judged
     judged-falls e = simp (eq-eqb (f.fault (at f file i)) 0 well_formed, e)
 
     module _ (rising : rises f file i ≡ true) where
       pub judged-stray : in_place f file i ≡ false
-          → judged f file i ≡ Bad (Follower (i + 1))
+          → judged f file i ≡ Err (Follower (i + 1))
       unfolding judged
       judged-stray e = simp (eq-eqb (f.fault (at f file i)) 0 well_formed, rising, e)
 
       pub judged-fine : in_place f file i ≡ true
-          → judged f file i ≡ Fine
+          → judged f file i ≡ fine
       unfolding judged
       judged-fine e = simp (eq-eqb (f.fault (at f file i)) 0 well_formed, rising, e)
 
 -- the verdicts on a whole file
 module _ (f : Format) (file : List ℕ) where
-  pub verdict-length : whole f file ≡ false → verdict f file ≡ Bad Length
+  pub verdict-length : whole f file ≡ false → verdict f file ≡ Err Length
   unfolding verdict
   verdict-length e = simp e
 
   module _ (is_whole : whole f file ≡ true) where
-    pub verdict-header : f.headed (at f file 0) ≡ false → verdict f file ≡ Bad Header
+    pub verdict-header : f.headed (at f file 0) ≡ false → verdict f file ≡ Err Header
     unfolding verdict
     verdict-header e = simp (is_whole, e)
 
     module _ (head : f.headed (at f file 0) ≡ true) where
       pub verdict-trailer : f.ended (records f file) (at f file (records f file - 1)) ≡ false
-          → verdict f file ≡ Bad (Trailer (records f file))
+          → verdict f file ≡ Err (Trailer (records f file))
       unfolding verdict
       verdict-trailer e = simp (is_whole, head, e)
 

@@ -1,15 +1,15 @@
 -- Laws of owners and followers, by the place of the owner.
 -- Assumes nothing.
 use Prim.Native.Nat.{ℕ, ◌+◌, ◌-◌, ◌≤◌}
-use mathlib.Core.Path.{◌≡◌, refl, sym, ap, ◌∙◌}
+use mathlib.Core.Path.{◌≡◌, refl, sym, ◌∙◌}
 use mathlib.Core.Bool.{Bool, true, false, cond, not, ◌&&◌, ◌||◌}
 use mathlib.Core.List.{List, [], ◌∷◌}
 use native.Mathlib.Omega.{arith}
 use borrow.Author.Tests.{eqb-true, eqb-false, eq-eqb, ne_eqb}
 use lib.Dec.{eqb}
-use lib.ListN.{length, get_or}
+use lib.ListN.{get_or}
 use Rattle.field.specs.Test.{every, only}
-use Rattle.field.specs.Digits.{digit, digit_value, zero_digit, value}
+use Rattle.field.specs.Digits.{digit, digit_value, zero_digit}
 use Rattle.field.specs.Text.{part}
 use Rattle.field.proofs.Tests.{and_left, and_right}
 use Rattle.field.proofs.Texts.{part-bound}

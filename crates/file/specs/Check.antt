@@ -7,12 +7,10 @@ use Rattle.file_record.specs.Parts.{record_at}
 use Rattle.file_compare.specs.Order.{above}
 use Rattle.refusal.specs.Refusal.{malformed_at}
 use Rattle.refusal.specs.Verdict.{or_else}
-use Rattle.refusal.specs.declared.Reason.{Reason}
 use Rattle.refusal.specs.declared.Reason.TheVariants.{Length, Header, Trailer, NotAbove, Follower}
-use Rattle.refusal.specs.declared.Answer.{Answer}
-use Rattle.refusal.specs.declared.Answer.TheVariants.{Value, Refused}
-use Rattle.refusal.specs.declared.Verdict.{Verdict}
-use Rattle.refusal.specs.declared.Verdict.TheVariants.{Fine, Bad}
+use Rattle.std.specs.Prelude.{Ok, Err}
+use Rattle.refusal.specs.Answer.{Answer, refusal}
+use Rattle.refusal.specs.Verdict.{Verdict, fine}
 
 pub record Format : Type 0 where
   -- the file to blame
@@ -63,13 +61,13 @@ module _ (f : Format) (file : List ℕ) where
   judged i =
       cond (eqb (f.fault (at i)) 0)
       (cond (rises i)
-      (cond (in_place i) Fine (Bad (Follower (i + 1))))
-      (Bad (NotAbove (i + 1))))
-      (Bad (malformed_at (i + 1) (f.fault (at i))))
+      (cond (in_place i) fine (Err (Follower (i + 1))))
+      (Err (NotAbove (i + 1))))
+      (Err (malformed_at (i + 1) (f.fault (at i))))
 
 -- the first refusal of k records from i on
 abbrev pub scan : (ℕ → Verdict) → ℕ → ℕ → Verdict
-scan judge zero i = Fine
+scan judge zero i = fine
 scan judge (suc k) i = or_else (judge i) (scan judge k (suc i))
 
 module _ (f : Format) (file : List ℕ) where
@@ -79,13 +77,13 @@ module _ (f : Format) (file : List ℕ) where
       (cond (f.headed (at f file 0))
       (cond (f.ended (records f file) (at f file (records f file - 1)))
       (scan (judged f file) (records f file - 2) 1)
-      (Bad (Trailer (records f file))))
-      (Bad Header))
-      (Bad Length)
+      (Err (Trailer (records f file))))
+      (Err Header))
+      (Err Length)
 
   abbrev pub answered : Verdict → Answer
-  answered Fine = Value (records f file)
-  answered (Bad why) = Refused f.file why
+  answered (Ok _) = Ok (records f file)
+  answered (Err why) = refusal f.file why
 
   -- how many records an accepted file has, or its first refusal
   unfoldable pub checked : Answer

@@ -11,5 +11,5 @@ pub fn is_front_above(n: usize, before: &[u8], rec: &[u8]) -> bool
         file_record::part_of(rec, 0, n),
         file_record::part_of(before, 0, n),
     );
-    order == 2
+    order.is_gt()
 }

@@ -24,7 +24,7 @@ use file_formats::inner::{
     record_in, records_in,
 };
 use file_record::Cursor;
-use refusal::{Answer, Reason, Verdict};
+use refusal::{Answer, Reason, Refusal, Verdict};
 
 // Record `i`, counted from 0, between header and trailer: 4, then 5, then 6.
 fn judge(kind: Kind, file: &[u8], i: usize) -> Verdict
@@ -34,16 +34,16 @@ fn judge(kind: Kind, file: &[u8], i: usize) -> Verdict
     let rec = record_in(kind, file, i);
     let fault = fault_in(kind, rec);
     if fault != 0 {
-        return Verdict::Bad(refusal::malformed(i + 1, fault));
+        return Err(refusal::malformed(i + 1, fault));
     }
     let before = record_in(kind, file, i - 1);
     if !is_above(kind, i, before, rec) {
-        return Verdict::Bad(Reason::NotAbove { record: i + 1 });
+        return Err(Reason::NotAbove { record: i + 1 });
     }
     if is_between(kind, file, i) {
-        Verdict::Fine
+        Ok(())
     } else {
-        Verdict::Bad(Reason::Follower { record: i + 1 })
+        Err(Reason::Follower { record: i + 1 })
     }
 }
 
@@ -52,14 +52,12 @@ fn standing(kind: Kind, file: &[u8], n: usize, from: usize) -> usize
     requires { Scanning (format_of kind) file.now n from }
     ensures { Onward (format_of kind) file.now n from result }
 {
-    let mut i = from;
-    while i < n - 1 {
+    for i in from..n - 1 {
         if !is_standing(kind, file, i) {
             return i;
         }
-        i += 1;
     }
-    i
+    n - 1
 }
 
 // The first refusal of the records between header and trailer.
@@ -70,15 +68,10 @@ fn scan_records(kind: Kind, file: &[u8], n: usize) -> Verdict
     let start = Cursor::fresh();
     let mut i = standing(kind, file, n, start.at);
     while i < n - 1 {
-        match judge(kind, file, i) {
-            Verdict::Fine => {}
-            Verdict::Bad(why) => {
-                return Verdict::Bad(why);
-            }
-        }
+        judge(kind, file, i)?;
         i = standing(kind, file, n, i + 1);
     }
-    Verdict::Fine
+    Ok(())
 }
 
 // The first refusal of a file: 1, 2, 3, then record by record.
@@ -86,14 +79,14 @@ fn verdict_of(kind: Kind, file: &[u8]) -> Verdict
     ensures { result ≡ verdict (format_of kind) file.now }
 {
     if !is_whole(kind, file) {
-        return Verdict::Bad(Reason::Length);
+        return Err(Reason::Length);
     }
     let n = records_in(kind, file);
     if !is_header(kind, record_in(kind, file, 0)) {
-        return Verdict::Bad(Reason::Header);
+        return Err(Reason::Header);
     }
     if !is_trailer(kind, record_in(kind, file, n - 1), n) {
-        return Verdict::Bad(Reason::Trailer { record: n });
+        return Err(Reason::Trailer { record: n });
     }
     scan_records(kind, file, n)
 }
@@ -102,13 +95,12 @@ fn verdict_of(kind: Kind, file: &[u8]) -> Verdict
 fn check(kind: Kind, file: &[u8]) -> Answer
     ensures { result ≡ checked (format_of kind) file.now }
 {
-    let format = numbers_of(kind);
     match verdict_of(kind, file) {
-        Verdict::Fine => Answer::Value(records_in(kind, file)),
-        Verdict::Bad(reason) => Answer::Refused {
-            file: format.file,
+        Ok(()) => Ok(records_in(kind, file)),
+        Err(reason) => Err(Refusal {
+            file: numbers_of(kind).file,
             reason,
-        },
+        }),
     }
 }
 

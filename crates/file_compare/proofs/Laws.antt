@@ -1,50 +1,24 @@
 -- Laws of bytes compared.
 -- Assumes nothing.
 use Prim.Native.Nat.{ℕ, suc, ◌+◌, ◌-◌, ◌≤◌, ◌<◌}
-use mathlib.Core.Path.{◌≡◌, refl, sym, ap, ◌∙◌}
-use mathlib.Core.Bool.{Bool, true, false, cond, false≢true, not, ◌&&◌, ◌||◌}
+use mathlib.Core.Path.{◌≡◌, refl, ap, ◌∙◌}
+use mathlib.Core.Bool.{Bool, true, false, cond, not, ◌&&◌, ◌||◌}
 use mathlib.Core.List.{List, [], ◌∷◌}
 use native.Mathlib.Omega.{arith}
 use native.Mathlib.Numerals.{add-one}
-use borrow.Author.Tests.{lt-ltb, le-ltb, eqb-true, eq-eqb, ne_eqb}
+use borrow.Author.Tests.{lt-ltb, le-ltb, eq-eqb, ne_eqb}
 use lib.Dec.{eqb}
 use lib.ListN.{length, drop, get_or, drop_of_length-le}
 use lib.Seq.{drop-cons}
-use Rattle.field.proofs.Tests.{and_left, and_right, and-true, and-false}
+use Rattle.field.proofs.Tests.{and-true, and-false}
 use Rattle.file_compare.specs.Order.{order, same}
 use Rattle.file_compare.proofs.Order.{by_bytes, first-same}
 
--- the bytes of two lists compared one by one
-module _ (a b : List ℕ) (i : ℕ) (in_a : i < length a) where
-  pub order-short : length b ≤ i → order (drop i a) (drop i b) ≡ 2
-  order-short h = simp (drop-cons a i 0 in_a, drop_of_length-le b h)
-
-  module _ (in_b : i < length b) where
-    pub order_below : get_or a i 0 < get_or b i 0 → order (drop i a) (drop i b) ≡ 1
-    order_below h = simp (drop-cons a i 0 in_a, drop-cons b i 0 in_b, lt-ltb (get_or a i 0) (get_or b i 0) h)
-
-    pub order-above : get_or b i 0 ≤ get_or a i 0 → get_or b i 0 < get_or a i 0 → order (drop i a) (drop i b) ≡ 2
-    order-above g h =
-        simp (
-          drop-cons a i 0 in_a,
-          drop-cons b i 0 in_b,
-          le-ltb (get_or a i 0) (get_or b i 0) g,
-          lt-ltb (get_or b i 0) (get_or a i 0) h,
-        )
-
-    pub order-step : get_or b i 0 ≤ get_or a i 0 → get_or a i 0 ≤ get_or b i 0
-        → order (drop i a) (drop i b) ≡ order (drop (i + 1) a) (drop (i + 1) b)
-    order-step g h =
-        simp (
-          add-one,
-          drop-cons a i 0 in_a,
-          drop-cons b i 0 in_b,
-          le-ltb (get_or a i 0) (get_or b i 0) g,
-          le-ltb (get_or b i 0) (get_or a i 0) h,
-        )
-
-pub order-end-below : (a b : List ℕ) (i : ℕ) → length a ≤ i → i < length b → order (drop i a) (drop i b) ≡ 1
-order-end-below a b i h k = simp (drop_of_length-le a h, drop-cons b i 0 k)
+-- a byte that is the same in both, and none
+pub order-step : (a b : List ℕ) (i : ℕ) → i < length a → i < length b → get_or a i 0 ≡ get_or b i 0
+    → order (drop i a) (drop i b) ≡ order (drop (i + 1) a) (drop (i + 1) b)
+order-step a b i in_a in_b e =
+    rw (add-one, drop-cons a i 0 in_a, drop-cons b i 0 in_b) (first-same (get_or a i 0) (get_or b i 0) (drop (suc i) a) (drop (suc i) b) e)
 
 pub order-end-same : (a b : List ℕ) (i : ℕ) → length a ≤ i → length b ≤ i → order (drop i a) (drop i b) ≡ 0
 order-end-same a b i h k = simp (drop_of_length-le a h, drop_of_length-le b k)

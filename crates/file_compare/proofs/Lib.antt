@@ -1,4 +1,5 @@
 pub mod Order
+pub mod Orderings
 pub mod Laws
 pub mod Digits
 pub mod Words

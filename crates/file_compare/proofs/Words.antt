@@ -7,7 +7,7 @@ use mathlib.Core.List.{List, [], ◌∷◌, ◌++◌}
 use native.Mathlib.Omega.{arith}
 use borrow.Author.Tests.{lt-ltb, le-ltb, eq-eqb}
 use lib.Dec.{ltb, eqb}
-use lib.ListN.{length, take, drop, get_or, take-append-drop}
+use lib.ListN.{length, drop, get_or, take-append-drop}
 use lib.Seq.{drop-drop}
 use Rattle.field.specs.Text.{part}
 use Rattle.field_word.specs.Word.{weight, Bytes, Word, Weight}
@@ -119,5 +119,5 @@ module _ (a b : List ℕ) (in_a : length a ≡ 41) (in_b : length b ≡ 41) wher
   same-to-the-end on e =
       eq-eqb (order a b) 0
       (on
-      ∙ (order-step a b 40 (omega arith) (omega arith) (omega arith) (omega arith)
+      ∙ (order-step a b 40 (omega arith) (omega arith) e
       ∙ order-end-same a b 41 (omega arith) (omega arith)))

@@ -3,7 +3,6 @@ ghost use Rattle.std.specs.Prelude.{◌≡◌, true, ◌≤◌, length};
 ghost use Rattle.file_compare.specs.Order.{same, above, SameFront};
 
 use crate::{eight_same, eights, order_of, same_forty};
-use field::lesser;
 use field_word::inner::weight_at;
 
 // Whether the first is above the second, which have a front of `i` bytes in common: mostly eight bytes decide.
@@ -11,14 +10,14 @@ fn is_above_behind(a: &[u8], b: &[u8], i: usize) -> bool
     requires { SameFront a.now b.now i }
     ensures { result ≡ above a.now b.now }
 {
-    if i + 8 <= lesser(a.len(), b.len()) {
+    if i + 8 <= a.len().min(b.len()) {
         let x = weight_at(a, i);
         let y = weight_at(b, i);
         if x != y {
             return y < x;
         }
     }
-    order_of(a, b) == 2
+    order_of(a, b).is_gt()
 }
 
 // Whether the first is above the second, of 24 bytes.

@@ -4,11 +4,12 @@
 mod above;
 pub mod inner;
 
-ghost use Rattle.std.specs.Prelude.{◌≡◌, true, cond, ◌+◌, ◌≤◌, eqb, length, drop};
-ghost use Rattle.file_compare.specs.Order.{order, same, SameFront};
+ghost use Rattle.std.specs.Prelude.{◌≡◌, true, cond, ◌+◌, ◌≤◌, length, drop};
+ghost use Rattle.std.specs.Ordering.{ordering_then};
+ghost use Rattle.file_compare.specs.Order.{order, ordering, same, SameFront};
 
-use field::lesser;
 use field_word::inner::{eight_at, weight_at};
+use std::cmp::Ordering;
 
 // Whether the eight bytes from `i` on are the same in both.
 fn eight_same(a: &[u8], b: &[u8], i: usize) -> bool
@@ -23,15 +24,13 @@ fn eight_same(a: &[u8], b: &[u8], i: usize) -> bool
 fn same_front(a: &[u8], b: &[u8]) -> usize
     ensures { SameFront a.now b.now result }
 {
-    let n = lesser(a.len(), b.len());
-    let mut i = 0;
-    while i + 8 <= n {
-        if !eight_same(a, b, i) {
-            return i;
+    let n = a.len().min(b.len()) / 8;
+    for k in 0..n {
+        if !eight_same(a, b, k * 8) {
+            return k * 8;
         }
-        i += 8;
     }
-    i
+    n * 8
 }
 
 // A front by eights: eight bytes and what is the same behind them, or nothing.
@@ -58,59 +57,37 @@ fn same_forty(a: &[u8], b: &[u8]) -> usize
 fn front_of(a: &[u8], b: &[u8]) -> usize
     ensures { SameFront a.now b.now result }
 {
-    if 40 <= lesser(a.len(), b.len()) {
+    if 40 <= a.len().min(b.len()) {
         same_forty(a, b)
     } else {
         same_front(a, b)
     }
 }
 
-// How the eight bytes from `i` on compare: 0 where they are the same, so that what is behind them decides.
-fn eight_order(a: &[u8], b: &[u8], i: usize) -> usize
+// How the eight bytes from `i` on compare: where they are the same, what is behind them decides.
+fn eight_order(a: &[u8], b: &[u8], i: usize) -> Ordering
     requires { (i + 8 ≤ length a.now) × (i + 8 ≤ length b.now) }
-    ensures { order (drop i a.now) (drop i b.now)
-        ≡ cond (eqb result 0) (order (drop (i + 8) a.now) (drop (i + 8) b.now)) result }
+    ensures { ordering (order (drop i a.now) (drop i b.now))
+        ≡ ordering_then result (ordering (order (drop (i + 8) a.now) (drop (i + 8) b.now))) }
 {
-    let x = weight_at(a, i);
-    let y = weight_at(b, i);
-    if x < y { 1 } else { if y < x { 2 } else { 0 } }
+    weight_at(a, i).cmp(&weight_at(b, i))
 }
 
-// How what stands from `i` on compares, byte by byte.
-fn order_from(a: &[u8], b: &[u8], i: usize) -> usize
-    requires { (i ≤ length a.now) × (i ≤ length b.now) }
-    ensures { result ≡ order (drop i a.now) (drop i b.now) }
+// How two slices compare as bytes.
+pub fn order_of(a: &[u8], b: &[u8]) -> Ordering
+    ensures { result ≡ ordering (order a.now b.now) }
 {
-    let mut at = i;
-    while at < a.len() {
-        if b.len() <= at {
-            return 2;
-        }
-        if a[at] < b[at] {
-            return 1;
-        }
-        if b[at] < a[at] {
-            return 2;
-        }
-        at += 1;
-    }
-    if at < b.len() { 1 } else { 0 }
-}
-
-// How two slices compare as bytes: 0 the same, 1 the first below the second, 2 above it.
-pub fn order_of(a: &[u8], b: &[u8]) -> usize
-    ensures { result ≡ order a.now b.now }
-{
-    let n = lesser(a.len(), b.len());
-    let mut i = front_of(a, b);
-    while i + 8 <= n {
-        let here = eight_order(a, b, i);
-        if here != 0 {
+    let front = front_of(a, b);
+    let x = &a[front..];
+    let y = &b[front..];
+    let n = x.len().min(y.len()) / 8;
+    for k in 0..n {
+        let here = eight_order(x, y, k * 8);
+        if here.is_ne() {
             return here;
         }
-        i += 8;
     }
-    order_from(a, b, i)
+    x[n * 8..].cmp(&y[n * 8..])
 }
 
 // Whether two slices are the same. No byte ends the loop, so that many are taken at once.
@@ -121,10 +98,8 @@ pub fn same_bytes(a: &[u8], b: &[u8]) -> bool
         return false;
     }
     let mut other = false;
-    let mut i = 0;
-    while i < a.len() {
-        other = other | (a[i] != b[i]);
-        i += 1;
+    for (x, y) in a.iter().zip(b) {
+        other |= *x != *y;
     }
     !other
 }

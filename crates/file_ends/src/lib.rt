@@ -2,19 +2,28 @@
 #![tactic(auto)]
 
 ghost use Rattle.std.specs.Prelude.{◌≡◌};
-ghost use Rattle.file_ends.specs.Ends.{identifier, header_ok, trailer_ok};
+ghost use Rattle.file_ends.specs.Ends.{identifier, identified, header_ok, trailer_ok};
 
 use file_compare::order_of;
 use file_record::part_of;
 
-// An identifier: 1 proper, 2 spaces, 0 neither.
-pub fn identifier_of(s: &[u8], proper: u8) -> usize
-    ensures { result ≡ identifier proper s.now }
+// What may stand as an identifier.
+#[derive(Clone, Copy)]
+pub enum Identifier {
+    Proper,
+    Spaces,
+}
+
+// The identifier that some bytes are, all of them the proper byte or all of them spaces.
+pub fn identifier_of(s: &[u8], proper: u8) -> Option<Identifier>
+    ensures { result ≡ identified (identifier proper s.now) }
 {
     if field_test::all_are(s, proper) {
-        1
+        Some(Identifier::Proper)
+    } else if field_test::all_are(s, b' ') {
+        Some(Identifier::Spaces)
     } else {
-        if field_test::all_are(s, b' ') { 2 } else { 0 }
+        None
     }
 }
 
@@ -25,7 +34,7 @@ pub fn header_ok(rec: &[u8], width: u8, name: &[u8]) -> bool
     let end = width as usize;
     let kind = identifier_of(part_of(rec, 0, end), 0);
     let order = order_of(part_of(rec, end, end + 8), name);
-    (kind != 0) & (order == 0)
+    kind.is_some() & order.is_eq()
 }
 
 // Whether a trailer has an identifier of `width` bytes and the number of records behind it.
@@ -37,5 +46,5 @@ pub fn trailer_ok(rec: &[u8], width: u8, records: usize) -> bool
     let count = part_of(rec, end, end + 8);
     let fault = field_test::digits_fault(count);
     let value = field_read::value_of(count);
-    (kind != 0) & ((fault == 0) & (value == records))
+    kind.is_some() & ((fault == 0) & (value == records))
 }

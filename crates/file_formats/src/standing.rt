@@ -1,9 +1,9 @@
 // Whether a record is known to stand as it must: asked without a place and without a reason, since nearly all do.
 ghost use Rattle.std.specs.Prelude.{◌≡◌, true, get_or};
-ghost use Rattle.refusal.specs.declared.Verdict.TheVariants.{Fine};
 ghost use Rattle.file.specs.Check.{at, judged};
 ghost use Rattle.file.specs.Formats.{format_of, table_format, point_format};
 ghost use Rattle.file.specs.Walk.{Walk};
+ghost use Rattle.refusal.specs.Verdict.{fine};
 
 use changes_points::inner::is_fine_follower;
 use file::Kind;
@@ -15,7 +15,7 @@ use file_record::{Point, Table, byte_of, part_of};
 // A row of a table file.
 fn is_standing_row(file: &[u8], i: usize) -> bool
     requires { Walk table_format file.now i }
-    ensures { result ≡ true → judged table_format file.now i ≡ Fine }
+    ensures { result ≡ true → judged table_format file.now i ≡ fine }
 {
     let rec = whole_record(file, Table::WIDTH, i);
     if !changes_table::inner::is_fine(rec) {
@@ -32,7 +32,7 @@ fn is_standing_row(file: &[u8], i: usize) -> bool
 // A view of a point file.
 fn is_standing_view(file: &[u8], i: usize) -> bool
     requires { Walk point_format file.now i × (get_or (at point_format file.now i) 41 0 ≡ 49) }
-    ensures { result ≡ true → judged point_format file.now i ≡ Fine }
+    ensures { result ≡ true → judged point_format file.now i ≡ fine }
 {
     let rec = whole_record(file, Point::WIDTH, i);
     let before = whole_record(file, Point::WIDTH, i - 1);
@@ -52,7 +52,7 @@ fn is_standing_view(file: &[u8], i: usize) -> bool
 // A follower: the record before it is judged already, and where that needs one, this is the one.
 fn is_standing_follower(file: &[u8], i: usize) -> bool
     requires { Walk point_format file.now i × (get_or (at point_format file.now i) 41 0 ≡ 49 → ⊥) }
-    ensures { result ≡ true → judged point_format file.now i ≡ Fine }
+    ensures { result ≡ true → judged point_format file.now i ≡ fine }
 {
     let before = whole_record(file, Point::WIDTH, i - 1);
     if (i == 1) | (file::needed_next(before) == 0) {
@@ -63,7 +63,7 @@ fn is_standing_follower(file: &[u8], i: usize) -> bool
 
 fn is_standing_point(file: &[u8], i: usize) -> bool
     requires { Walk point_format file.now i }
-    ensures { result ≡ true → judged point_format file.now i ≡ Fine }
+    ensures { result ≡ true → judged point_format file.now i ≡ fine }
 {
     if byte_of(whole_record(file, Point::WIDTH, i), Point::TYPE) == b'1' {
         is_standing_view(file, i)
@@ -75,7 +75,7 @@ fn is_standing_point(file: &[u8], i: usize) -> bool
 // Record `i`, where the one before it is judged fine or is the header.
 pub fn is_standing(kind: Kind, file: &[u8], i: usize) -> bool
     requires { Walk (format_of kind) file.now i }
-    ensures { result ≡ true → judged (format_of kind) file.now i ≡ Fine }
+    ensures { result ≡ true → judged (format_of kind) file.now i ≡ fine }
 {
     match kind {
         Kind::Table => is_standing_row(file, i),

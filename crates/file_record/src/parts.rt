@@ -7,14 +7,13 @@ ghost use Rattle.file_record.specs.Names.Table.{width as tableWidth};
 ghost use Rattle.file_record.specs.Names.Point.{width as point_width};
 
 use crate::layout::{Point, Table};
-use field::lesser;
 
 // The bytes from `start` up to `end`, as a part of the record.
 pub fn part_of(rec: &[u8], start: usize, end: usize) -> &[u8]
     ensures { result.now ≡ part rec.now start end }
 {
-    let e = lesser(end, rec.len());
-    if start < e { &rec[start..e] } else { &rec[..0] }
+    let e = end.min(rec.len());
+    &rec[start.min(e)..e]
 }
 
 // Record `i` of a file that has so many records of this width, counted from 0, as a part of the file.
@@ -52,5 +51,5 @@ pub fn point_record(file: &[u8], i: usize) -> &[u8]
 pub fn byte_of(rec: &[u8], at: usize) -> u8
     ensures { result ≡ get_or rec.now at 0 }
 {
-    if at < rec.len() { rec[at] } else { 0 }
+    rec.get(at).copied().unwrap_or(0)
 }

@@ -11,8 +11,6 @@ use lib.ListN.{length, take, drop, length-append, length-drop, take-append-drop}
 use lib.Seq.{length-take-le, drop_at, drop-drop}
 use Rattle.refusal.specs.declared.Reason.{Reason}
 use Rattle.refusal.specs.declared.Reason.TheVariants.{NoSuchNumber, Combination, MissingKey, Room}
-use Rattle.refusal.specs.declared.Answer.{Answer}
-use Rattle.refusal.specs.declared.Answer.TheVariants.{Value, Refused}
 use Rattle.refusal.specs.Outcome.{Outcome, said}
 use Rattle.refusal.specs.Refusal.{number, detail}
 use Rattle.refusal.proofs.Outcomes.{said-as, answer-of}
@@ -24,32 +22,34 @@ use Rattle.label.proofs.Room.{Fitting, fits, short, fitting, room_fits, room-sho
 use Rattle.item.specs.Lines.{refused_line}
 use Rattle.item.specs.Item.{resolved_text}
 use Rattle.item_write.specs.Headed.{before, over_label, over_refusal, headed, Small}
+use Rattle.std.specs.Prelude.{Ok}
+use Rattle.refusal.specs.Answer.{Answer, refusal}
 
 -- ---- what the code finds
 
 module _ (heading : List ℕ) (label : ℕ) (out : List ℕ) where
   pub label-short : length out < length heading
-      → said (Refused 0 (Room (length heading + label))) out ≡ over_label heading label out
+      → said (refusal 0 (Room (length heading + label))) out ≡ over_label heading label out
   unfolding over_label
   label-short h = simp (lt-leb (length heading) (length out) h)
 
   pub label-headed : length heading ≤ length out → {r : ℕ} {x : List ℕ} → Put heading out 0 r x
-      → said (Value (r + label)) x ≡ over_label heading label out
+      → said (Ok (r + label)) x ≡ over_label heading label out
   unfolding over_label
   label-headed h v =
       let z : 0 + length heading ≡ length heading = omega arith in
-      said-as (ap (λ (n : ℕ). Value (n + label)) (v.size ∙ z))
+      said-as (ap (λ (n : ℕ). Ok (n + label)) (v.size ∙ z))
       (v.is ∙ ap (λ (n : ℕ). heading ++ drop n out) z)
       ∙ simp (le-leb (length heading) (length out) h)
 
 module _ (heading : List ℕ) (why : Reason) (out : List ℕ) where
   pub refusal-room : number why ≡ 10 → {needed : ℕ} → needed ≡ detail why
-      → said (Refused 0 (Room (length heading + needed))) out ≡ over_refusal heading why out
+      → said (refusal 0 (Room (length heading + needed))) out ≡ over_refusal heading why out
   unfolding over_refusal
   refusal-room e d = rw d (simp (eq-eqb (number why) 10 e))
 
   module _ (fits : number why ≡ 10 → ⊥) where
-    pub refusal-none : number why ≡ 7 → said (Refused 0 NoSuchNumber) out ≡ over_refusal heading why out
+    pub refusal-none : number why ≡ 7 → said (refusal 0 NoSuchNumber) out ≡ over_refusal heading why out
     unfolding over_refusal
     refusal-none e = simp (ne_eqb (number why) 10 fits, eq-eqb (number why) 7 e)
 
@@ -115,7 +115,7 @@ module _ (heading out : List ℕ) where
       (drop-drop (length text) (length heading) out ∙ ap (λ (n : ℕ). drop n out) (sym both))
       ∙ sym (append_assoc heading text (drop (length (heading ++ text)) out)) in
       simp (le-leb (length heading) (length (front ++ rest)) there)
-      (said-as (ap Value (sym both))
+      (said-as (ap Ok (sym both))
       (ap (λ (l : List ℕ). heading ++ l) (drop_at front rest (length heading) sized) ∙ memory)
       ∙ sym (room_fits (heading ++ text) out room))
 
@@ -126,7 +126,7 @@ module _ (heading out : List ℕ) where
   over-short [] h k =
       ap (over_label heading 0) (take-append-drop (length out) out)
       ∙ (sym (label-short heading 0 out h)
-      ∙ (said-as (ap (λ (n : ℕ). Refused 0 (Room n)) (sym (length-append heading []))) refl
+      ∙ (said-as (ap (λ (n : ℕ). refusal 0 (Room n)) (sym (length-append heading []))) refl
       ∙ sym (room-short (heading ++ []) out (omega (arith, length-append heading [])))))
   over-short (x ∷ xs) h k = absurd (omega (arith, length-drop (length out) out))
 
@@ -150,7 +150,7 @@ module _ (heading out : List ℕ) where
   room-over text k =
       ap (over_refusal heading (Room (length text))) (take-append-drop cut out)
       ∙ (sym (refusal-room heading (Room (length text)) out refl refl)
-      ∙ (said-as (ap (λ (n : ℕ). Refused 0 (Room n)) (sym (length-append heading text))) refl
+      ∙ (said-as (ap (λ (n : ℕ). refusal 0 (Room n)) (sym (length-append heading text))) refl
       ∙ sym
       (room-short (heading ++ text) out
       (omega (arith, length-append heading text, length-drop cut out, cut_below, cut-within)))))
@@ -176,8 +176,8 @@ module _ (heading out : List ℕ) where
       ap (λ (o : Outcome Answer). headed heading o.answer (take cut out ++ o.memory)) e ∙ resolved-over r t
 
   -- there is none of that number
-  pub none_over : {a : Answer} {y : List ℕ} → said a y ≡ said (Refused 0 NoSuchNumber) (drop cut out)
-      → headed heading a (take cut out ++ y) ≡ said (Refused 0 NoSuchNumber) out
+  pub none_over : {a : Answer} {y : List ℕ} → said a y ≡ said (refusal 0 NoSuchNumber) (drop cut out)
+      → headed heading a (take cut out ++ y) ≡ said (refusal 0 NoSuchNumber) out
   none_over e =
       ap (λ (o : Outcome Answer). headed heading o.answer (take cut out ++ o.memory)) e
       ∙ (ap (over_refusal heading NoSuchNumber) (take-append-drop cut out)
@@ -203,7 +203,7 @@ pub item-small : (r : Resolved) (out : List ℕ) → Telling r → Bounded r →
     → Small a
 item-small r out t h e = rw (answer-of e) (resolved-small r out t h)
 
-pub none-small : {a : Answer} {y out : List ℕ} → said a y ≡ said (Refused 0 NoSuchNumber) out → Small a
+pub none-small : {a : Answer} {y out : List ℕ} → said a y ≡ said (refusal 0 NoSuchNumber) out → Small a
 none-small e = rw (answer-of e) (λ ten. absurd (omega (arith, ten)))
 
 -- what an address resolves to is told by a line, and no longer than its label

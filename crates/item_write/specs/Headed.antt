@@ -3,12 +3,12 @@
 use Rattle.std.specs.Prelude.{ℕ, ◌+◌, ◌≤◌, ◌≡◌, cond, List, ◌++◌, eqb, leb, length, drop}
 use Rattle.refusal.specs.declared.Reason.{Reason}
 use Rattle.refusal.specs.declared.Reason.TheVariants.{NoSuchNumber, Room}
-use Rattle.refusal.specs.declared.Answer.{Answer}
-use Rattle.refusal.specs.declared.Answer.TheVariants.{Value, Refused}
 use Rattle.refusal.specs.Outcome.{Outcome, said}
 use Rattle.refusal.specs.Refusal.{number, detail}
 use Rattle.label.specs.Label.{room_outcome}
 use Rattle.item.specs.Lines.{refused_line}
+use Rattle.std.specs.Prelude.{Ok, Err}
+use Rattle.refusal.specs.Answer.{Answer, refusal}
 
 -- how much of so many bytes a heading takes
 unfoldable pub before : (heading : List ℕ) → (room : ℕ) → ℕ
@@ -18,20 +18,20 @@ before heading room = cond (leb (length heading) room) (length heading) room
 unfoldable pub over_label : (heading : List ℕ) → ℕ → (out : List ℕ) → Outcome Answer
 over_label heading label out =
     cond (leb (length heading) (length out))
-    (said (Value (length heading + label)) (heading ++ drop (length heading) out))
-    (said (Refused 0 (Room (length heading + label))) out)
+    (said (Ok (length heading + label)) (heading ++ drop (length heading) out))
+    (said (refusal 0 (Room (length heading + label))) out)
 
 -- a label has been refused: without room, since there is none of that number, or by 8 or 9
 unfoldable pub over_refusal : (heading : List ℕ) → Reason → (out : List ℕ) → Outcome Answer
 over_refusal heading why out =
-    cond (eqb (number why) 10) (said (Refused 0 (Room (length heading + detail why))) out)
-    (cond (eqb (number why) 7) (said (Refused 0 NoSuchNumber) out) (room_outcome (heading ++ refused_line why) out))
+    cond (eqb (number why) 10) (said (refusal 0 (Room (length heading + detail why))) out)
+    (cond (eqb (number why) 7) (said (refusal 0 NoSuchNumber) out) (room_outcome (heading ++ refused_line why) out))
 
 abbrev pub headed : (heading : List ℕ) → Answer → (out : List ℕ) → Outcome Answer
-headed heading (Value label) out = over_label heading label out
-headed heading (Refused file why) out = over_refusal heading why out
+headed heading (Ok label) out = over_label heading label out
+headed heading (Err r) out = over_refusal heading r.reason out
 
 -- what is answered of a label is small enough to be added to
 abbrev pub Small : Answer → Type 0
-Small (Value label) = label ≤ 4_294_967_295
-Small (Refused file why) = number why ≡ 10 → detail why ≤ 4_294_967_295
+Small (Ok label) = label ≤ 4_294_967_295
+Small (Err r) = number r.reason ≡ 10 → detail r.reason ≤ 4_294_967_295

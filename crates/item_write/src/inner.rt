@@ -10,7 +10,7 @@ ghost use Rattle.item_write.specs.Headed.{before, over_label, over_refusal, head
 use crate::pieces::spaced_at;
 use crate::{Line, refused_line};
 use label_pieces::inner::{byte_at, bytes_at};
-use refusal::{Answer, Reason};
+use refusal::{Answer, Reason, Refusal};
 
 // A word and a number.
 pub fn worded_line(word: &[u8], n: usize) -> Line
@@ -42,13 +42,10 @@ fn both_texts(first: &[u8], second: &[u8], out: &mut [u8]) -> Answer
 {
     let needed = first.len() + second.len();
     if out.len() < needed {
-        return Answer::Refused {
-            file: 0,
-            reason: Reason::Room { needed },
-        };
+        return Err(Reason::Room { needed }.into());
     }
     let i = bytes_at(first, 0, out);
-    Answer::Value(bytes_at(second, i, out))
+    Ok(bytes_at(second, i, out))
 }
 
 // A label of so many bytes has been written behind the heading's place.
@@ -58,12 +55,9 @@ fn over_label(heading: &[u8], label: usize, out: &mut [u8]) -> Answer
 {
     let needed = heading.len() + label;
     if out.len() < heading.len() {
-        return Answer::Refused {
-            file: 0,
-            reason: Reason::Room { needed },
-        };
+        return Err(Reason::Room { needed }.into());
     }
-    Answer::Value(bytes_at(heading, 0, out) + label)
+    Ok(bytes_at(heading, 0, out) + label)
 }
 
 // A label has been refused.
@@ -74,16 +68,10 @@ fn over_refusal(heading: &[u8], reason: Reason, out: &mut [u8]) -> Answer
     let number = refusal::number_of(reason);
     if number == 10 {
         let needed = heading.len() + refusal::detail_of(reason);
-        return Answer::Refused {
-            file: 0,
-            reason: Reason::Room { needed },
-        };
+        return Err(Reason::Room { needed }.into());
     }
     if number == 7 {
-        return Answer::Refused {
-            file: 0,
-            reason: Reason::NoSuchNumber,
-        };
+        return Err(Reason::NoSuchNumber.into());
     }
     let line = refused_line(reason);
     let bytes = line.bytes;
@@ -97,7 +85,7 @@ pub fn headed_item(heading: &[u8], answer: Answer, out: &mut [u8]) -> Answer
     ensures { said result out.new ≡ headed heading.now answer out.old }
 {
     match answer {
-        Answer::Value(label) => over_label(heading, label, out),
-        Answer::Refused { file: _, reason } => over_refusal(heading, reason, out),
+        Ok(label) => over_label(heading, label, out),
+        Err(Refusal { file: _, reason }) => over_refusal(heading, reason, out),
     }
 }

@@ -2,12 +2,12 @@
 -- Assumes nothing.
 use Rattle.std.specs.Prelude.{ℕ, cond, List, [], ◌∷◌, ◌++◌, leb, length, drop}
 use Rattle.refusal.specs.declared.Reason.TheVariants.{Room}
-use Rattle.refusal.specs.declared.Answer.{Answer}
-use Rattle.refusal.specs.declared.Answer.TheVariants.{Value, Refused}
 use Rattle.refusal.specs.Outcome.{Outcome, said}
 use Rattle.source.specs.Address.{Elements}
 use Rattle.source.specs.Resolve.{Resolved, elements, refused}
 use Rattle.label.specs.Lines.{lines_of}
+use Rattle.std.specs.Prelude.{Ok}
+use Rattle.refusal.specs.Answer.{Answer, refusal}
 
 -- "Each line ends with byte 10"
 abbrev pub ended : List (List ℕ) → List ℕ
@@ -22,10 +22,10 @@ label_of e = ended (lines_of e)
 unfoldable pub room_outcome : (text out : List ℕ) → Outcome Answer
 room_outcome text out =
     cond (leb (length text) (length out))
-    (said (Value (length text)) (text ++ drop (length text) out))
-    (said (Refused 0 (Room (length text))) out)
+    (said (Ok (length text)) (text ++ drop (length text) out))
+    (said (refusal 0 (Room (length text))) out)
 
 -- what is printed of an address, or its refusal
 abbrev pub resolved_outcome : Resolved → List ℕ → Outcome Answer
 resolved_outcome (elements e) out = room_outcome (label_of e) out
-resolved_outcome (refused why) out = said (Refused 0 why) out
+resolved_outcome (refused why) out = said (refusal 0 why) out

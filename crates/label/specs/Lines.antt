@@ -1,6 +1,6 @@
 -- The lines of a label, from its elements: "Lines in order". An empty text is absent, and so is the number 0.
 -- Assumes nothing.
-use Rattle.std.specs.Prelude.{ℕ, zero, suc, ◌+◌, ◌/◌, ◌%◌, Bool, true, false, cond, not, ◌&&◌, List, [], ◌∷◌, ◌++◌, eqb, ltb}
+use Rattle.std.specs.Prelude.{ℕ, ◌+◌, ◌/◌, ◌%◌, Bool, true, false, cond, List, [], ◌∷◌, ◌++◌, eqb, ltb}
 use Rattle.field.specs.Text.{numeric_like}
 use Rattle.source.specs.Address.{Elements}
 

@@ -7,10 +7,10 @@ use native.Mathlib.Nat.{sub-zero, zero-sub, suc-sub-suc}
 use native.Mathlib.Omega.{arith}
 use lib.ListN.{length, drop, replicate, length-replicate}
 use lib.Seq.{drop-append_seam}
-use Rattle.refusal.specs.declared.Answer.{Answer}
 use Rattle.refusal.specs.Outcome.{Outcome}
 use Rattle.label.specs.Label.{room_outcome}
 use Rattle.label.proofs.Room.{room_fits}
+use Rattle.refusal.specs.Answer.{Answer}
 
 -- bytes behind the text stay as they were
 pub tail-kept : (text out : List ℕ) → length text ≤ length out

@@ -32,10 +32,7 @@ pub fn print_label<'a>(a: &'a [u8], b: &'a [u8], e: Spans, out: &mut [u8]) -> An
 {
     let needed = needed_of(a, b, e, out.len());
     if out.len() < needed {
-        return Answer::Refused {
-            file: 0,
-            reason: Reason::Room { needed },
-        };
+        return Err(Reason::Room { needed }.into());
     }
-    Answer::Value(write_label(a, b, e, out))
+    Ok(write_label(a, b, e, out))
 }

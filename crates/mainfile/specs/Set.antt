@@ -2,10 +2,10 @@
 -- slices.
 -- Assumes nothing.
 use Rattle.std.specs.Prelude.{ℕ, List}
-use Rattle.refusal.specs.declared.Answer.{Answer}
 use Rattle.refusal.specs.Outcome.{after}
 use Rattle.file.specs.Check.{checked}
 use Rattle.file.specs.Mainfile as Format
+use Rattle.refusal.specs.Answer.{Answer}
 
 pub record Set : Type 0 where
   pub localities : List ℕ

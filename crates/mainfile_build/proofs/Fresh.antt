@@ -1,10 +1,10 @@
 -- Marks before any row is marked, and how many there are.
 -- Assumes nothing.
-use Prim.Native.Nat.{ℕ, zero, suc, ◌≤◌}
-use mathlib.Core.Path.{◌≡◌, refl, ap}
+use Prim.Native.Nat.{ℕ, zero, suc}
+use mathlib.Core.Path.{◌≡◌, refl}
 use mathlib.Core.List.{List, [], ◌∷◌, ◌++◌}
 use native.Mathlib.Omega.{arith}
-use lib.ListN.{length, drop, get_or, replicate}
+use lib.ListN.{length, drop, get_or}
 use Rattle.bits.specs.Bits.{Unmarked}
 use Rattle.shelf.specs.Stock.{Stock, joined}
 use Rattle.build.specs.Rows.{joined_marks}

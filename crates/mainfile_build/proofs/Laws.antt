@@ -2,20 +2,17 @@
 -- Assumes nothing.
 use Prim.Native.Nat.{ℕ, zero, suc, ◌+◌, ◌*◌, ◌-◌, ◌/◌, ◌≤◌, ◌<◌}
 use mathlib.Core.Path.{◌≡◌, refl, sym, ap, ap₂, subst, ◌∙◌}
-use mathlib.Core.Bool.{Bool, true, false, cond, ◌||◌}
+use mathlib.Core.Bool.{Bool, true, false, ◌||◌}
 use mathlib.Core.List.{List, [], ◌∷◌}
 use native.Mathlib.Omega.{arith}
 use borrow.Author.Tests.{eqb-true, eqb-false}
 use lib.Dec.{eqb}
-use lib.ListN.{length, get_or, replicate, length-replicate}
+use lib.ListN.{length, replicate, length-replicate}
 use Rattle.field.specs.Test.{elem}
 use Rattle.field.proofs.Tests.{or-true}
 use Rattle.bits.specs.Bits.{Unmarked}
-use Rattle.field_outward.specs.Outward.{outward_fault}
 use Rattle.file.specs.Mainfile as Format
 use Rattle.file.proofs.Laws.{within-limit}
-use Rattle.refusal.specs.declared.Verdict.{Verdict}
-use Rattle.refusal.specs.declared.Verdict.TheVariants.{Fine}
 use Rattle.source.specs.declared.DeliveryPoint.{DeliveryPoint}
 use Rattle.source.specs.Delivery.{asked_of}
 use Rattle.shelf.specs.Stock.{Stock, joined, Good}
@@ -48,11 +45,11 @@ use Rattle.mainfile_source.specs.Delivery.{delivery_at}
 use Rattle.mainfile_source.proofs.Joined.{two_records, set-good, same_rows}
 use Rattle.mainfile_meaning.specs.Elements.{point_at, rows_at, Inside}
 use Rattle.mainfile_meaning.proofs.Says.{inside-at}
-use Rattle.mainfile_mark.specs.Marks.{set_marks, set_rows, used_in_set, InFiles, BitsFor, Ended}
+use Rattle.mainfile_mark.specs.Marks.{set_marks, set_rows, used_in_set, BitsFor, Ended}
 use Rattle.mainfile_mark.specs.Packed.{packed_by, packed_in}
 use Rattle.mainfile_mark.proofs.Packed.{packed_start, packed-length, accepted-ended, found-in-files, found_rows}
 use Rattle.mainfile_place.proofs.Small.{kind-few}
-use Rattle.mainfile_place.specs.Blocks.{BlocksFor, SetBlocks, RowsPlaced}
+use Rattle.mainfile_place.specs.Blocks.{BlocksFor, RowsPlaced}
 use Rattle.mainfile_points.specs.Standing.{Standing}
 use Rattle.mainfile_points.proofs.Said.{all_say, all-within, numbers-rise}
 use Rattle.mainfile_sound.proofs.Size.{pack-small}
@@ -60,6 +57,7 @@ use Rattle.mainfile_build.specs.Build.{set_pack}
 use Rattle.mainfile_build.specs.Written.{set_starts, set_offsets}
 use Rattle.mainfile_build.specs.Ready.{Judged, Stretched, Marked, Placed}
 use Rattle.mainfile_build.proofs.Fresh.{set-none, set_long}
+use Rattle.refusal.specs.Verdict.{Verdict, fine}
 
 -- ---- the five files of rows alone
 
@@ -245,7 +243,7 @@ module _ (set : Set) (ok : AcceptedRows set) where
 
 -- marked from fresh bits
 pub fresh-marked : (set : Set) (code z l t d b s : List ℕ) → Judged set code → Unmarked z
-    → first_refused (set_stock set) (packed_in set code) ≡ Fine
+    → first_refused (set_stock set) (packed_in set code) ≡ fine
     → set_marks set l t d b s ≡ mark_all (set_stock set) (packed_in set code) (set_marks set z z z z z)
     → Marked set code l t d b s
 fresh-marked set code z l t d b s j none fine is =

@@ -1,7 +1,6 @@
 -- The pack of a code from a set whose files are accepted.
 -- Assumes nothing.
 use Rattle.std.specs.Prelude.{ℕ, List}
-use Rattle.refusal.specs.declared.Answer.{Answer}
 use Rattle.refusal.specs.Outcome.{Outcome}
 use Rattle.ask.specs.Source.{in_code}
 use Rattle.pack.specs.Cutting.{cut_outcome}
@@ -9,6 +8,7 @@ use Rattle.pack.specs.Layout.{pack_of}
 use Rattle.mainfile.specs.Set.{Set}
 use Rattle.mainfile.specs.Rows.{set_lookup}
 use Rattle.mainfile.specs.Addresses.{addresses_in}
+use Rattle.refusal.specs.Answer.{Answer}
 
 -- "the live views of that outward code in file order": "Every address counts as live."
 abbrev pub set_pack : Set → (code : List ℕ) → List ℕ

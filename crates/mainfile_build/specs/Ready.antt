@@ -2,7 +2,6 @@
 -- Assumes nothing.
 use Rattle.std.specs.Prelude.{ℕ, ◌≡◌, List, length, get_or}
 use Rattle.field_outward.specs.Outward.{outward_fault}
-use Rattle.refusal.specs.declared.Verdict.TheVariants.{Fine}
 use Rattle.build.specs.Plan.{first_refused, mark_all}
 use Rattle.build.specs.Ready.{Ready}
 use Rattle.mainfile.specs.Set.{Set}
@@ -14,6 +13,7 @@ use Rattle.mainfile_mark.specs.Marks.{set_marks}
 use Rattle.mainfile_mark.specs.Packed.{packed_in}
 use Rattle.mainfile_place.specs.Blocks.{SetBlocks}
 use Rattle.mainfile_build.specs.Written.{set_starts}
+use Rattle.refusal.specs.Verdict.{fine}
 
 -- the files are accepted and the code is well formed
 pub record Judged (set : Set) (code : List ℕ) : Type 0 where
@@ -29,7 +29,7 @@ pub record Stretched (set : Set) (code : List ℕ) (first many : ℕ) : Type 0 w
 -- thoroughfares, descriptors, buildings and sub buildings
 pub record Marked (set : Set) (code l t d b s : List ℕ) : Type 0 where
   pub judged : Judged set code
-  pub none_refused : first_refused (set_stock set) (packed_in set code) ≡ Fine
+  pub none_refused : first_refused (set_stock set) (packed_in set code) ≡ fine
   pub fresh : List ℕ
   pub no_marks : (i : ℕ) → get_or fresh i 0 ≡ 0
   pub long : length fresh ≡ (set_stock set).last

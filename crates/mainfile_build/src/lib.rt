@@ -17,7 +17,7 @@ ghost use Rattle.mainfile_build.specs.Ready.{Judged, Stretched, Marked};
 use mainfile_place::inner::place_set;
 use mainfile_points::inner::organisations_in;
 use pack_read::NewestPack;
-use refusal::{Answer, Reason, Verdict};
+use refusal::{Answer, Reason};
 
 // Numbers of 32 bits, a bit for each of 1,000,000 records.
 const BITS: usize = 31250;
@@ -78,13 +78,10 @@ fn write_if_room(
     let of_own = organisations_in(organisations, addresses, first, many);
     let needed = of_rows.bytes + of_own.bytes + NewestPack::POINT * many + NewestPack::TRAILER;
     if out.len() < needed {
-        return Answer::Refused {
-            file: 0,
-            reason: Reason::Room { needed },
-        };
+        return Err(Reason::Room { needed }.into());
     }
     let rows = of_rows.rows + of_own.rows;
-    Answer::Value(whole::write_pack(
+    Ok(whole::write_pack(
         localities,
         thoroughfares,
         descriptors,
@@ -134,7 +131,7 @@ fn cut(
     let mut of_buildings = [0u32; BITS];
     let mut of_sub_buildings = [0u32; BITS];
     let found = mainfile_views::stretch_in(addresses, code);
-    match mainfile_mark::inner::mark_addresses(
+    mainfile_mark::inner::mark_addresses(
         localities,
         thoroughfares,
         descriptors,
@@ -149,27 +146,25 @@ fn cut(
         &mut of_descriptors,
         &mut of_buildings,
         &mut of_sub_buildings,
-    ) {
-        Verdict::Fine => write_if_room(
-            localities,
-            thoroughfares,
-            descriptors,
-            buildings,
-            sub_buildings,
-            organisations,
-            addresses,
-            &of_localities,
-            &of_thoroughfares,
-            &of_descriptors,
-            &of_buildings,
-            &of_sub_buildings,
-            found.first,
-            found.many,
-            code,
-            out,
-        ),
-        Verdict::Bad(reason) => Answer::Refused { file: 0, reason },
-    }
+    )?;
+    write_if_room(
+        localities,
+        thoroughfares,
+        descriptors,
+        buildings,
+        sub_buildings,
+        organisations,
+        addresses,
+        &of_localities,
+        &of_thoroughfares,
+        &of_descriptors,
+        &of_buildings,
+        &of_sub_buildings,
+        found.first,
+        found.many,
+        code,
+        out,
+    )
 }
 
 // The pack of a code, for any bytes given as files and code.
@@ -188,7 +183,7 @@ pub fn build_pack(
         thoroughfares.now descriptors.now buildings.now subs.now
         organisations.now addresses.now)) code.now out.old }
 {
-    match mainfile_check::check_set(
+    mainfile_check::check_set(
         localities,
         thoroughfares,
         descriptors,
@@ -196,26 +191,19 @@ pub fn build_pack(
         subs,
         organisations,
         addresses,
-    ) {
-        Answer::Value(_) => {
-            if field_outward::outward_fault(code) != 0 {
-                return Answer::Refused {
-                    file: 0,
-                    reason: Reason::BadCode,
-                };
-            }
-            cut(
-                localities,
-                thoroughfares,
-                descriptors,
-                buildings,
-                subs,
-                organisations,
-                addresses,
-                code,
-                out,
-            )
-        }
-        Answer::Refused { file, reason } => Answer::Refused { file, reason },
+    )?;
+    if field_outward::outward_fault(code) != 0 {
+        return Err(Reason::BadCode.into());
     }
+    cut(
+        localities,
+        thoroughfares,
+        descriptors,
+        buildings,
+        subs,
+        organisations,
+        addresses,
+        code,
+        out,
+    )
 }

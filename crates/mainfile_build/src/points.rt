@@ -120,11 +120,9 @@ pub fn points_at(
         of_descriptors.now of_buildings.now of_sub_buildings.now start)
         out.old at result out.new }
 {
-    let stop = first + many;
     let mut row = start;
     let mut end = at;
-    let mut i = first;
-    while i < stop {
+    for i in first..first + many {
         let p = delivery_at(addresses, organisations, i);
         let offsets = offsets_at(
             localities,
@@ -151,7 +149,6 @@ pub fn points_at(
         );
         end = point_at(addresses, p, offsets, row, end, out);
         row += organisation_len(organisations, p.organised, p.organisation);
-        i += 1;
     }
     end
 }

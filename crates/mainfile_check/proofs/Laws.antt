@@ -1,22 +1,21 @@
 -- Laws of a set that is judged.
 -- Assumes nothing.
 use Prim.Native.Nat.{ℕ}
-use mathlib.Core.Path.{◌≡◌, refl, sym, ap, ◌∙◌}
+use mathlib.Core.Path.{◌≡◌, refl}
 use mathlib.Core.List.{List}
-use Rattle.refusal.specs.declared.Answer.{Answer}
-use Rattle.refusal.specs.declared.Answer.TheVariants.{Value, Refused}
 use Rattle.refusal.specs.Outcome.{after}
-use Rattle.refusal.proofs.Outcomes.{Both, both_values}
-use Rattle.file.specs.Check.{Format, records, checked}
-use Rattle.file.specs.Accepted.{Accepted}
+use Rattle.refusal.proofs.Outcomes.{both_values}
+use Rattle.file.specs.Check.{records, checked}
 use Rattle.file.specs.Mainfile as Main
 use Rattle.file.proofs.Accepted.{accepted, accepts}
 use Rattle.mainfile.specs.Set.{Set, set_of, set_judged}
-use Rattle.mainfile.specs.Accepted.{AcceptedRows, AcceptedSet}
+use Rattle.mainfile.specs.Accepted.{AcceptedSet}
+use Rattle.std.specs.Prelude.{Ok, Err}
+use Rattle.refusal.specs.Answer.{Answer}
 
 pub after-after : (x y z : Answer) → after (after x y) z ≡ after x (after y z)
-after-after (Value n) y z = refl
-after-after (Refused file why) y z = refl
+after-after (Ok n) y z = refl
+after-after (Err r) y z = refl
 
 -- the files one behind the other, however they are grouped
 pub set-in-turn : (l t d b s o a : List ℕ)
@@ -29,7 +28,7 @@ set-in-turn l t d b s o a =
 
 -- a set judged with a value has seven accepted files, and the value is how many records its address file has
 module _ (s : Set) where
-  pub set-accepted : {n : ℕ} → set_judged s ≡ Value n → AcceptedSet s
+  pub set-accepted : {n : ℕ} → set_judged s ≡ Ok n → AcceptedSet s
   unfolding set_judged
   set-accepted e =
       let first = both_values (checked Main.localities s.localities) _ e in
@@ -52,7 +51,7 @@ module _ (s : Set) where
       }
 
   -- and seven accepted files are judged so
-  pub set-accepts : AcceptedSet s → set_judged s ≡ Value (records Main.addresses s.addresses)
+  pub set-accepts : AcceptedSet s → set_judged s ≡ Ok (records Main.addresses s.addresses)
   unfolding set_judged
   set-accepts a =
       rw (

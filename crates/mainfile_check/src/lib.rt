@@ -15,16 +15,8 @@ use refusal::Answer;
 fn then_file(found: Answer, kind: MainKind, file: &[u8]) -> Answer
     ensures { result ≡ after found (checked (main_format kind) file.now) }
 {
-    match found {
-        Answer::Value(_) => check_main(kind, file),
-        Answer::Refused {
-            file: blamed,
-            reason,
-        } => Answer::Refused {
-            file: blamed,
-            reason,
-        },
-    }
+    found?;
+    check_main(kind, file)
 }
 
 // How many records the address file of an accepted set has, or the set's first refusal.

@@ -11,7 +11,6 @@ use lib.ListN.{length}
 use Rattle.field_outward.specs.Outward.{outward_fault}
 use Rattle.file_compare.specs.Order.{same}
 use Rattle.refusal.specs.declared.Reason.TheVariants.{BadCode}
-use Rattle.refusal.specs.declared.Answer.TheVariants.{Value, Refused}
 use Rattle.file.specs.Accepted.{Accepted}
 use Rattle.file.specs.Mainfile.{addresses}
 use Rattle.file.proofs.Accepted.{accepts}
@@ -28,6 +27,8 @@ use Rattle.tally_bytes.proofs.Tells.{tally-tells}
 use Rattle.mainfile_codes.specs.Codes.{code_in, codes_from, all_codes, codes_in}
 use Rattle.mainfile_codes.specs.Told.{Told}
 use Rattle.mainfile_codes.proofs.Stretches.{last-is, all-few, outward_at, outward_good, code_is}
+use Rattle.std.specs.Prelude.{Ok}
+use Rattle.refusal.specs.Answer.{refusal}
 
 module _ (file : List ℕ) (a : Accepted addresses file) where
   -- of k records from i on
@@ -69,7 +70,7 @@ module _ (file : List ℕ) (a : Accepted addresses file) where
 
   -- what `ttw_main_live` answers for a code
   live-asked : (code : List ℕ)
-      → live_answer file code ≡ cond (eqb (outward_fault code) 0) (Value (many_in file code)) (Refused 0 BadCode)
+      → live_answer file code ≡ cond (eqb (outward_fault code) 0) (Ok (many_in file code)) (refusal 0 BadCode)
   unfolding live_answer live_at
   live-asked code = simp (accepts addresses file a)
 

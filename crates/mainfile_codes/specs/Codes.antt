@@ -4,8 +4,6 @@
 use Rattle.std.specs.Prelude.{ℕ, zero, suc, List, [], ◌∷◌}
 use Rattle.file_record.specs.Parts.{record_at}
 use Rattle.mainfile_record.specs.Address as At
-use Rattle.refusal.specs.declared.Answer.{Answer}
-use Rattle.refusal.specs.declared.Answer.TheVariants.{Refused}
 use Rattle.refusal.specs.Outcome.{Outcome, afterwards}
 use Rattle.file.specs.Check.{checked}
 use Rattle.file.specs.Mainfile.{addresses}
@@ -13,6 +11,7 @@ use Rattle.mainfile_views.specs.Range.{views_in}
 use Rattle.pack.specs.Numbers.{number_at}
 use Rattle.tally.specs.Tally.{Entry, tally}
 use Rattle.tally_bytes.specs.Entries.{entries_outcome}
+use Rattle.refusal.specs.Answer.{Answer, refusal}
 
 -- the outward code of record i, as the number of its four bytes, "most significant first": so the order of codes as
 -- bytes is the order of their numbers
@@ -34,4 +33,4 @@ codes_in file = tally (all_codes file)
 
 -- the refusals of the file, then 10
 unfoldable pub codes_outcome : (file out : List ℕ) → Outcome Answer
-codes_outcome file out = afterwards Refused (checked addresses file) out (entries_outcome (codes_in file) out)
+codes_outcome file out = afterwards refusal (checked addresses file) out (entries_outcome (codes_in file) out)

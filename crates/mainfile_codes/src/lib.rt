@@ -23,21 +23,16 @@ fn list_codes(addresses: &[u8], out: &mut [u8]) -> Answer
     let n = walk::count_codes(addresses);
     let needed = Entry::WIDTH * n;
     if out.len() < needed {
-        return Answer::Refused {
-            file: 0,
-            reason: Reason::Room { needed },
-        };
+        return Err(Reason::Room { needed }.into());
     }
     walk::write_codes(addresses, out);
-    Answer::Value(n)
+    Ok(n)
 }
 
 // The outward codes of any bytes given as an address file.
 pub fn codes_in(addresses: &[u8], out: &mut [u8]) -> Answer
     ensures { said result out.new ≡ codes_outcome addresses.now out.old }
 {
-    match file_check::check_main(file::MainKind::Addresses, addresses) {
-        Answer::Value(_) => list_codes(addresses, out),
-        Answer::Refused { file, reason } => Answer::Refused { file, reason },
-    }
+    file_check::check_main(file::MainKind::Addresses, addresses)?;
+    list_codes(addresses, out)
 }

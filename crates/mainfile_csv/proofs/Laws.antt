@@ -7,9 +7,7 @@ use mathlib.Core.List.{List}
 use native.Mathlib.Omega.{arith}
 use borrow.Author.Tests.{ltb-true, ltb-false}
 use lib.Dec.{ltb}
-use Rattle.refusal.specs.declared.Answer.TheVariants.{Value, Refused}
 use Rattle.refusal.proofs.Outcomes.{afterwards-value}
-use Rattle.run.specs.declared.Series.TheVariants.{Unasked}
 use Rattle.run.specs.Series.{run_from}
 use Rattle.run.proofs.Same.{same-run}
 use Rattle.file_record.specs.Parts.{record_at}
@@ -22,6 +20,8 @@ use Rattle.mainfile_label.proofs.Laws.{resolve-number, kth-zero, kth-there, kth-
 use Rattle.csv_paf.specs.Row.{kth_row, view_row, view_rows}
 use Rattle.csv_write.proofs.Placed.{Alike, placed-none, placed-kth}
 use Rattle.mainfile_csv.specs.Rows.{address_at, place_row, rows_among}
+use Rattle.std.specs.Prelude.{Ok}
+use Rattle.refusal.specs.Answer.{refusal}
 
 -- what is written of an address does not look at its number
 number-alike : (n m : ℕ) (rec organisations : List ℕ) → Alike (address_of n rec organisations) (address_of m rec organisations)
@@ -45,15 +45,15 @@ place-is-kth s n m (suc j) out low = by-test (ltb j m) refl
         placed-none (set_lookup s) (address_at s 0) 0 out _ (suc j) refl (kth-none s m n j (ltb-false j m e))
 
 -- where the files are accepted, asking by number is asking by record
-module _ (s : Set) {n : ℕ} (taken : set_judged s ≡ Value n) where
+module _ (s : Set) {n : ℕ} (taken : set_judged s ≡ Ok n) where
   pub row-by-place : (k : ℕ) (out : List ℕ)
       → rows_among s 1 (views_in s.addresses) k out ≡ view_row (main_of s) k out
   unfolding view_row addresses_in
   row-by-place k out =
-      place-is-kth s 1 (views_in s.addresses) k out (omega arith) ∙ sym (afterwards-value Refused out _ taken)
+      place-is-kth s 1 (views_in s.addresses) k out (omega arith) ∙ sym (afterwards-value refusal out _ taken)
 
   pub rows-by-place : (first count : ℕ) (out : List ℕ)
       → run_from (rows_among s 1 (views_in s.addresses)) first count out ≡ view_rows (main_of s) first count out
   unfolding view_rows
   rows-by-place first count out =
-      same-run _ _ row-by-place count first out ∙ sym (afterwards-value Unasked out _ taken)
+      same-run _ _ row-by-place count first out ∙ sym (afterwards-value refusal out _ taken)

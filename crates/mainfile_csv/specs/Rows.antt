@@ -1,7 +1,6 @@
 -- Rows of CSV PAF of a set, by the numbers of its address records.
 -- Assumes nothing.
 use Rattle.std.specs.Prelude.{ℕ, List}
-use Rattle.refusal.specs.declared.Answer.{Answer}
 use Rattle.refusal.specs.Outcome.{Outcome}
 use Rattle.run.specs.Series.{Asking}
 use Rattle.file_record.specs.Parts.{record_at}
@@ -12,6 +11,7 @@ use Rattle.mainfile.specs.Rows.{set_lookup}
 use Rattle.mainfile.specs.Addresses.{address_of}
 use Rattle.mainfile_label.specs.Places.{place_among}
 use Rattle.csv_write.specs.Placed.{placed_row}
+use Rattle.refusal.specs.Answer.{Answer}
 
 -- the address of a record, whose number is not written
 abbrev pub address_at : Set → (place : ℕ) → Address

@@ -34,7 +34,7 @@ pub fn row_of_view(
         descriptors.now buildings.now subs.now organisations.now
         addresses.now)) view out.old }
 {
-    match check_set(
+    check_set(
         localities,
         thoroughfares,
         descriptors,
@@ -42,23 +42,19 @@ pub fn row_of_view(
         subs,
         organisations,
         addresses,
-    ) {
-        Answer::Value(_) => {
-            let place = place_among(all_in(addresses), view);
-            row_at(
-                localities,
-                thoroughfares,
-                descriptors,
-                buildings,
-                subs,
-                organisations,
-                addresses,
-                place,
-                out,
-            )
-        }
-        Answer::Refused { file, reason } => Answer::Refused { file, reason },
-    }
+    )?;
+    let place = place_among(all_in(addresses), view);
+    row_at(
+        localities,
+        thoroughfares,
+        descriptors,
+        buildings,
+        subs,
+        organisations,
+        addresses,
+        place,
+        out,
+    )
 }
 
 // So many rows from a view on.
@@ -78,7 +74,7 @@ pub fn rows_of_views(
         descriptors.now buildings.now subs.now organisations.now
         addresses.now)) first count out.old }
 {
-    match check_set(
+    check_set(
         localities,
         thoroughfares,
         descriptors,
@@ -86,20 +82,18 @@ pub fn rows_of_views(
         subs,
         organisations,
         addresses,
-    ) {
-        Answer::Value(_) => walk(
-            localities,
-            thoroughfares,
-            descriptors,
-            buildings,
-            subs,
-            organisations,
-            addresses,
-            all_in(addresses),
-            first,
-            count,
-            out,
-        ),
-        Answer::Refused { file, reason } => Series::Unasked { file, reason },
-    }
+    )?;
+    walk(
+        localities,
+        thoroughfares,
+        descriptors,
+        buildings,
+        subs,
+        organisations,
+        addresses,
+        all_in(addresses),
+        first,
+        count,
+        out,
+    )
 }

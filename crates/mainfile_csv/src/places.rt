@@ -1,7 +1,6 @@
 // The row of an address of accepted files, which are not judged again.
-ghost use Rattle.std.specs.Prelude.{◌≡◌, ◌≤◌, length};
+ghost use Rattle.std.specs.Prelude.{◌≡◌};
 ghost use Rattle.refusal.specs.Outcome.{said};
-ghost use Rattle.run.specs.Series.{asked_behind};
 ghost use Rattle.csv_write.specs.Ending.{written_by};
 ghost use Rattle.mainfile.specs.Set.{set_of};
 ghost use Rattle.mainfile_meaning.specs.Elements.{elements_at, Inside};
@@ -11,7 +10,7 @@ ghost use Rattle.mainfile_csv.specs.Rows.{place_row};
 use csv_write::Ending;
 use mainfile_texts::inner::{gather_localities, gather_own, gather_premises, gather_streets};
 use mainfile_texts::{Places, spans_from};
-use refusal::{Answer, Reason, Verdict};
+use refusal::{Answer, Reason};
 use source::{DeliveryPoint, Found};
 
 // Writes the row of a delivery point from its texts, gathered in one buffer.
@@ -64,10 +63,7 @@ pub fn row_at(
         addresses.now) place out.old }
 {
     if place == 0 {
-        return Answer::Refused {
-            file: 0,
-            reason: Reason::NoSuchNumber,
-        };
+        return Err(Reason::NoSuchNumber.into());
     }
     let p = mainfile_source::delivery_at(addresses, organisations, place);
     let keys = p.keys;
@@ -79,44 +75,8 @@ pub fn row_at(
         subs,
         keys,
     );
-    match source_keys::refusal_in(p, found) {
-        Verdict::Fine => write_from(
-            localities,
-            thoroughfares,
-            descriptors,
-            buildings,
-            subs,
-            organisations,
-            addresses,
-            p,
-            found,
-            csv_write::inner::ending_of(addresses, p),
-            out,
-        ),
-        Verdict::Bad(reason) => Answer::Refused { file: 0, reason },
-    }
-}
-
-// The same behind so many bytes.
-pub fn row_behind(
-    localities: &[u8],
-    thoroughfares: &[u8],
-    descriptors: &[u8],
-    buildings: &[u8],
-    subs: &[u8],
-    organisations: &[u8],
-    addresses: &[u8],
-    place: usize,
-    at: usize,
-    out: &mut [u8],
-) -> Answer
-    requires { (at ≤ length out.old) × AddressPlace (set_of localities.now thoroughfares.now
-        descriptors.now buildings.now subs.now organisations.now addresses.now) place }
-    ensures { said result out.new ≡ asked_behind at out.old (place_row
-        (set_of localities.now thoroughfares.now descriptors.now
-        buildings.now subs.now organisations.now addresses.now) place) }
-{
-    row_at(
+    source_keys::refusal_in(p, found)?;
+    write_from(
         localities,
         thoroughfares,
         descriptors,
@@ -124,7 +84,9 @@ pub fn row_behind(
         subs,
         organisations,
         addresses,
-        place,
-        &mut out[at..],
+        p,
+        found,
+        csv_write::inner::ending_of(addresses, p),
+        out,
     )
 }

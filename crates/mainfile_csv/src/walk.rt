@@ -3,15 +3,56 @@ ghost use Rattle.std.specs.Prelude.{◌≡◌};
 ghost use Rattle.refusal.specs.Outcome.{said};
 ghost use Rattle.run.specs.Series.{run_from};
 ghost use Rattle.mainfile.specs.Set.{set_of};
-ghost use Rattle.mainfile_label.specs.Places.{Between};
+ghost use Rattle.mainfile_label.specs.Places.{place_among, Between};
 ghost use Rattle.mainfile_csv.specs.Rows.{rows_among};
 
-use crate::places::row_behind;
+use crate::places::row_at;
 use mainfile_label::inner::place_among;
 use mainfile_runs::inner::place_behind;
 use mainfile_views::Stretch;
 use refusal::Answer;
 use run::Series;
+use run_in_turn::inner::{InTurn, in_turn};
+
+// Addresses that stand together, asked for their rows from one on, and the place of that one.
+#[derive(Drop)]
+struct Records<'a> {
+    localities: &'a [u8],
+    thoroughfares: &'a [u8],
+    descriptors: &'a [u8],
+    buildings: &'a [u8],
+    subs: &'a [u8],
+    organisations: &'a [u8],
+    addresses: &'a [u8],
+    of: Stretch,
+    place: usize,
+}
+
+impl<'a> InTurn for Records<'a> {
+    ghost asking = { λ s. let files = set_of s.localities.now s.thoroughfares.now s.descriptors.now s.buildings.now
+        s.subs.now s.organisations.now s.addresses.now in
+        rows_among files s.of.first s.of.many };
+
+    ghost is_next = { λ s k. let files = set_of s.localities.now s.thoroughfares.now s.descriptors.now s.buildings.now
+        s.subs.now s.organisations.now s.addresses.now in
+        Between files s.of.first s.of.many × (s.place ≡ place_among s.of.first s.of.many k) };
+
+    fn ask_next(&mut self, out: &mut [u8]) -> Answer {
+        let bytes = row_at(
+            self.localities,
+            self.thoroughfares,
+            self.descriptors,
+            self.buildings,
+            self.subs,
+            self.organisations,
+            self.addresses,
+            self.place,
+            out,
+        )?;
+        self.place = place_behind(self.of, self.place);
+        Ok(bytes)
+    }
+}
 
 // So many of their rows from the k-th on.
 pub fn walk(
@@ -34,38 +75,16 @@ pub fn walk(
         addresses.now) s.first s.many) first count
         out.old }
 {
-    let mut place = place_among(s, first);
-    let mut at = 0;
-    let mut done = 0;
-    while done < count {
-        match row_behind(
-            localities,
-            thoroughfares,
-            descriptors,
-            buildings,
-            subs,
-            organisations,
-            addresses,
-            place,
-            at,
-            out,
-        ) {
-            Answer::Value(bytes) => {
-                at += bytes;
-            }
-            Answer::Refused { file: _, reason } => {
-                return Series::Stopped {
-                    labels: done,
-                    bytes: at,
-                    reason,
-                };
-            }
-        }
-        place = place_behind(s, place);
-        done += 1;
-    }
-    Series::Done {
-        labels: done,
-        bytes: at,
-    }
+    let mut turns = Records {
+        localities,
+        thoroughfares,
+        descriptors,
+        buildings,
+        subs,
+        organisations,
+        addresses,
+        of: s,
+        place: place_among(s, first),
+    };
+    in_turn(&mut turns, count, out)
 }

@@ -14,7 +14,7 @@ fn named_at(rec: &[u8], at: u16, name: &[u8]) -> bool
     ensures { result ≡ named_at at name.now rec.now }
 {
     let start = at as usize;
-    order_of(part_of(rec, start, start + 8), name) == 0
+    order_of(part_of(rec, start, start + 8), name).is_eq()
 }
 
 // Whether the number of records stands at a place.
@@ -54,7 +54,7 @@ pub fn address_header_ok(rec: &[u8], name: &[u8]) -> bool
 {
     let kind = identifier_of(part_of(rec, 0, 7), 0);
     let named = zeros_named(rec, 7, name);
-    (kind != 0) & named
+    kind.is_some() & named
 }
 
 // Whether a record is the trailer of an address file of so many records.
@@ -63,5 +63,5 @@ pub fn address_trailer_ok(rec: &[u8], records: usize) -> bool
 {
     let kind = identifier_of(part_of(rec, 0, 7), 255);
     let counted = nines_counted(rec, 7, records);
-    (kind != 0) & counted
+    kind.is_some() & counted
 }

@@ -1,20 +1,22 @@
 -- Laws of records of a set that rise: what the sequence compares, eight bytes at a time.
 -- Assumes nothing.
-use Prim.Native.Nat.{ℕ, zero, suc, ◌+◌, ◌-◌, ◌/◌, ◌≤◌, ◌<◌}
+use Prim.Native.Nat.{ℕ, zero, suc, ◌-◌, ◌/◌, ◌≤◌, ◌<◌}
 use mathlib.Core.Path.{◌≡◌, refl, sym, ap, ◌∙◌}
-use mathlib.Core.Bool.{Bool, true, false, cond, not, ◌&&◌, ◌||◌, false≢true}
-use mathlib.Core.List.{List, [], ◌∷◌, ◌++◌, append_assoc, append-nil}
+use mathlib.Core.Bool.{Bool, true, false, cond, ◌&&◌, ◌||◌, false≢true}
+use mathlib.Core.List.{List, [], ◌++◌, append_assoc, append-nil}
 use native.Mathlib.Omega.{arith}
 use borrow.Author.Tests.{eqb-true, eqb-false, ltb-true}
 use lib.Dec.{eqb, ltb, lit≤}
-use lib.ListN.{length, take, drop}
+use lib.ListN.{length, take}
 use Rattle.field.specs.Text.{part}
 use Rattle.field.proofs.Parts.{part_join}
 use Rattle.field_word.specs.Word.{weight, Bytes, Weight}
 use Rattle.file_record.specs.Parts.{record_at}
 use Rattle.file_record.proofs.Records.{part_length, part-part, record-length}
-use Rattle.file_compare.specs.Order.{order, same, above}
+use Rattle.std.specs.Ordering.{is_gt, ordering_then}
+use Rattle.file_compare.specs.Order.{order, ordering, same, above}
 use Rattle.file_compare.proofs.Order.{order-equal, order-bound, front_below, above-yes}
+use Rattle.file_compare.proofs.Orderings.{above_ordering}
 use Rattle.file_compare.proofs.Words.{order-behind, order-join, weight-above, weight-same}
 
 -- a record has its bytes
@@ -28,8 +30,15 @@ or-known false u v known e = known e
 
 -- two things compared, the second where the first are the same
 pub joined-above : (p q x y : List ℕ) → length p ≡ length q
-    → eqb (cond (eqb (order p q) 0) (order x y) (order p q)) 2 ≡ above (p ++ x) (q ++ y)
-joined-above p q x y e = sym (ap (λ n. eqb n 2) (order-join p q x y e))
+    → is_gt (ordering_then (ordering (order p q)) (ordering (order x y))) ≡ above (p ++ x) (q ++ y)
+joined-above p q x y e = by-number (order p q) (order-bound p q) (sym (ap (λ n. eqb n 2) (order-join p q x y e)))
+  where
+    by-number : (n : ℕ) → n ≤ 2 → eqb (cond (eqb n 0) (order x y) n) 2 ≡ above (p ++ x) (q ++ y)
+        → is_gt (ordering_then (ordering n) (ordering (order x y))) ≡ above (p ++ x) (q ++ y)
+    by-number zero h o = above_ordering x y ∙ o
+    by-number (suc zero) h o = o
+    by-number (suc (suc zero)) h o = o
+    by-number (suc (suc (suc n))) h o = absurd (omega arith)
 
 -- parts of records that have them are as long as each other
 pub alike : (a b : List ℕ) (start end : ℕ) → start ≤ end → end ≤ length a → end ≤ length b

@@ -1,5 +1,5 @@
 // Whether what the sequence compares of a record is above that of the one before.
-ghost use Rattle.std.specs.Prelude.{◌≡◌, true, cond, ◌≤◌, eqb, length};
+ghost use Rattle.std.specs.Prelude.{◌≡◌, true, ◌≤◌, length};
 ghost use Rattle.field.specs.Text.{part};
 ghost use Rattle.file_compare.specs.Order.{above};
 ghost use Rattle.file.specs.Check.{higher};
@@ -11,13 +11,6 @@ use file_compare::inner::is_above_8;
 use file_compare::{order_of, same_bytes};
 use file_record::part_of;
 use mainfile_record::{Address, Locality, Organisation, Text};
-
-// How two things compare of which the second decides only where the first are the same: whether the one is above.
-fn is_above_by(first: usize, second: usize) -> bool
-    ensures { result ≡ eqb (cond (eqb first 0) second first) 2 }
-{
-    if first == 0 { second == 2 } else { first == 2 }
-}
 
 // Organisations: by type, then by key.
 fn is_higher_organisation(before: &[u8], rec: &[u8]) -> bool
@@ -32,7 +25,7 @@ fn is_higher_organisation(before: &[u8], rec: &[u8]) -> bool
         part_of(rec, 0, Organisation::TYPE),
         part_of(before, 0, Organisation::TYPE),
     );
-    is_above_by(kind, key)
+    kind.then(key).is_gt()
 }
 
 // Addresses: by postcode and address key, then by organisation key.
@@ -48,7 +41,7 @@ fn is_higher_address(before: &[u8], rec: &[u8]) -> bool
         part_of(rec, Address::ORGANISATION_KEY, Address::POSTCODE_TYPE),
         part_of(before, Address::ORGANISATION_KEY, Address::POSTCODE_TYPE),
     );
-    is_above_by(front, key)
+    front.then(key).is_gt()
 }
 
 pub fn is_higher(kind: MainKind, before: &[u8], rec: &[u8]) -> bool

@@ -1,6 +1,5 @@
 // Whether a record is known to stand as it must: asked without a place and without a reason, since nearly all do.
 ghost use Rattle.std.specs.Prelude.{◌≡◌, true, ◌||◌, ◌+◌, ◌-◌, ◌/◌, ◌≤◌, ◌<◌, eqb, length};
-ghost use Rattle.refusal.specs.declared.Verdict.TheVariants.{Fine};
 ghost use Rattle.field.specs.Text.{part};
 ghost use Rattle.file_record.specs.Parts.{record_at};
 ghost use Rattle.file_compare.specs.Order.{above};
@@ -8,6 +7,7 @@ ghost use Rattle.mainfile_fault.specs.Faults.{main_text_fault};
 ghost use Rattle.file.specs.Check.{judged};
 ghost use Rattle.file.specs.Walk.{Walk};
 ghost use Rattle.file.specs.Mainfile.{localities, descriptors, organisations, addresses, main_format};
+ghost use Rattle.refusal.specs.Verdict.{fine};
 
 use crate::rising::{is_rising_address, is_rising_key, is_rising_organisation, is_rising_short};
 use file::MainKind;
@@ -20,7 +20,7 @@ use mainfile_rows::inner::{
 // A locality.
 fn is_standing_locality(file: &[u8], i: usize) -> bool
     requires { Walk localities file.now i }
-    ensures { result ≡ true → judged localities file.now i ≡ Fine }
+    ensures { result ≡ true → judged localities file.now i ≡ fine }
 {
     let rec = whole_record(file, Locality::WIDTH, i);
     let before = whole_record(file, Locality::WIDTH, i - 1);
@@ -45,7 +45,7 @@ fn is_standing_name(file: &[u8], width: usize, most: usize, i: usize) -> bool
 // A descriptor.
 fn is_standing_descriptor(file: &[u8], i: usize) -> bool
     requires { Walk descriptors file.now i }
-    ensures { result ≡ true → judged descriptors file.now i ≡ Fine }
+    ensures { result ≡ true → judged descriptors file.now i ≡ fine }
 {
     let rec = whole_record(file, Text::DESCRIPTOR_WIDTH, i);
     let before = whole_record(file, Text::DESCRIPTOR_WIDTH, i - 1);
@@ -56,7 +56,7 @@ fn is_standing_descriptor(file: &[u8], i: usize) -> bool
 // An organisation.
 fn is_standing_organisation(file: &[u8], i: usize) -> bool
     requires { Walk organisations file.now i }
-    ensures { result ≡ true → judged organisations file.now i ≡ Fine }
+    ensures { result ≡ true → judged organisations file.now i ≡ fine }
 {
     let rec = whole_record(file, Organisation::WIDTH, i);
     let before = whole_record(file, Organisation::WIDTH, i - 1);
@@ -67,7 +67,7 @@ fn is_standing_organisation(file: &[u8], i: usize) -> bool
 // An address.
 fn is_standing_address(file: &[u8], i: usize) -> bool
     requires { Walk addresses file.now i }
-    ensures { result ≡ true → judged addresses file.now i ≡ Fine }
+    ensures { result ≡ true → judged addresses file.now i ≡ fine }
 {
     let rec = whole_record(file, Address::WIDTH, i);
     let before = whole_record(file, Address::WIDTH, i - 1);
@@ -78,7 +78,7 @@ fn is_standing_address(file: &[u8], i: usize) -> bool
 // Record `i`, where the one before it is judged fine or is the header.
 pub fn is_standing(kind: MainKind, file: &[u8], i: usize) -> bool
     requires { Walk (main_format kind) file.now i }
-    ensures { result ≡ true → judged (main_format kind) file.now i ≡ Fine }
+    ensures { result ≡ true → judged (main_format kind) file.now i ≡ fine }
 {
     match kind {
         MainKind::Localities => is_standing_locality(file, i),

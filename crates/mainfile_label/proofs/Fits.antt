@@ -4,8 +4,6 @@ use Prim.Native.Nat.{ℕ, ◌/◌, ◌≤◌, ◌<◌}
 use mathlib.Core.Path.{◌≡◌, refl, sym, subst}
 use mathlib.Core.List.{List}
 use lib.ListN.{length}
-use Rattle.refusal.specs.declared.Verdict.{Verdict}
-use Rattle.refusal.specs.declared.Verdict.TheVariants.{Fine, Bad}
 use Rattle.source.specs.declared.DeliveryPoint.{DeliveryPoint}
 use Rattle.source.specs.Delivery.{refusal_in}
 use Rattle.source.specs.Resolve.{Resolved, elements, refused}
@@ -20,6 +18,8 @@ use Rattle.mainfile.specs.Accepted.{AcceptedSet}
 use Rattle.mainfile_meaning.specs.Elements.{elements_at, point_at, rows_at}
 use Rattle.mainfile_meaning.proofs.Meant.{resolved-fine, resolved-bad}
 use Rattle.mainfile_label.specs.Places.{resolved_at}
+use Rattle.std.specs.Prelude.{Ok, Err}
+use Rattle.refusal.specs.Verdict.{Verdict}
 
 -- what is printed of an address has at most 499 bytes
 abbrev pub Short : Resolved → Type 0
@@ -58,7 +58,7 @@ pub resolved-short : (s : Set) → AcceptedSet s → (place : ℕ) → place < l
 resolved-short s ok place high = by-verdict (refusal_in (point_at s place) (rows_at s place)) refl
   where
     by-verdict : (v : Verdict) → refusal_in (point_at s place) (rows_at s place) ≡ v → Short (resolved_at s place)
-    by-verdict Fine e =
+    by-verdict (Ok _) e =
         subst (λ (r : Resolved). Short r) (sym (resolved-fine s ok place high 0 e))
         (at-most-499 (elements_at s (point_at s place) (rows_at s place)) (texts-fit s (point_at s place) (rows_at s place)))
-    by-verdict (Bad why) e = subst (λ (r : Resolved). Short r) (sym (resolved-bad s ok place high 0 why e)) tt
+    by-verdict (Err why) e = subst (λ (r : Resolved). Short r) (sym (resolved-bad s ok place high 0 why e)) tt

@@ -10,7 +10,6 @@ use borrow.Author.Tests.{eq-eqb, ne_eqb, ltb-true, ltb-false, lt-ltb, le-ltb}
 use lib.Dec.{ltb}
 use lib.ListN.{length}
 use Rattle.refusal.specs.declared.Reason.TheVariants.{NoSuchNumber}
-use Rattle.refusal.specs.declared.Answer.TheVariants.{Value, Refused}
 use Rattle.refusal.specs.Outcome.{said}
 use Rattle.refusal.proofs.Outcomes.{afterwards-value}
 use Rattle.file_record.specs.Parts.{record_at}
@@ -31,6 +30,8 @@ use Rattle.mainfile_check.proofs.Laws.{set-accepted}
 use Rattle.mainfile_views.specs.Range.{views_in, first_in, many_in}
 use Rattle.mainfile_views.proofs.Together.{in-code-range, range-low, range-high}
 use Rattle.mainfile_label.specs.Places.{place_among, resolved_at, place_label, AddressPlace, Between}
+use Rattle.std.specs.Prelude.{Ok}
+use Rattle.refusal.specs.Answer.{refusal}
 
 -- ---- among records that stand together
 
@@ -48,7 +49,7 @@ among_none first many (suc j) there h =
 -- ---- one place
 
 module _ (s : Set) (place : ℕ) (out : List ℕ) where
-  pub no_place : place ≡ 0 → place_label s place out ≡ said (Refused 0 NoSuchNumber) out
+  pub no_place : place ≡ 0 → place_label s place out ≡ said (refusal 0 NoSuchNumber) out
   unfolding place_label
   no_place e = rw (eq-eqb place 0 e)
 
@@ -138,12 +139,12 @@ module _ (s : Set) (n m : ℕ) (b : Between s n m) where
 
 -- ---- all files together
 
-module _ (s : Set) {n : ℕ} (taken : set_judged s ≡ Value n) where
+module _ (s : Set) {n : ℕ} (taken : set_judged s ≡ Ok n) where
   pub view-by-place : (view : ℕ) (out : List ℕ)
       → place_label s (place_among 1 (views_in s.addresses) view) out ≡ view_label (main_of s) view out
   unfolding view_label addresses_in
   view-by-place view out =
-      place-is-kth s 1 (views_in s.addresses) view out (omega arith) ∙ sym (afterwards-value Refused out _ taken)
+      place-is-kth s 1 (views_in s.addresses) view out (omega arith) ∙ sym (afterwards-value refusal out _ taken)
 
   pub code-by-place : (code : List ℕ) → outward_fault code ≡ 0 → (k : ℕ) (out : List ℕ)
       → place_label s (place_among (first_in s.addresses code) (many_in s.addresses code) k) out
@@ -153,4 +154,4 @@ module _ (s : Set) {n : ℕ} (taken : set_judged s ≡ Value n) where
       let a = (set-accepted s taken).addresses in
       place-is-kth s (first_in s.addresses code) (many_in s.addresses code) k out (range-low s code a)
       ∙ (ap (λ views. kth_label (set_lookup s) views k out) (sym (in-code-range s code a))
-      ∙ sym (by-good-code Refused code out _ (main_of s) taken clean))
+      ∙ sym (by-good-code refusal code out _ (main_of s) taken clean))

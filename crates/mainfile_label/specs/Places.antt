@@ -2,8 +2,6 @@
 -- Assumes nothing.
 use Rattle.std.specs.Prelude.{ℕ, zero, suc, ◌+◌, ◌-◌, ◌/◌, ◌≤◌, ◌<◌, cond, List, eqb, ltb, length}
 use Rattle.refusal.specs.declared.Reason.TheVariants.{NoSuchNumber}
-use Rattle.refusal.specs.declared.Answer.{Answer}
-use Rattle.refusal.specs.declared.Answer.TheVariants.{Refused}
 use Rattle.refusal.specs.Outcome.{Outcome, said}
 use Rattle.file_record.specs.Parts.{record_at}
 use Rattle.mainfile_record.specs.Address as At
@@ -13,6 +11,7 @@ use Rattle.mainfile.specs.Set.{Set}
 use Rattle.mainfile.specs.Rows.{set_lookup}
 use Rattle.mainfile.specs.Addresses.{address_of}
 use Rattle.mainfile.specs.Accepted.{AcceptedSet}
+use Rattle.refusal.specs.Answer.{Answer, refusal}
 
 -- the record of the k-th of so many that stand together, counted from 1; 0 where there is none
 abbrev pub place_among : (first many k : ℕ) → ℕ
@@ -27,7 +26,7 @@ resolved_at s place =
 -- its label; "7: no view or point of that number" where there is no place
 unfoldable pub place_label : Set → (place : ℕ) → List ℕ → Outcome Answer
 place_label s place out =
-    cond (eqb place 0) (said (Refused 0 NoSuchNumber) out) (resolved_outcome (resolved_at s place) out)
+    cond (eqb place 0) (said (refusal 0 NoSuchNumber) out) (resolved_outcome (resolved_at s place) out)
 
 -- what a caller shows of a place: the files are accepted, and a place stands before the trailer
 pub record AddressPlace (s : Set) (place : ℕ) : Type 0 where

@@ -9,7 +9,7 @@ ghost use Rattle.mainfile_label.specs.Places.{place_among, AddressPlace, place_l
 use mainfile_texts::inner::{gather_localities, gather_own, gather_premises, gather_streets};
 use mainfile_texts::{Places, spans_from};
 use mainfile_views::Stretch;
-use refusal::{Answer, Reason, Verdict};
+use refusal::{Answer, Reason};
 use source::{DeliveryPoint, Found};
 
 // The record of the k-th of some that stand together; 0 where there is none.
@@ -72,10 +72,7 @@ pub fn label_at(
         addresses.now) place out.old }
 {
     if place == 0 {
-        return Answer::Refused {
-            file: 0,
-            reason: Reason::NoSuchNumber,
-        };
+        return Err(Reason::NoSuchNumber.into());
     }
     let p = mainfile_source::delivery_at(addresses, organisations, place);
     let keys = p.keys;
@@ -87,19 +84,17 @@ pub fn label_at(
         sub_buildings,
         keys,
     );
-    match source_keys::refusal_in(p, found) {
-        Verdict::Fine => print_from(
-            localities,
-            thoroughfares,
-            descriptors,
-            buildings,
-            sub_buildings,
-            organisations,
-            addresses,
-            p,
-            found,
-            out,
-        ),
-        Verdict::Bad(reason) => Answer::Refused { file: 0, reason },
-    }
+    source_keys::refusal_in(p, found)?;
+    print_from(
+        localities,
+        thoroughfares,
+        descriptors,
+        buildings,
+        sub_buildings,
+        organisations,
+        addresses,
+        p,
+        found,
+        out,
+    )
 }

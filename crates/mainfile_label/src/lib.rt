@@ -29,7 +29,7 @@ pub fn label_view(
         thoroughfares.now descriptors.now buildings.now subs.now
         organisations.now addresses.now)) view out.old }
 {
-    match check_set(
+    check_set(
         localities,
         thoroughfares,
         descriptors,
@@ -37,23 +37,19 @@ pub fn label_view(
         subs,
         organisations,
         addresses,
-    ) {
-        Answer::Value(_) => {
-            let place = place_among(mainfile_views::all_in(addresses), view);
-            label_at(
-                localities,
-                thoroughfares,
-                descriptors,
-                buildings,
-                subs,
-                organisations,
-                addresses,
-                place,
-                out,
-            )
-        }
-        Answer::Refused { file, reason } => Answer::Refused { file, reason },
-    }
+    )?;
+    let place = place_among(mainfile_views::all_in(addresses), view);
+    label_at(
+        localities,
+        thoroughfares,
+        descriptors,
+        buildings,
+        subs,
+        organisations,
+        addresses,
+        place,
+        out,
+    )
 }
 
 // The label of the k-th address in a code.
@@ -73,7 +69,7 @@ pub fn label_in_code(
         thoroughfares.now descriptors.now buildings.now subs.now
         organisations.now addresses.now)) code.now k out.old }
 {
-    match check_set(
+    check_set(
         localities,
         thoroughfares,
         descriptors,
@@ -81,27 +77,20 @@ pub fn label_in_code(
         subs,
         organisations,
         addresses,
-    ) {
-        Answer::Value(_) => {
-            if field_outward::outward_fault(code) != 0 {
-                return Answer::Refused {
-                    file: 0,
-                    reason: Reason::BadCode,
-                };
-            }
-            let place = place_among(mainfile_views::stretch_in(addresses, code), k);
-            label_at(
-                localities,
-                thoroughfares,
-                descriptors,
-                buildings,
-                subs,
-                organisations,
-                addresses,
-                place,
-                out,
-            )
-        }
-        Answer::Refused { file, reason } => Answer::Refused { file, reason },
+    )?;
+    if field_outward::outward_fault(code) != 0 {
+        return Err(Reason::BadCode.into());
     }
+    let place = place_among(mainfile_views::stretch_in(addresses, code), k);
+    label_at(
+        localities,
+        thoroughfares,
+        descriptors,
+        buildings,
+        subs,
+        organisations,
+        addresses,
+        place,
+        out,
+    )
 }

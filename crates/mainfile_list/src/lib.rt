@@ -21,7 +21,7 @@ pub fn views_in(
         descriptors.now buildings.now subs.now
         organisations.now addresses.now) }
 {
-    match mainfile_check::check_set(
+    mainfile_check::check_set(
         localities,
         thoroughfares,
         descriptors,
@@ -29,11 +29,7 @@ pub fn views_in(
         subs,
         organisations,
         addresses,
-    ) {
-        Answer::Value(_) => {
-            let all = mainfile_views::all_in(addresses);
-            Answer::Value(all.many)
-        }
-        Answer::Refused { file, reason } => Answer::Refused { file, reason },
-    }
+    )?;
+    let all = mainfile_views::all_in(addresses);
+    Ok(all.many)
 }

@@ -1,7 +1,7 @@
 -- The addresses of a stretch as they are packed: from one to the next, and the rows that they refer to.
 -- Assumes nothing.
-use Prim.Native.Nat.{ℕ, zero, suc, ◌+◌, ◌-◌, ◌*◌, ◌/◌, ◌≤◌, ◌<◌}
-use mathlib.Core.Path.{◌≡◌, refl, sym, ap, ◌∙◌}
+use Prim.Native.Nat.{ℕ, zero, suc, ◌+◌, ◌-◌, ◌/◌, ◌≤◌, ◌<◌}
+use mathlib.Core.Path.{◌≡◌, refl, ap, ◌∙◌}
 use mathlib.Core.Bool.{Bool, true, false, cond}
 use mathlib.Core.List.{List, [], ◌∷◌}
 use native.Mathlib.Omega.{arith}
@@ -9,7 +9,7 @@ use lib.ListN.{length, get_or}
 use Rattle.source.specs.Address.{present, key_kinds, asked_by, ref}
 use Rattle.source.specs.Delivery.{Small}
 use Rattle.shelf.proofs.Last.{found_before}
-use Rattle.build.specs.Plan.{Packed, rows_of}
+use Rattle.build.specs.Plan.{rows_of}
 use Rattle.mainfile.specs.Set.{Set}
 use Rattle.mainfile.specs.Rows.{shelf_of, file_of, kind_stock, set_stock}
 use Rattle.mainfile.specs.Addresses.{address_of}

@@ -1,7 +1,6 @@
 -- Marks of the rows of a set: bits for each of its five files of rows, and the one list of marks that they come to.
 -- Assumes nothing.
 use Rattle.std.specs.Prelude.{ℕ, ◌*◌, ◌≤◌, ◌<◌, List, [], ◌∷◌, length, get_or}
-use Rattle.shelf.specs.Stock.{Stock}
 use Rattle.build.specs.Rows.{joined_marks}
 use Rattle.build.specs.Bytes.{used_rows}
 use Rattle.build_bits.specs.Marks.{shelf_marks}

@@ -1,8 +1,6 @@
 -- The addresses of a stretch of records, as they are packed.
 -- Assumes nothing.
 use Rattle.std.specs.Prelude.{ℕ, zero, suc, ◌≡◌, List, [], ◌∷◌}
-use Rattle.refusal.specs.declared.Verdict.{Verdict}
-use Rattle.refusal.specs.declared.Verdict.TheVariants.{Fine}
 use Rattle.source.specs.Delivery.{refusal_in}
 use Rattle.build.specs.Plan.{Packed, rows_of, first_refused, mark_rows, mark_all}
 use Rattle.mainfile.specs.Set.{Set}
@@ -12,6 +10,7 @@ use Rattle.mainfile_source.specs.Delivery.{delivery_at}
 use Rattle.mainfile_meaning.specs.Elements.{point_at}
 use Rattle.mainfile_views.specs.Range.{first_in, many_in}
 use Rattle.mainfile_mark.specs.Marks.{BitsFor}
+use Rattle.refusal.specs.Verdict.{Verdict, fine}
 
 -- "A view is an address record, numbered from 1 in file order": record i, which has the number i
 abbrev pub packed_at : (addresses organisations : List ℕ) → ℕ → Packed
@@ -39,10 +38,10 @@ pub record Markable (s : Set) (localities thoroughfares descriptors buildings su
 -- what marking says of record i, and the marks that it leaves: those of its rows too, where it is not refused
 pub record MarksAddress (s : Set) (i : ℕ) (marks : List ℕ) (v : Verdict) (marked : List ℕ) : Type 0 where
   pub said : v ≡ refusal_in (point_at s i) (rows_of (set_stock s) (point_at s i))
-  pub marks_rows : v ≡ Fine → marked ≡ mark_rows (rows_of (set_stock s) (point_at s i)) marks
+  pub marks_rows : v ≡ fine → marked ≡ mark_rows (rows_of (set_stock s) (point_at s i)) marks
 
 -- the same of so many records from one on: the refusal "of the first live view in that code that has one", and the marks of
 -- all their rows, where none is refused
 pub record MarksAddresses (s : Set) (first many : ℕ) (marks : List ℕ) (v : Verdict) (marked : List ℕ) : Type 0 where
   pub said : v ≡ first_refused (set_stock s) (packed_from s first many)
-  pub marks_all : v ≡ Fine → marked ≡ mark_all (set_stock s) (packed_from s first many) marks
+  pub marks_all : v ≡ fine → marked ≡ mark_all (set_stock s) (packed_from s first many) marks

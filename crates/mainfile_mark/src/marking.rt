@@ -1,10 +1,10 @@
 // Rows of a set marked, each by a bit of its file.
 ghost use Rattle.std.specs.Prelude.{◌≡◌};
-ghost use Rattle.refusal.specs.declared.Verdict.TheVariants.{Fine};
 ghost use Rattle.source.specs.Delivery.{refusal_in};
 ghost use Rattle.build.specs.Plan.{mark_rows};
 ghost use Rattle.mainfile.specs.Set.{Set};
 ghost use Rattle.mainfile_mark.specs.Marks.{set_marks, set_rows, InFiles, BitsFor};
+ghost use Rattle.refusal.specs.Verdict.{fine};
 
 use build_bits::inner::mark_row;
 use refusal::Verdict;
@@ -48,7 +48,7 @@ pub fn mark_point(
     sub_buildings: &mut [u32],
 ) -> Verdict
     ensures said { result ≡ refusal_in p found.rows }
-    ensures marked { result ≡ Fine → (s : Set) → InFiles s found.rows
+    ensures marked { result ≡ fine → (s : Set) → InFiles s found.rows
         → BitsFor s localities.old thoroughfares.old descriptors.old
         buildings.old sub_buildings.old
         → set_marks s localities.new thoroughfares.new descriptors.new
@@ -56,19 +56,15 @@ pub fn mark_point(
         ≡ mark_rows (set_rows s found.rows) (set_marks s localities.old thoroughfares.old
         descriptors.old buildings.old sub_buildings.old) }
 {
-    match source_keys::refusal_in(p, found) {
-        Verdict::Fine => {
-            let rows = found.rows;
-            mark_rows(
-                rows,
-                localities,
-                thoroughfares,
-                descriptors,
-                buildings,
-                sub_buildings,
-            );
-            Verdict::Fine
-        }
-        Verdict::Bad(why) => Verdict::Bad(why),
-    }
+    source_keys::refusal_in(p, found)?;
+    let rows = found.rows;
+    mark_rows(
+        rows,
+        localities,
+        thoroughfares,
+        descriptors,
+        buildings,
+        sub_buildings,
+    );
+    Ok(())
 }

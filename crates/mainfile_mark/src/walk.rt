@@ -8,7 +8,7 @@ ghost use Rattle.mainfile_mark.specs.Packed.{Markable, MarksAddress, MarksAddres
 
 use crate::marking::mark_point;
 use mainfile_source::{delivery_at, kind_rows};
-use refusal::Verdict;
+use refusal::{Verdict, with_view};
 
 // Refusal 8 or 9 of an address record; where there is none, its rows are marked.
 fn mark_address(
@@ -96,10 +96,8 @@ pub fn mark_addresses(
         of_localities.new of_thoroughfares.new of_descriptors.new
         of_buildings.new of_sub_buildings.new) }
 {
-    let end = first + many;
-    let mut i = first;
-    while i < end {
-        match mark_address(
+    for i in first..first + many {
+        mark_address(
             localities,
             thoroughfares,
             descriptors,
@@ -113,13 +111,8 @@ pub fn mark_addresses(
             of_descriptors,
             of_buildings,
             of_sub_buildings,
-        ) {
-            Verdict::Fine => {}
-            Verdict::Bad(why) => {
-                return Verdict::Bad(refusal::with_view(why, i));
-            }
-        }
-        i += 1;
+        )
+        .map_err(|why| with_view(why, i))?;
     }
-    Verdict::Fine
+    Ok(())
 }

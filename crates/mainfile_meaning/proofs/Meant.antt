@@ -2,33 +2,34 @@
 -- Assumes nothing.
 use Prim.Native.Nat.{ℕ, zero, suc, ◌+◌, ◌/◌, ◌<◌}
 use mathlib.Core.Path.{◌≡◌, refl, sym, ap, subst, ◌∙◌}
-use mathlib.Core.Bool.{Bool, true, false, cond, ◌&&◌}
+use mathlib.Core.Bool.{cond}
 use mathlib.Core.List.{List, [], ◌∷◌}
 use native.Mathlib.Omega.{arith}
 use borrow.Author.Tests.{ne_eqb}
 use lib.Dec.{eqb}
 use lib.ListN.{length, get_or}
 use Rattle.refusal.specs.declared.Reason.{Reason}
-use Rattle.refusal.specs.declared.Verdict.TheVariants.{Fine, Bad}
 use Rattle.file_record.specs.Parts.{record_at}
-use Rattle.source.specs.Address.{Address, present, key_kinds, asked_by, ref}
-use Rattle.source.specs.Resolve.{text_or, text_of, elements_of, Resolved, elements, refused, resolve}
+use Rattle.source.specs.Address.{Address, present, ref}
+use Rattle.source.specs.Resolve.{text_of, elements_of, elements, refused, resolve}
 use Rattle.source.specs.declared.DeliveryPoint.{DeliveryPoint}
 use Rattle.source.specs.Delivery.{Small, asked_of, rows_for, lacking_from, missing_in, refusal_in}
 use Rattle.shelf.specs.Stock.{look_in, Good}
 use Rattle.source_meaning.proofs.Refusals.{resolved_by, refusal-meant}
-use Rattle.source_meaning.proofs.Elements.{key-said, Kinds, found_by, elements-from}
+use Rattle.source_meaning.proofs.Elements.{key-said, Kinds, elements-from}
 use Rattle.mainfile.specs.Set.{Set}
 use Rattle.mainfile.specs.Rows.{shelf_of, file_of, kind_stock, set_stock, set_lookup}
 use Rattle.mainfile.specs.Addresses.{address_of}
 use Rattle.mainfile.specs.Accepted.{AcceptedRows, AcceptedSet}
-use Rattle.mainfile_source.specs.Rows.{rows_by, kind_found, rows_ahead, behind_by}
+use Rattle.mainfile_source.specs.Rows.{kind_found, rows_ahead, behind_by}
 use Rattle.mainfile_source.specs.Delivery.{delivery_at}
 use Rattle.mainfile_source.proofs.Shelves.{good-1, good-2, good-3, good-4, good-5}
 use Rattle.mainfile_source.proofs.Joined.{look-1, look-2, look-3, look-4, look-5}
 use Rattle.mainfile_source.proofs.Seven.{kind-found, set-rows}
 use Rattle.mainfile_meaning.specs.Elements.{kind_text, elements_at, point_at, rows_at}
 use Rattle.mainfile_meaning.proofs.Says.{says_at}
+use Rattle.std.specs.Prelude.{Err}
+use Rattle.refusal.specs.Verdict.{fine}
 
 -- ---- refusals, by whether rows are found
 
@@ -130,10 +131,10 @@ module _ (s : Set) (ok : AcceptedSet s) (i : ℕ) (high : i < length s.addresses
       elements-from (set_lookup s) (kind_text s) (kind_found s) (texts-said s ok.rows) s.addresses s.organisations
       (point_at s i) address (says_at s.addresses s.organisations i high ok.organisations n)
 
-  pub resolved-fine : refusal_in (point_at s i) (rows_at s i) ≡ Fine
+  pub resolved-fine : refusal_in (point_at s i) (rows_at s i) ≡ fine
       → resolve (set_lookup s) address ≡ elements (elements_at s (point_at s i) (rows_at s i))
   resolved-fine e = resolved ∙ rw (e, sym elements-are)
 
-  pub resolved-bad : (why : Reason) → refusal_in (point_at s i) (rows_at s i) ≡ Bad why
+  pub resolved-bad : (why : Reason) → refusal_in (point_at s i) (rows_at s i) ≡ Err why
       → resolve (set_lookup s) address ≡ refused why
   resolved-bad why e = resolved ∙ rw e

@@ -1,11 +1,10 @@
 -- The packed addresses of an accepted set: each says its address, its texts lie within the two files, and the numbers
 -- rise.
 -- Assumes nothing.
-use Prim.Native.Nat.{ℕ, zero, suc, ◌+◌, ◌/◌, ◌≤◌, ◌<◌}
-use mathlib.Core.Path.{◌≡◌, refl, sym, subst}
+use Prim.Native.Nat.{ℕ, zero, suc, ◌+◌, ◌≤◌, ◌<◌}
+use mathlib.Core.Path.{refl, sym, subst}
 use mathlib.Core.List.{List}
 use native.Mathlib.Omega.{arith}
-use lib.ListN.{length}
 use Rattle.file.specs.Mainfile as Format
 use Rattle.file.proofs.Laws.{within-limit}
 use Rattle.source.specs.Address.{Address}

@@ -17,15 +17,12 @@ pub fn organisations_in(organisations: &[u8], addresses: &[u8], first: usize, ma
     ensures bytes { result.bytes ≡ length (organisation_rows organisations.now
         (packed_by addresses.now organisations.now first many)) }
 {
-    let end = first + many;
     let mut rows = 0;
     let mut bytes = 0;
-    let mut i = first;
-    while i < end {
+    for i in first..first + many {
         let p = delivery_at(addresses, organisations, i);
         rows += one_if(p.organised);
         bytes += organisation_len(organisations, p.organised, p.organisation);
-        i += 1;
     }
     Sums { rows, bytes }
 }
@@ -46,13 +43,10 @@ pub fn organisations_at(
         (packed_by addresses.now organisations.now first many))
         out.old at result out.new }
 {
-    let end = first + many;
     let mut to = at;
-    let mut i = first;
-    while i < end {
+    for i in first..first + many {
         let p = delivery_at(addresses, organisations, i);
         to = organisation_at(organisations, p.organised, p.organisation, to, out);
-        i += 1;
     }
     to
 }

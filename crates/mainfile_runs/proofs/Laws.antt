@@ -1,6 +1,6 @@
 -- Laws of what is shown of one record of a set, and of the next.
 -- Assumes nothing.
-use Prim.Native.Nat.{ℕ, zero, suc, ◌+◌, ◌-◌, ◌≤◌, ◌<◌}
+use Prim.Native.Nat.{ℕ, zero, suc, ◌+◌, ◌≤◌, ◌<◌}
 use mathlib.Core.Path.{◌≡◌, refl, sym, ◌∙◌}
 use mathlib.Core.Bool.{Bool, true, false, cond}
 use mathlib.Core.List.{List, ◌++◌}
@@ -11,8 +11,6 @@ use lib.Dec.{eqb, ltb}
 use lib.ListN.{length, take, drop}
 use Rattle.file_record.specs.Parts.{record_at}
 use Rattle.refusal.specs.declared.Reason.TheVariants.{NoSuchNumber}
-use Rattle.refusal.specs.declared.Answer.{Answer}
-use Rattle.refusal.specs.declared.Answer.TheVariants.{Value, Refused}
 use Rattle.refusal.specs.Outcome.{said}
 use Rattle.refusal.proofs.Answers.{refused-value}
 use Rattle.refusal.proofs.Outcomes.{answer-of}
@@ -30,19 +28,21 @@ use Rattle.mainfile_label.specs.Places.{place_among, resolved_at, place_label, A
 use Rattle.mainfile_label.proofs.Laws.{no_place, some-place}
 use Rattle.mainfile_label.proofs.Fits.{Short, resolved-short}
 use Rattle.mainfile_runs.specs.Shown.{shown_of, shown_at, place_behind}
+use Rattle.std.specs.Prelude.{Ok}
+use Rattle.refusal.specs.Answer.{Answer, refusal}
 
 -- ---- one record
 
 -- what is answered with its bytes fits
 shown-within : (listed : Bool) (view : ℕ) (r : Resolved) (out : List ℕ) (b : ℕ)
-    → (shown_of listed view r out).answer ≡ Value b
+    → (shown_of listed view r out).answer ≡ Ok b
     → b ≤ length (shown_of listed view r out).memory
 shown-within true view r out b e = room_within (number_line view ++ resolved_text r) out b e
 shown-within false view (elements x) out b e = room_within (label_of x) out b e
 shown-within false view (refused why) out b e = absurd (refused-value 0 b why e)
 
 module _ (listed : Bool) (s : Set) (place : ℕ) (out : List ℕ) where
-  pub shown-none : place ≡ 0 → shown_at listed s place out ≡ said (Refused 0 NoSuchNumber) out
+  pub shown-none : place ≡ 0 → shown_at listed s place out ≡ said (refusal 0 NoSuchNumber) out
   unfolding shown_at
   shown-none e = rw (eq-eqb place 0 e)
 
@@ -51,7 +51,7 @@ module _ (listed : Bool) (s : Set) (place : ℕ) (out : List ℕ) where
   shown-some there = rw (ne_eqb place 0 there)
 
   -- what is answered with its bytes is an address's, and fits
-  module _ (b : ℕ) (e : (shown_at listed s place out).answer ≡ Value b) where
+  module _ (b : ℕ) (e : (shown_at listed s place out).answer ≡ Ok b) where
     pub shown-there : place ≡ 0 → ⊥
     shown-there z = refused-value 0 b NoSuchNumber (sym (answer-of (shown-none z)) ∙ e)
 

@@ -10,8 +10,6 @@ use borrow.Author.Tests.{ltb-true, ltb-false}
 use lib.Dec.{ltb}
 use Rattle.file_record.specs.Parts.{record_at}
 use Rattle.field_outward.specs.Outward.{outward_fault}
-use Rattle.refusal.specs.declared.Answer.{Answer}
-use Rattle.refusal.specs.declared.Answer.TheVariants.{Value, Refused}
 use Rattle.refusal.specs.Outcome.{Outcome}
 use Rattle.refusal.proofs.Outcomes.{afterwards-value}
 use Rattle.source.specs.Address.{Address}
@@ -36,6 +34,8 @@ use Rattle.mainfile_views.proofs.Together.{in-code-range, range-low}
 use Rattle.mainfile_label.proofs.Laws.{resolve-number, kth-zero, kth-there, kth-none, view-by-place, code-by-place}
 use Rattle.mainfile_runs.specs.Shown.{shown_at, shown_among}
 use Rattle.mainfile_runs.proofs.Laws.{shown-none, shown-some, shown-label}
+use Rattle.std.specs.Prelude.{Ok}
+use Rattle.refusal.specs.Answer.{Answer, refusal}
 
 -- ---- items
 
@@ -83,13 +83,13 @@ module _ (s : Set) where
 
 -- ---- where the files are accepted
 
-module _ (s : Set) {n : ℕ} (taken : set_judged s ≡ Value n) where
+module _ (s : Set) {n : ℕ} (taken : set_judged s ≡ Ok n) where
   view-item : (k : ℕ) (out : List ℕ)
       → shown_among true s 1 (views_in s.addresses) k out
       ≡ view_item (headings (main_of s).heading (main_of s).views) (main_of s) k out
   unfolding view_item addresses_in
   view-item k out =
-      item-is-kth s 1 (views_in s.addresses) k out (omega arith) ∙ sym (afterwards-value Refused out _ taken)
+      item-is-kth s 1 (views_in s.addresses) k out (omega arith) ∙ sym (afterwards-value refusal out _ taken)
 
   code-item : (code : List ℕ) → outward_fault code ≡ 0 → (k : ℕ) (out : List ℕ)
       → shown_among true s (first_in s.addresses code) (many_in s.addresses code) k out
@@ -100,7 +100,7 @@ module _ (s : Set) {n : ℕ} (taken : set_judged s ≡ Value n) where
       item-is-kth s (first_in s.addresses code) (many_in s.addresses code) k out (range-low s code a)
       ∙ (ap (λ (views : List Address). kth_item (headings (main_of s).heading views) (set_lookup s) views k out)
       (sym (in-code-range s code a))
-      ∙ sym (by-good-code Refused code out _ (main_of s) taken clean))
+      ∙ sym (by-good-code refusal code out _ (main_of s) taken clean))
 
   pub asks-views : AsksViews (main_of s) (λ listed. shown_among listed s 1 (views_in s.addresses))
   asks-views = record { items = view-item; labels = λ k o. sym (shown-label s _ o) ∙ view-by-place s taken k o }

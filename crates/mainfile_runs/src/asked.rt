@@ -8,7 +8,7 @@ ghost use Rattle.mainfile.specs.Main.{main_of};
 use crate::walk::walk;
 use mainfile_check::check_set;
 use mainfile_views::{all_in, stretch_in};
-use refusal::{Answer, Reason};
+use refusal::Reason;
 use run::Series;
 
 // So many views from one on.
@@ -29,7 +29,7 @@ pub fn of_views(
         thoroughfares.now descriptors.now buildings.now subs.now
         organisations.now addresses.now)) first count out.old }
 {
-    match check_set(
+    check_set(
         localities,
         thoroughfares,
         descriptors,
@@ -37,23 +37,21 @@ pub fn of_views(
         subs,
         organisations,
         addresses,
-    ) {
-        Answer::Value(_) => walk(
-            localities,
-            thoroughfares,
-            descriptors,
-            buildings,
-            subs,
-            organisations,
-            addresses,
-            all_in(addresses),
-            listed,
-            first,
-            count,
-            out,
-        ),
-        Answer::Refused { file, reason } => Series::Unasked { file, reason },
-    }
+    )?;
+    walk(
+        localities,
+        thoroughfares,
+        descriptors,
+        buildings,
+        subs,
+        organisations,
+        addresses,
+        all_in(addresses),
+        listed,
+        first,
+        count,
+        out,
+    )
 }
 
 // So many addresses of a code from the k-th on.
@@ -75,7 +73,7 @@ pub fn in_code(
         thoroughfares.now descriptors.now buildings.now subs.now
         organisations.now addresses.now)) code.now first count out.old }
 {
-    match check_set(
+    check_set(
         localities,
         thoroughfares,
         descriptors,
@@ -83,30 +81,23 @@ pub fn in_code(
         subs,
         organisations,
         addresses,
-    ) {
-        Answer::Value(_) => {
-            if field_outward::outward_fault(code) != 0 {
-                return Series::Unasked {
-                    file: 0,
-                    reason: Reason::BadCode,
-                };
-            }
-            let s = stretch_in(addresses, code);
-            walk(
-                localities,
-                thoroughfares,
-                descriptors,
-                buildings,
-                subs,
-                organisations,
-                addresses,
-                s,
-                listed,
-                first,
-                count,
-                out,
-            )
-        }
-        Answer::Refused { file, reason } => Series::Unasked { file, reason },
+    )?;
+    if field_outward::outward_fault(code) != 0 {
+        return Err(Reason::BadCode.into());
     }
+    let s = stretch_in(addresses, code);
+    walk(
+        localities,
+        thoroughfares,
+        descriptors,
+        buildings,
+        subs,
+        organisations,
+        addresses,
+        s,
+        listed,
+        first,
+        count,
+        out,
+    )
 }

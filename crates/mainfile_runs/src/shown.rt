@@ -1,7 +1,6 @@
 // What is shown of an address of accepted files: its label, or in a listing its item.
-ghost use Rattle.std.specs.Prelude.{◌≡◌, true, ◌≤◌, length};
+ghost use Rattle.std.specs.Prelude.{◌≡◌, true};
 ghost use Rattle.refusal.specs.Outcome.{said};
-ghost use Rattle.run.specs.Series.{asked_behind};
 ghost use Rattle.mainfile.specs.Set.{set_of};
 ghost use Rattle.mainfile_label.specs.Places.{AddressPlace};
 ghost use Rattle.mainfile_runs.specs.Shown.{shown_at};
@@ -48,7 +47,7 @@ fn item_at(
 }
 
 // The item of an address record, or its label alone.
-fn shown_at(
+pub fn shown_at(
     localities: &[u8],
     thoroughfares: &[u8],
     descriptors: &[u8],
@@ -89,39 +88,5 @@ fn shown_at(
         addresses,
         place,
         out,
-    )
-}
-
-// The same behind so many bytes.
-pub fn shown_behind(
-    localities: &[u8],
-    thoroughfares: &[u8],
-    descriptors: &[u8],
-    buildings: &[u8],
-    subs: &[u8],
-    organisations: &[u8],
-    addresses: &[u8],
-    place: usize,
-    listed: bool,
-    at: usize,
-    out: &mut [u8],
-) -> Answer
-    requires { (at ≤ length out.old) × AddressPlace (set_of localities.now thoroughfares.now
-        descriptors.now buildings.now subs.now organisations.now addresses.now) place }
-    ensures { said result out.new ≡ asked_behind at out.old (shown_at listed
-        (set_of localities.now thoroughfares.now descriptors.now
-        buildings.now subs.now organisations.now addresses.now) place) }
-{
-    shown_at(
-        localities,
-        thoroughfares,
-        descriptors,
-        buildings,
-        subs,
-        organisations,
-        addresses,
-        place,
-        listed,
-        &mut out[at..],
     )
 }

@@ -3,14 +3,15 @@ ghost use Rattle.std.specs.Prelude.{◌≡◌, ◌+◌, ◌≤◌};
 ghost use Rattle.refusal.specs.Outcome.{said};
 ghost use Rattle.run.specs.Series.{run_from};
 ghost use Rattle.mainfile.specs.Set.{set_of};
-ghost use Rattle.mainfile_label.specs.Places.{Between};
+ghost use Rattle.mainfile_label.specs.Places.{place_among, Between};
 ghost use Rattle.mainfile_runs.specs.Shown.{shown_among, place_behind};
 
-use crate::shown::shown_behind;
+use crate::shown::shown_at;
 use mainfile_label::inner::place_among;
 use mainfile_views::Stretch;
 use refusal::Answer;
 use run::Series;
+use run_in_turn::inner::{InTurn, in_turn};
 
 // The record behind one of them, 0 where there is none.
 pub fn place_behind(s: Stretch, place: usize) -> usize
@@ -19,6 +20,48 @@ pub fn place_behind(s: Stretch, place: usize) -> usize
 {
     let next = place + 1;
     if next < s.first + s.many { next } else { 0 }
+}
+
+// Records that stand together, shown from one on, and the place of that one.
+#[derive(Drop)]
+struct Records<'a> {
+    localities: &'a [u8],
+    thoroughfares: &'a [u8],
+    descriptors: &'a [u8],
+    buildings: &'a [u8],
+    subs: &'a [u8],
+    organisations: &'a [u8],
+    addresses: &'a [u8],
+    of: Stretch,
+    listed: bool,
+    place: usize,
+}
+
+impl<'a> InTurn for Records<'a> {
+    ghost asking = { λ s. let files = set_of s.localities.now s.thoroughfares.now s.descriptors.now s.buildings.now
+        s.subs.now s.organisations.now s.addresses.now in
+        shown_among s.listed files s.of.first s.of.many };
+
+    ghost is_next = { λ s k. let files = set_of s.localities.now s.thoroughfares.now s.descriptors.now s.buildings.now
+        s.subs.now s.organisations.now s.addresses.now in
+        Between files s.of.first s.of.many × (s.place ≡ place_among s.of.first s.of.many k) };
+
+    fn ask_next(&mut self, out: &mut [u8]) -> Answer {
+        let bytes = shown_at(
+            self.localities,
+            self.thoroughfares,
+            self.descriptors,
+            self.buildings,
+            self.subs,
+            self.organisations,
+            self.addresses,
+            self.place,
+            self.listed,
+            out,
+        )?;
+        self.place = place_behind(self.of, self.place);
+        Ok(bytes)
+    }
 }
 
 // So many of them from the k-th on.
@@ -42,39 +85,17 @@ pub fn walk(
         thoroughfares.now descriptors.now buildings.now subs.now
         organisations.now addresses.now) s.first s.many) first count out.old }
 {
-    let mut place = place_among(s, first);
-    let mut at = 0;
-    let mut done = 0;
-    while done < count {
-        match shown_behind(
-            localities,
-            thoroughfares,
-            descriptors,
-            buildings,
-            subs,
-            organisations,
-            addresses,
-            place,
-            listed,
-            at,
-            out,
-        ) {
-            Answer::Value(bytes) => {
-                at += bytes;
-            }
-            Answer::Refused { file: _, reason } => {
-                return Series::Stopped {
-                    labels: done,
-                    bytes: at,
-                    reason,
-                };
-            }
-        }
-        place = place_behind(s, place);
-        done += 1;
-    }
-    Series::Done {
-        labels: done,
-        bytes: at,
-    }
+    let mut turns = Records {
+        localities,
+        thoroughfares,
+        descriptors,
+        buildings,
+        subs,
+        organisations,
+        addresses,
+        of: s,
+        listed,
+        place: place_among(s, first),
+    };
+    in_turn(&mut turns, count, out)
 }

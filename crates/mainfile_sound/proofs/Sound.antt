@@ -4,7 +4,6 @@ use Prim.Native.Nat.{ℕ}
 use mathlib.Core.Path.{◌≡◌}
 use mathlib.Core.List.{List}
 use Rattle.field_outward.specs.Outward.{outward_fault}
-use Rattle.refusal.specs.declared.Verdict.TheVariants.{Fine}
 use Rattle.ask.specs.Source.{in_code}
 use Rattle.mainfile.specs.Set.{Set}
 use Rattle.mainfile.specs.Rows.{set_lookup}
@@ -16,9 +15,10 @@ use Rattle.pack_sound.proofs.Addresses.{addresses-sound}
 use Rattle.mainfile_sound.proofs.Rows.{rows-sound}
 use Rattle.mainfile_sound.proofs.Addresses.{views-fields, views-rise}
 use Rattle.mainfile_sound.proofs.Size.{pack-small}
+use Rattle.refusal.specs.Verdict.{fine}
 
 pub set-sound : (s : Set) (code : List ℕ) → AcceptedSet s → outward_fault code ≡ 0
-    → first_bad (set_lookup s) (in_code code (addresses_in s)) ≡ Fine
+    → first_bad (set_lookup s) (in_code code (addresses_in s)) ≡ fine
     → Sound (set_lookup s) (in_code code (addresses_in s)) code
 set-sound s code ok e fine =
     record {

@@ -2,8 +2,6 @@
 -- Assumes nothing.
 use Rattle.std.specs.Prelude.{ℕ, ◌-◌, ◌/◌, cond, List, eqb, length}
 use Rattle.refusal.specs.declared.Reason.TheVariants.{BadCode}
-use Rattle.refusal.specs.declared.Answer.{Answer}
-use Rattle.refusal.specs.declared.Answer.TheVariants.{Value, Refused}
 use Rattle.refusal.specs.Outcome.{after}
 use Rattle.field.specs.Text.{part}
 use Rattle.field_outward.specs.Outward.{outward_fault}
@@ -13,6 +11,8 @@ use Rattle.mainfile_record.specs.Address as At
 use Rattle.file.specs.Check.{checked}
 use Rattle.file.specs.Mainfile.{addresses}
 use Rattle.shelf.specs.Search.{upper_of}
+use Rattle.std.specs.Prelude.{Ok}
+use Rattle.refusal.specs.Answer.{Answer, refusal}
 
 -- where an order puts a code: 0 below another, 1 the same, 2 above it
 abbrev pub rank : ℕ → ℕ
@@ -44,7 +44,7 @@ module _ (file code : List ℕ) where
 
   -- "12: outward code malformed"
   unfoldable pub live_at : Answer
-  live_at = cond (eqb (outward_fault code) 0) (Value many_in) (Refused 0 BadCode)
+  live_at = cond (eqb (outward_fault code) 0) (Ok many_in) (refusal 0 BadCode)
 
   -- the file's own refusal first
   unfoldable pub live_answer : Answer

@@ -1,29 +1,30 @@
 // The search by halves among the records of an address file.
 ghost use Rattle.std.specs.Prelude.{◌≡◌, ◌/◌, ◌<◌, length};
 ghost use Rattle.shelf.specs.Search.{upper_of};
-ghost use Rattle.mainfile_views.specs.Range.{rank, rank_at, last_of};
+ghost use Rattle.std.specs.Ordering.{ordering_index};
+ghost use Rattle.mainfile_views.specs.Range.{rank_at, last_of};
 
 use file_record::inner::whole_record;
 use file_record::part_of;
 use mainfile_record::Address;
-
-// Where an order puts a code: 0 below another, 1 the same, 2 above it.
-fn rank_of(order: usize) -> usize
-    ensures { result ≡ rank order }
-{
-    if order == 1 {
-        0
-    } else {
-        if order == 0 { 1 } else { 2 }
-    }
-}
+use std::cmp::Ordering;
 
 // The place of the trailer.
 fn last_of(addresses: &[u8]) -> usize
     ensures { result ≡ last_of addresses.now }
 {
-    let n = addresses.len() / Address::WIDTH;
-    if n == 0 { 0 } else { n - 1 }
+    (addresses.len() / Address::WIDTH).saturating_sub(1)
+}
+
+// Where an order puts a code: 0 below another, 1 the same, 2 above it.
+fn rank_of(order: Ordering) -> usize
+    ensures { result ≡ ordering_index order }
+{
+    match order {
+        Ordering::Less => 0,
+        Ordering::Equal => 1,
+        Ordering::Greater => 2,
+    }
 }
 
 // How the outward code of record `i` stands to a code.

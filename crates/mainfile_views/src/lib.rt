@@ -66,10 +66,8 @@ pub fn stretch_in(addresses: &[u8], code: &[u8]) -> Stretch
 pub fn live_in(addresses: &[u8], code: &[u8]) -> Answer
     ensures { result ≡ live_answer addresses.now code.now }
 {
-    match file_check::check_main(file::MainKind::Addresses, addresses) {
-        Answer::Value(_) => live_at(addresses, code),
-        Answer::Refused { file, reason } => Answer::Refused { file, reason },
-    }
+    file_check::check_main(file::MainKind::Addresses, addresses)?;
+    live_at(addresses, code)
 }
 
 // The same of an accepted file.
@@ -78,11 +76,8 @@ fn live_at(addresses: &[u8], code: &[u8]) -> Answer
 {
     if field_outward::outward_fault(code) == 0 {
         let found = stretch_in(addresses, code);
-        Answer::Value(found.many)
+        Ok(found.many)
     } else {
-        Answer::Refused {
-            file: 0,
-            reason: Reason::BadCode,
-        }
+        Err(Reason::BadCode.into())
     }
 }

@@ -9,7 +9,6 @@ use Rattle.field.specs.Digits.{digits_fault, digit_value, value}
 use Rattle.field.specs.Text.{text_fault, filled_fault, text_in, numeric_like}
 use Rattle.field_outward.specs.Inward.{inward_letter, inward_fault, suffix_fault}
 use Rattle.field_outward.specs.Outward.{class, allowed, outward_fault}
-use Rattle.refusal.specs.declared.Answer.TheVariants.{Value}
 use Rattle.refusal.specs.Outcome.{said}
 use Rattle.file_record.specs.Parts.{record_at}
 use Rattle.file_ends.specs.Ends.{identifier}
@@ -28,6 +27,7 @@ use Rattle.mainfile.specs.Set.{Set, set_of, set_judged}
 use Rattle.mainfile.specs.Rows.{set_stock, organisation_row}
 use Rattle.mainfile.specs.Addresses.{needs_row, joined_row, address_of, addresses_in}
 use Rattle.mainfile.specs.Main.{main_of}
+use Rattle.std.specs.Prelude.{Ok}
 
 -- ---- files of one record
 
@@ -166,7 +166,7 @@ unfoldable pub set-computes : Unit {0}
 unfolding digits_fault digit_value value text_fault filled_fault text_in numeric_like inward_letter inward_fault suffix_fault class allowed outward_fault record_at identifier one_of key_fault double_fault main_locality_fault main_text_fault main_organisation_fault main_address_fault zeros_named nines_counted address_header_ok address_trailer_ok judged verdict checked ref_at texts_at last_row in_force row_of look_in forbidden missing elements_of resolve number_text lines_of label_of room_outcome kth_label view_label set_judged set_stock organisation_row needs_row joined_row address_of addresses_in
 set-computes = tt
 
-pub table-35 : view_label (main_of set) 1 (replicate 200 0) ≡ said (Value 115) (label ++ replicate 85 0)
+pub table-35 : view_label (main_of set) 1 (replicate 200 0) ≡ said (Ok 115) (label ++ replicate 85 0)
 unfolding set-computes
 table-35 = refl
 

@@ -8,8 +8,6 @@ use Rattle.field.specs.Text.{text_fault, text_in, numeric_like}
 use Rattle.field_outward.specs.Outward.{class, allowed, outward_fault}
 use Rattle.field_outward.specs.Inward.{inward_letter, inward_fault, suffix_fault}
 use Rattle.refusal.specs.declared.Reason.TheVariants.{NoSuchNumber, Room}
-use Rattle.refusal.specs.declared.Answer.{Answer}
-use Rattle.refusal.specs.declared.Answer.TheVariants.{Value, Refused}
 use Rattle.source.specs.Address.{Organisation, none_needed, named, Address}
 use Rattle.source.proofs.Worked.{quarry, lane, tables}
 use Rattle.label.specs.Lines.{number_text, lines_of}
@@ -20,6 +18,8 @@ use Rattle.pack.specs.Layout.{entries_of, pack_bytes, pack_of}
 use Rattle.pack.specs.Opening.{trailer_good, text_good, row_good, offset_good, all_rows_good, suffix_good, plain_good, allowed_mix, organisation_good, parts_good, all_points_good, all_counts_good, opened}
 use Rattle.pack.specs.Points.{elements_from, point_label, pack_label, point_suffix, pack_suffix}
 use Rattle.pack.proofs.Worked.{code, nowhere, rows, nine}
+use Rattle.std.specs.Prelude.{Ok}
+use Rattle.refusal.specs.Answer.{Answer, refusal}
 
 -- a view of AB1 9ZZ in locality 1, with the same name and descriptor for both of its thoroughfares
 abbrev shared : ℕ → ℕ → ℕ → ℕ → ℕ → ℕ → ℕ → Organisation → Address
@@ -81,7 +81,7 @@ pub their-pack : pack_of tables views code ≡ both
 unfolding entries_of pack_bytes pack_of sector_counts
 their-pack = refl
 
-pub it_opens : opened both ≡ Value 2
+pub it_opens : opened both ≡ Ok 2
 unfolding number_at outward_fault class allowed trailer_good text_good row_good offset_good all_rows_good suffix_good plain_good allowed_mix organisation_good parts_good all_points_good sector_counts all_counts_good opened inward_fault inward_letter suffix_fault text_fault
 it_opens = refl
 
@@ -89,7 +89,7 @@ it_opens = refl
 abbrev asked : List Answer
 asked = (pack_label both 0 []).answer ∷ (pack_label both 1 []).answer ∷ (pack_label both 2 []).answer ∷ (pack_label both 3 []).answer ∷ []
 
-pub answers : asked ≡ Refused 0 NoSuchNumber ∷ Refused 0 (Room 76) ∷ Refused 0 (Room 23) ∷ Refused 0 NoSuchNumber ∷ []
+pub answers : asked ≡ refusal 0 NoSuchNumber ∷ refusal 0 (Room 76) ∷ refusal 0 (Room 23) ∷ refusal 0 NoSuchNumber ∷ []
 unfolding number_at outward_fault class allowed trailer_good text_good row_good offset_good all_rows_good suffix_good plain_good allowed_mix organisation_good parts_good all_points_good sector_counts all_counts_good opened inward_fault inward_letter suffix_fault text_fault pack_label point_label elements_from text_in label_of lines_of number_text numeric_like room_outcome
 answers = refl
 
@@ -97,6 +97,6 @@ abbrev suffixes : List Answer
 suffixes = pack_suffix both 0 ∷ pack_suffix both 1 ∷ pack_suffix both 2 ∷ pack_suffix both 3 ∷ []
 
 -- `1A` and `2B`
-pub their-suffixes : suffixes ≡ Refused 0 NoSuchNumber ∷ Value 12_609 ∷ Value 12_866 ∷ Refused 0 NoSuchNumber ∷ []
+pub their-suffixes : suffixes ≡ refusal 0 NoSuchNumber ∷ Ok 12_609 ∷ Ok 12_866 ∷ refusal 0 NoSuchNumber ∷ []
 unfolding number_at outward_fault class allowed trailer_good text_good row_good offset_good all_rows_good suffix_good plain_good allowed_mix organisation_good parts_good all_points_good sector_counts all_counts_good opened inward_fault inward_letter suffix_fault text_fault pack_suffix point_suffix
 their-suffixes = refl

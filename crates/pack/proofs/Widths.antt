@@ -1,11 +1,9 @@
 -- Laws of the widths of a pack's parts, whatever its edition.
 -- Assumes nothing.
-use Prim.Native.Nat.{ℕ, ◌+◌, ◌*◌, ◌^◌, ◌≤◌, ◌<◌}
+use Prim.Native.Nat.{ℕ, ◌+◌, ◌*◌, ◌≤◌, ◌<◌}
 use native.Mathlib.Omega.{arith}
 use native.Mathlib.Nat.{mul-le-mul, mul-le-mul_left}
-use native.Mathlib.Numerals.{add-one}
 use mathlib.Core.Bool.{Bool, true, false, cond}
-use lib.Dec.{lit≤}
 use Rattle.pack.specs.Names.{has_suffix, has_counts, postcode_width, suffix_width, counts_width, point_width, trailer_width}
 
 -- no edition has a wider point or trailer

@@ -4,22 +4,20 @@ use Prim.Native.Nat.{ℕ, ◌*◌, ◌^◌}
 use mathlib.Core.Path.{◌≡◌, refl}
 use mathlib.Core.List.{List, [], ◌∷◌, ◌++◌}
 use lib.ListN.{length, replicate}
-use Rattle.field.specs.Text.{trim, text_in, text_fault, numeric_like}
-use Rattle.file_compare.specs.Order.{order}
+use Rattle.field.specs.Text.{text_in, text_fault}
 use Rattle.field_outward.specs.Outward.{class, allowed, outward_fault}
 use Rattle.field_outward.specs.Inward.{inward_letter, inward_fault, suffix_fault}
-use Rattle.refusal.specs.declared.Reason.TheVariants.{BadPack, NoSuchNumber, NoSuffix, BadDigit}
-use Rattle.refusal.specs.declared.Answer.{Answer}
-use Rattle.refusal.specs.declared.Answer.TheVariants.{Value, Refused}
+use Rattle.refusal.specs.declared.Reason.TheVariants.{BadPack, NoSuffix, BadDigit}
 use Rattle.refusal.specs.Packed.{word, packed}
 use Rattle.source.specs.Address.{Address}
 use Rattle.source.proofs.Worked.{bay, quarry, lane, range, attic, tables, view, printed}
 use Rattle.pack.specs.Numbers.{number_at}
-use Rattle.pack.specs.Names.{absent}
 use Rattle.pack.specs.Sectors.{sector_counts}
 use Rattle.pack.specs.Layout.{entries_of, pack_bytes, pack_of}
 use Rattle.pack.specs.Opening.{trailer_good, text_good, row_good, offset_good, all_rows_good, suffix_good, plain_good, allowed_mix, organisation_good, parts_good, all_points_good, point_digits, all_counts_good, opened}
 use Rattle.pack.specs.Points.{elements_from, elements_at, point_suffix, sector_answer, pack_sector}
+use Rattle.std.specs.Prelude.{Ok}
+use Rattle.refusal.specs.Answer.{Answer, refusal}
 
 abbrev pub view1 : Address
 view1 = view 1 7 3 0 0 9 4
@@ -80,7 +78,7 @@ pub lengths : (length worked ≡ 171) × ((length worked2 ≡ 131) × (length wo
 lengths = (refl, (refl, refl))
 
 -- "Packs of edition 1 still open and print the same labels; asking one for a suffix is refused"; "Editions 1 and 2 still open"
-pub all-open : (opened worked ≡ Value 1) × ((opened worked2 ≡ Value 1) × (opened worked1 ≡ Value 1))
+pub all-open : (opened worked ≡ Ok 1) × ((opened worked2 ≡ Ok 1) × (opened worked1 ≡ Ok 1))
 unfolding number_at outward_fault class allowed trailer_good text_good row_good offset_good all_rows_good suffix_good plain_good allowed_mix organisation_good parts_good all_points_good sector_counts all_counts_good opened inward_fault inward_letter suffix_fault text_fault
 all-open = (refl, (refl, refl))
 
@@ -88,8 +86,8 @@ pub point-1 : (elements_at worked 51 ≡ printed) × ((elements_at worked2 51 �
 unfolding number_at text_in elements_from
 point-1 = (refl, (refl, refl))
 
-pub suffix-1 : (point_suffix worked 1 ≡ Value 12_609)
-    × ((point_suffix worked2 1 ≡ Value 12_609) × (point_suffix worked1 1 ≡ Refused 0 NoSuffix))
+pub suffix-1 : (point_suffix worked 1 ≡ Ok 12_609)
+    × ((point_suffix worked2 1 ≡ Ok 12_609) × (point_suffix worked1 1 ≡ refusal 0 NoSuffix))
 unfolding number_at point_suffix
 suffix-1 = (refl, (refl, refl))
 
@@ -97,14 +95,14 @@ suffix-1 = (refl, (refl, refl))
 abbrev asked : List ℕ → List Answer
 asked pack = sector_answer (point_digits pack) 8 ∷ sector_answer (point_digits pack) 9 ∷ sector_answer (point_digits pack) 10 ∷ []
 
-pub sectors : (asked worked ≡ Value 0 ∷ Value 1 ∷ Refused 0 BadDigit ∷ []) × (asked worked1 ≡ asked worked)
+pub sectors : (asked worked ≡ Ok 0 ∷ Ok 1 ∷ refusal 0 BadDigit ∷ []) × (asked worked1 ≡ asked worked)
 unfolding number_at sector_answer
 sectors = (refl, refl)
 
 -- a count that is wrong is refused with 4, with a suffix that is wrong too with 3, and an edition that there is not with 1
-pub refusals : (opened (altered 49 2 3) ≡ Refused 0 (BadPack 4))
-    × ((opened (altered 65 2 3) ≡ Refused 0 (BadPack 3))
-    × ((opened (altered 49 1 0) ≡ Refused 0 (BadPack 1)) × (opened (altered 49 1 4) ≡ Refused 0 (BadPack 1))))
+pub refusals : (opened (altered 49 2 3) ≡ refusal 0 (BadPack 4))
+    × ((opened (altered 65 2 3) ≡ refusal 0 (BadPack 3))
+    × ((opened (altered 49 1 0) ≡ refusal 0 (BadPack 1)) × (opened (altered 49 1 4) ≡ refusal 0 (BadPack 1))))
 unfolding number_at outward_fault class allowed trailer_good text_good row_good offset_good all_rows_good suffix_good plain_good allowed_mix organisation_good parts_good all_points_good sector_counts all_counts_good opened inward_fault inward_letter suffix_fault text_fault
 refusals = (refl, (refl, (refl, refl)))
 
@@ -114,7 +112,7 @@ unfolding number_at point_suffix sector_answer word
 numbers = (refl, refl)
 
 -- "27 .., after 11"
-pub pack-first : pack_sector [] 10 ≡ Refused 0 (BadPack 1)
+pub pack-first : pack_sector [] 10 ≡ refusal 0 (BadPack 1)
 unfolding number_at trailer_good opened pack_sector
 pack-first = refl
 

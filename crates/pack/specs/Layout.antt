@@ -1,7 +1,7 @@
 -- The pack of some addresses, their rows being looked up: "Rows, then points, then a trailer that points back." What it
 -- holds is said through the look-up and the keys that are used, and through nothing else.
 -- Assumes nothing.
-use Rattle.std.specs.Prelude.{ℕ, ◌+◌, ◌*◌, ◌/◌, ◌%◌, Bool, cond, List, [], ◌∷◌, ◌++◌, eqb, ltb, length, get_or}
+use Rattle.std.specs.Prelude.{ℕ, ◌+◌, ◌*◌, Bool, cond, List, [], ◌∷◌, ◌++◌, eqb, ltb, length, get_or}
 use Rattle.std.proofs.Math.Option.{Option, none, some}
 use Rattle.source.specs.Address.{Lookup, Organisation, none_needed, named, lacking, Address, present, Asked, keys_of, ref, kind_of, key_of}
 use Rattle.pack.specs.Names.{newest, has_suffix, has_counts, absent, point_width, trailer_width}

@@ -7,13 +7,13 @@ use Rattle.file_compare.specs.Order.{same}
 use Rattle.field_outward.specs.Outward.{outward_fault}
 use Rattle.field_outward.specs.Inward.{inward_fault, suffix_fault}
 use Rattle.refusal.specs.declared.Reason.TheVariants.{BadPack}
-use Rattle.refusal.specs.declared.Answer.{Answer}
-use Rattle.refusal.specs.declared.Answer.TheVariants.{Value, Refused}
 use Rattle.source.specs.Resolve.{forbidden_of}
 use Rattle.label.specs.Lines.{is_empty}
 use Rattle.pack.specs.Names.{known, has_suffix, has_counts, inward_at, postcode_width, suffix_at, suffix_width, type_at, address_key_at, organisation_key_at, building_number_at, concatenation_at, box_at, offsets_at, rest_at, point_width, absent, row_count_at, points_start_at, point_count_at, outward_at, length_at, counts_at, edition_width, trailer_width}
 use Rattle.pack.specs.Numbers.{number_at}
 use Rattle.pack.specs.Sectors.{sector_counts}
+use Rattle.std.specs.Prelude.{Ok}
+use Rattle.refusal.specs.Answer.{Answer, refusal}
 
 -- ---- the trailer
 
@@ -277,7 +277,7 @@ opened pack =
     cond (trailer_good pack)
     (cond (all_rows_good pack)
     (cond (all_points_good pack)
-    (cond (all_counts_good pack) (Value (point_count pack)) (Refused 0 (BadPack 4)))
-    (Refused 0 (BadPack 3)))
-    (Refused 0 (BadPack 2)))
-    (Refused 0 (BadPack 1))
+    (cond (all_counts_good pack) (Ok (point_count pack)) (refusal 0 (BadPack 4)))
+    (refusal 0 (BadPack 3)))
+    (refusal 0 (BadPack 2)))
+    (refusal 0 (BadPack 1))

@@ -5,8 +5,6 @@ use Rattle.std.specs.Prelude.{ℕ, ◌+◌, ◌*◌, ◌-◌, Bool, cond, ◌&&�
 use Rattle.std.proofs.Math.Option.{Option, none, some}
 use Rattle.field.specs.Text.{text_in, part}
 use Rattle.refusal.specs.declared.Reason.TheVariants.{NoSuchNumber, NoSuffix, BadDigit}
-use Rattle.refusal.specs.declared.Answer.{Answer}
-use Rattle.refusal.specs.declared.Answer.TheVariants.{Value, Refused}
 use Rattle.refusal.specs.Outcome.{Outcome, said, after, afterwards}
 use Rattle.source.specs.Address.{Address, Elements}
 use Rattle.source.specs.Resolve.{Resolved, elements}
@@ -18,6 +16,8 @@ use Rattle.pack.specs.Sectors.{in_sector}
 use Rattle.pack.specs.Layout.{inward_digits}
 use Rattle.pack.specs.Names.{has_suffix, inward_at, postcode_width, concatenation_at, box_at, offsets_at, point_width, absent}
 use Rattle.pack.specs.Opening.{edition, points_start, point_count, row_area, row_text, suffix_in, rest_of, offset_of_point, building_number, point_digits, opened}
+use Rattle.std.specs.Prelude.{Ok}
+use Rattle.refusal.specs.Answer.{Answer, refusal}
 
 -- a text of the row that the n-th offset of a rest gives; none where it is absent
 abbrev pub offset_text : List ℕ → ℕ → ℕ → ℕ → List ℕ
@@ -61,11 +61,11 @@ is_point pack k = leb 1 k && leb k (point_count pack)
 -- the label of a point, of a pack that is opened
 unfoldable pub point_label : List ℕ → ℕ → List ℕ → Outcome Answer
 point_label pack k out =
-    cond (is_point pack k) (room_outcome (label_of (elements_at pack (point_place pack k))) out) (said (Refused 0 NoSuchNumber) out)
+    cond (is_point pack k) (room_outcome (label_of (elements_at pack (point_place pack k))) out) (said (refusal 0 NoSuchNumber) out)
 
 -- of any bytes: "Labels from a pack: 11, 7, 10"
 unfoldable pub pack_label : List ℕ → ℕ → List ℕ → Outcome Answer
-pack_label pack k out = afterwards Refused (opened pack) out (point_label pack k out)
+pack_label pack k out = afterwards refusal (opened pack) out (point_label pack k out)
 
 -- the same as an item of a listing, under any heading
 abbrev pub point_resolved : List ℕ → ℕ → Option Resolved
@@ -75,7 +75,7 @@ unfoldable pub point_item : Heading → List ℕ → ℕ → List ℕ → Outcom
 point_item heading pack k out = item_outcome (heading k) (point_resolved pack k) out
 
 unfoldable pub pack_item : Heading → List ℕ → ℕ → List ℕ → Outcome Answer
-pack_item heading pack k out = afterwards Refused (opened pack) out (point_item heading pack k out)
+pack_item heading pack k out = afterwards refusal (opened pack) out (point_item heading pack k out)
 
 -- a suffix as one number: the first byte times 256 plus the second, 12609 for `1A`
 abbrev pub suffix_number : List ℕ → ℕ
@@ -84,11 +84,11 @@ suffix_number suffix = number_from 0 suffix
 -- of a point that is there: "13, no suffix in this edition"
 abbrev pub suffix_there : List ℕ → ℕ → Answer
 suffix_there pack k =
-    cond (has_suffix (edition pack)) (Value (suffix_number (suffix_in pack (point_place pack k)))) (Refused 0 NoSuffix)
+    cond (has_suffix (edition pack)) (Ok (suffix_number (suffix_in pack (point_place pack k)))) (refusal 0 NoSuffix)
 
 -- of a pack that is opened: 13 "after 7"
 unfoldable pub point_suffix : List ℕ → ℕ → Answer
-point_suffix pack k = cond (is_point pack k) (suffix_there pack k) (Refused 0 NoSuchNumber)
+point_suffix pack k = cond (is_point pack k) (suffix_there pack k) (refusal 0 NoSuchNumber)
 
 -- of any bytes: 11, 7, 13
 unfoldable pub pack_suffix : List ℕ → ℕ → Answer
@@ -96,15 +96,15 @@ pack_suffix pack k = after (opened pack) (point_suffix pack k)
 
 -- what a source says of the k-th of its addresses
 abbrev pub suffix_of : Option Address → Answer
-suffix_of none = Refused 0 NoSuchNumber
-suffix_of (some a) = Value (suffix_number a.suffix)
+suffix_of none = refusal 0 NoSuchNumber
+suffix_of (some a) = Ok (suffix_number a.suffix)
 
 unfoldable pub kth_suffix : List Address → ℕ → Answer
 kth_suffix addresses k = suffix_of (kth addresses k)
 
 -- how many of these first bytes of inward codes are of a sector: "27, inward digit above 9"
 unfoldable pub sector_answer : List ℕ → ℕ → Answer
-sector_answer firsts digit = cond (leb digit 9) (Value (in_sector digit firsts)) (Refused 0 BadDigit)
+sector_answer firsts digit = cond (leb digit 9) (Ok (in_sector digit firsts)) (refusal 0 BadDigit)
 
 -- of all points of any bytes: "27 .., after 11"
 unfoldable pub pack_sector : List ℕ → ℕ → Answer

@@ -11,7 +11,6 @@ use lib.ListN.{length, take, get_or, length-append}
 use lib.Seq.{take_at}
 use Rattle.field.proofs.Tests.{or-true}
 use Rattle.field_outward.specs.Outward.{outward_fault}
-use Rattle.refusal.specs.declared.Answer.TheVariants.{Value}
 use Rattle.source.specs.Address.{Lookup, Address}
 use Rattle.pack.specs.Names.{known, newest, has_counts, point_width, counts_at, behind_fields, trailer_width}
 use Rattle.pack.specs.Layout.{Entry, entries_of, entry_bytes, entries_bytes, points_bytes, inward_digits, trailer_bytes, pack_bytes, pack_of}
@@ -28,6 +27,7 @@ use Rattle.field_outward.proofs.Long.{outward-long}
 use Rattle.pack_carries.proofs.Points.{points-long}
 use Rattle.pack_carries.proofs.Refs.{RowsSaid}
 use Rattle.pack_carries.proofs.Point.{PointSaid, points-digits, points-good, points-read}
+use Rattle.std.specs.Prelude.{Ok}
 
 -- a row has a byte
 few-entries : (es : List Entry) → length es ≤ length (entries_bytes es)
@@ -161,7 +161,7 @@ module _ (look : Lookup) (addresses : List Address) (code : List ℕ) (g : Sound
       ∙ or-true (not (has_counts (edition pack))))
 
   -- every pack of a sound source is accepted, with as many points as there are addresses
-  pub pack-opens : opened pack ≡ Value (length addresses)
+  pub pack-opens : opened pack ≡ Ok (length addresses)
   unfolding opened
   pack-opens = rw (trailer-good, all-rows-good, all-points-good, all-counts-good, pack-says.of_points)
 

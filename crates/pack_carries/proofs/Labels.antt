@@ -1,7 +1,7 @@
 -- The labels of a pack are those of its source, number by number, and so are the items of its
 -- listing, the suffixes and the counts of sectors.
 -- Assumes nothing.
-use Prim.Native.Nat.{ℕ, zero, suc, ◌≤◌, ◌<◌}
+use Prim.Native.Nat.{ℕ, zero, suc, ◌<◌}
 use mathlib.Core.Path.{◌≡◌, refl, sym, ap, ◌∙◌}
 use mathlib.Core.Bool.{Bool, true, false}
 use mathlib.Core.List.{List, [], ◌∷◌}
@@ -13,7 +13,6 @@ use lib.ListN.{length, get_or}
 use Rattle.source.specs.Address.{Lookup, Address}
 use Rattle.source.specs.Resolve.{elements_of, elements, resolve}
 use Rattle.pack.specs.Layout.{pack_of}
-use Rattle.refusal.specs.declared.Answer.TheVariants.{Value}
 use Rattle.pack.specs.Names.{has_suffix}
 use Rattle.pack.specs.Opening.{edition, point_count, suffix_in}
 use Rattle.pack.specs.Points.{elements_at, point_place, is_point, point_label, pack_label, point_item, pack_item, suffix_number, point_suffix, pack_suffix, suffix_of, kth_suffix, sector_answer, pack_sector, address_sector}
@@ -24,6 +23,7 @@ use Rattle.ask.specs.Lists.{kth_item}
 use Rattle.item.specs.Item.{Heading}
 use Rattle.ask.proofs.Kth.{kth-zero, kth-none}
 use Rattle.pack_carries.proofs.Carried.{pack-says, pack-opens, pack-points, pack-digits}
+use Rattle.std.specs.Prelude.{Ok}
 
 -- a sound address is refused nothing
 pub resolved-sound : (look : Lookup) (code : List ℕ) (a : Address) → AddressSound look code a
@@ -113,7 +113,7 @@ module _ (look : Lookup) (addresses : List Address) (code : List ℕ) (g : Sound
       by-case : PointOf look addresses pack k → point_suffix pack k ≡ kth_suffix addresses k
       by-case (neither p q) = no-point pack k p ∙ ap suffix_of (sym q)
       by-case (each a p q e s) =
-          its-suffix pack k p has_one ∙ (ap (λ l. Value (suffix_number l)) s ∙ ap suffix_of (sym q))
+          its-suffix pack k p has_one ∙ (ap (λ l. Ok (suffix_number l)) s ∙ ap suffix_of (sym q))
 
   -- and counts each sector as the source does
   pub pack-sectors : (digit : ℕ) → pack_sector pack digit ≡ address_sector addresses digit

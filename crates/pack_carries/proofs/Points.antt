@@ -7,9 +7,9 @@ use mathlib.Core.Option.{Option, none, some}
 use native.Mathlib.Omega.{arith}
 use lib.ListN.{length, get_or, length-append}
 use Rattle.field.specs.Text.{part}
-use Rattle.field_outward.proofs.Long.{outward-long, inward-long, suffix-long}
+use Rattle.field_outward.proofs.Long.{inward-long, suffix-long}
 use Rattle.source.specs.Address.{Lookup, Address}
-use Rattle.pack.specs.Names.{newest, inward_at, postcode_width, suffix_at, suffix_width, behind_postcode, type_at, address_key_at, organisation_key_at, building_number_at, concatenation_at, box_at, offsets_at, rest_at, point_width, absent}
+use Rattle.pack.specs.Names.{newest, inward_at, postcode_width, suffix_width, behind_postcode, type_at, address_key_at, organisation_key_at, building_number_at, concatenation_at, box_at, offsets_at, rest_at, point_width, absent}
 use Rattle.pack.specs.Numbers.{bytes_of, number_at}
 use Rattle.pack.specs.Layout.{Entry, entries_bytes, offset_of, ref_bytes, refs_bytes, refs_of, mark_of, postcode_of, plain_of, behind_of, point_bytes, points_bytes}
 use Rattle.pack.specs.Opening.{suffix_in, type_byte, organisation_key, building_number}

@@ -10,7 +10,7 @@ use borrow.Author.Tests.{eqb-true, eqb-false, ltb-true, ltb-false}
 use lib.Dec.{eqb, ltb}
 use Rattle.field.specs.Test.{elem}
 use Rattle.field.proofs.Tests.{or_assoc}
-use Rattle.source.specs.Address.{Lookup, Address, present, Asked, keys_of, ref, kind_of, key_of}
+use Rattle.source.specs.Address.{Lookup, Address, present, Asked, keys_of, ref}
 use Rattle.source.proofs.Refs.{ref-kind, ref-key}
 use Rattle.source.specs.Resolve.{lacks, missing_from, lacks_organisation, missing}
 use Rattle.pack.specs.Layout.{insert, insert_keys, used_by}

@@ -16,12 +16,9 @@ fn count_byte(counts: &mut [usize; 10], b: u8)
     requires { Below counts.old }
     ensures { counts.new ≡ one_more counts.old b }
 {
-    if !field::is_digit(b) {
-        return;
+    if field::is_digit(b) {
+        counts[(b - b'0') as usize] += 1;
     }
-    let digit = (b - b'0') as usize;
-    let n = counts[digit];
-    counts[digit] = n + 1;
 }
 
 // So many points of one width, from a place on, counted.
@@ -29,15 +26,12 @@ pub fn count_digits(points: &[u8], start: usize, width: usize, n: usize) -> Coun
     requires { (inward_at < width) × (start + width * n ≤ length points.now) }
     ensures { result.of_digits ≡ sector_counts (digits_from points.now width n start) }
 {
-    let mut counts = [0usize; 10];
-    let mut at = start;
-    let mut i = 0;
-    while i < n {
-        count_byte(&mut counts, points[at + PackPoint::INWARD]);
-        at += width;
-        i += 1;
+    let mut of_digits = [0; 10];
+    for i in 0..n {
+        let first = points[start + width * i + PackPoint::INWARD];
+        count_byte(&mut of_digits, first);
     }
-    Counts { of_digits: counts }
+    Counts { of_digits }
 }
 
 // The count of a digit that the trailer says, of an edition that has them.
@@ -54,12 +48,10 @@ fn counts_said(pack: &[u8], layout: Layout, counts: [usize; 10]) -> bool
     requires { Trailed pack.now layout × (has_counts (edition pack.now) ≡ true) }
     ensures { result ≡ counts_said pack.now 0 counts }
 {
-    let mut digit = 0;
-    while digit < 10 {
-        if count_said(pack, layout, digit) != counts[digit] {
+    for (digit, &n) in counts.iter().enumerate() {
+        if count_said(pack, layout, digit) != n {
             return false;
         }
-        digit += 1;
     }
     true
 }
@@ -75,6 +67,5 @@ pub fn counts_good(pack: &[u8], layout: Layout) -> bool
     let start = trailer_number(pack, layout, PackTrailer::START);
     let n = trailer_number(pack, layout, PackTrailer::POINTS);
     let counts = count_digits(pack, start, layout.point, n);
-    let of_digits = counts.of_digits;
-    counts_said(pack, layout, of_digits)
+    counts_said(pack, layout, counts.of_digits)
 }

@@ -10,8 +10,6 @@ use lib.Dec.{leb}
 use lib.ListN.{length, take, drop}
 use Rattle.field.proofs.Tests.{and_left, and_right}
 use Rattle.refusal.specs.declared.Reason.TheVariants.{NoSuchNumber}
-use Rattle.refusal.specs.declared.Answer.{Answer}
-use Rattle.refusal.specs.declared.Answer.TheVariants.{Value, Refused}
 use Rattle.refusal.specs.Outcome.{said}
 use Rattle.refusal.proofs.Answers.{refused-value}
 use Rattle.refusal.proofs.Outcomes.{answer-of, afterwards-value}
@@ -27,13 +25,14 @@ use Rattle.pack.specs.Points.{elements_at, point_place, is_point, point_label, p
 use Rattle.pack_open.proofs.Opened.{opened-all}
 use Rattle.pack_open.proofs.Fits.{point-fits}
 use Rattle.pack_label.proofs.Laws.{no-point, a_point}
-use Rattle.run.specs.declared.Series.TheVariants.{Unasked}
 use Rattle.run.specs.Series.{run_from}
 use Rattle.run.proofs.Same.{same-run}
 use Rattle.pack_items.specs.Lists.{pack_listed}
+use Rattle.std.specs.Prelude.{Ok}
+use Rattle.refusal.specs.Answer.{Answer, refusal}
 
 -- the label of a point of an accepted pack
-label-fits : (pack : List ℕ) {n : ℕ} → opened pack ≡ Value n → (k : ℕ) → 1 ≤ k → k ≤ point_count pack
+label-fits : (pack : List ℕ) {n : ℕ} → opened pack ≡ Ok n → (k : ℕ) → 1 ≤ k → k ≤ point_count pack
     → length (label_of (elements_at pack (point_place pack k))) ≤ 499
 label-fits pack {n} e k low high =
     at-most-499 (elements_at pack (point_place pack k))
@@ -43,7 +42,7 @@ module _ (heading : Heading) (pack : List ℕ) (k : ℕ) (out : List ℕ) where
   abbrev label : List ℕ
   label = label_of (elements_at pack (point_place pack k))
 
-  no_item : is_point pack k ≡ false → point_item heading pack k out ≡ said (Refused 0 NoSuchNumber) out
+  no_item : is_point pack k ≡ false → point_item heading pack k out ≡ said (refusal 0 NoSuchNumber) out
   unfolding point_item
   no_item none = rw none
 
@@ -52,7 +51,7 @@ module _ (heading : Heading) (pack : List ℕ) (k : ℕ) (out : List ℕ) where
   an_item there = rw there
 
   -- an item that is answered with its bytes is a point's, and fits
-  module _ (b : ℕ) (e : (point_item heading pack k out).answer ≡ Value b) where
+  module _ (b : ℕ) (e : (point_item heading pack k out).answer ≡ Ok b) where
     is-point : is_point pack k ≡ true
     is-point = by-test (is_point pack k) refl
       where
@@ -68,7 +67,7 @@ module _ (heading : Heading) (pack : List ℕ) (k : ℕ) (out : List ℕ) where
         rw (an_item is-point) (room_within (heading k ++ label) out b (sym (answer-of (an_item is-point)) ∙ e))
 
   -- the label was asked behind the heading's place, came to `a` and left `y`
-  module _ {n : ℕ} (taken : opened pack ≡ Value n) {a : Answer} {y : List ℕ}
+  module _ {n : ℕ} (taken : opened pack ≡ Ok n) {a : Answer} {y : List ℕ}
       (asked : said a y ≡ point_label pack k (drop (before (heading k) (length out)) out)) where
     abbrev rest : List ℕ
     rest = drop (before (heading k) (length out)) out
@@ -102,8 +101,8 @@ module _ (heading : Heading) (pack : List ℕ) (k : ℕ) (out : List ℕ) where
             none_over (heading k) out (asked ∙ no-point pack k rest there) ∙ sym (no_item there)
 
 -- where the pack is opened, a listing asks its points
-pub points-listed : (heading : Heading) (pack : List ℕ) (first count : ℕ) (out : List ℕ) {n : ℕ} → opened pack ≡ Value n
+pub points-listed : (heading : Heading) (pack : List ℕ) (first count : ℕ) (out : List ℕ) {n : ℕ} → opened pack ≡ Ok n
     → pack_listed heading pack first count out ≡ run_from (point_item heading pack) first count out
 unfolding pack_listed pack_item
 points-listed heading pack first count out e =
-    afterwards-value Unasked out _ e ∙ same-run _ _ (λ k o. afterwards-value Refused o _ e) count first out
+    afterwards-value refusal out _ e ∙ same-run _ _ (λ k o. afterwards-value refusal o _ e) count first out

@@ -1,18 +1,18 @@
 // A listing over the points of a pack that is opened.
-ghost use Rattle.std.specs.Prelude.{◌≡◌, ◌≤◌, length};
-ghost use Rattle.refusal.specs.declared.Answer.TheVariants.{Value};
+ghost use Rattle.std.specs.Prelude.{◌≡◌, Ok};
 ghost use Rattle.refusal.specs.Outcome.{said};
 ghost use Rattle.item.specs.Lines.{point_line};
 ghost use Rattle.pack.specs.Opening.{opened};
 ghost use Rattle.pack.specs.Points.{point_item};
-ghost use Rattle.run.specs.Series.{asked_behind, run_from};
+ghost use Rattle.run.specs.Series.{run_from};
 
 use refusal::Answer;
 use run::Series;
+use run_in_turn::inner::{InTurn, in_turn};
 
 // The item of point k.
 fn item_at<'a>(pack: &'a [u8], points: usize, k: usize, out: &mut [u8]) -> Answer
-    requires { opened pack.now ≡ Value points }
+    requires { opened pack.now ≡ Ok points }
     ensures { said result out.new ≡ point_item point_line pack.now k out.old }
 {
     let line = item_write::point_line(k);
@@ -24,13 +24,24 @@ fn item_at<'a>(pack: &'a [u8], points: usize, k: usize, out: &mut [u8]) -> Answe
     item_write::inner::headed_item(heading, answer, out)
 }
 
-// The same behind so many bytes.
-fn item_behind<'a>(pack: &'a [u8], points: usize, k: usize, at: usize, out: &mut [u8]) -> Answer
-    requires { (at ≤ length out.old) × (opened pack.now ≡ Value points) }
-    ensures { said result out.new
-        ≡ asked_behind at out.old (point_item point_line pack.now k) }
-{
-    item_at(pack, points, k, &mut out[at..])
+// The points of a pack, asked for their items from one on.
+#[derive(Drop)]
+struct Points<'a> {
+    pack: &'a [u8],
+    many: usize,
+    next: usize,
+}
+
+impl<'a> InTurn for Points<'a> {
+    ghost asking = { λ s. point_item point_line s.pack.now };
+
+    ghost is_next = { λ s k. (s.next ≡ k) × (opened s.pack.now ≡ Ok s.many) };
+
+    fn ask_next(&mut self, out: &mut [u8]) -> Answer {
+        let bytes = item_at(self.pack, self.many, self.next, out)?;
+        self.next += 1;
+        Ok(bytes)
+    }
 }
 
 // So many items from point `first` on.
@@ -41,31 +52,14 @@ pub fn list_points<'a>(
     count: usize,
     out: &mut [u8],
 ) -> Series
-    requires { opened pack.now ≡ Value points }
+    requires { opened pack.now ≡ Ok points }
     ensures { said result out.new
         ≡ run_from (point_item point_line pack.now) first count out.old }
 {
-    let mut k = first;
-    let mut at = 0;
-    let mut done = 0;
-    while done < count {
-        match item_behind(pack, points, k, at, out) {
-            Answer::Value(bytes) => {
-                at += bytes;
-            }
-            Answer::Refused { file: _, reason } => {
-                return Series::Stopped {
-                    labels: done,
-                    bytes: at,
-                    reason,
-                };
-            }
-        }
-        k += 1;
-        done += 1;
-    }
-    Series::Done {
-        labels: done,
-        bytes: at,
-    }
+    let mut turns = Points {
+        pack,
+        many: points,
+        next: first,
+    };
+    in_turn(&mut turns, count, out)
 }

@@ -9,7 +9,6 @@ use lib.Dec.{leb}
 use lib.ListN.{length}
 use Rattle.field.proofs.Tests.{and_right}
 use Rattle.refusal.specs.declared.Reason.TheVariants.{NoSuchNumber}
-use Rattle.refusal.specs.declared.Answer.TheVariants.{Value, Refused}
 use Rattle.refusal.specs.Outcome.{said}
 use Rattle.refusal.proofs.Answers.{refused-value}
 use Rattle.refusal.proofs.Outcomes.{answer-of}
@@ -17,9 +16,11 @@ use Rattle.label.specs.Label.{label_of, room_outcome}
 use Rattle.label.proofs.Room.{room_within}
 use Rattle.pack.specs.Opening.{point_count}
 use Rattle.pack.specs.Points.{elements_at, point_place, is_point, point_label}
+use Rattle.std.specs.Prelude.{Ok}
+use Rattle.refusal.specs.Answer.{refusal}
 
 module _ (pack : List ℕ) (k : ℕ) (out : List ℕ) where
-  pub no-point : is_point pack k ≡ false → point_label pack k out ≡ said (Refused 0 NoSuchNumber) out
+  pub no-point : is_point pack k ≡ false → point_label pack k out ≡ said (refusal 0 NoSuchNumber) out
   unfolding point_label
   no-point none = rw none
 
@@ -29,7 +30,7 @@ module _ (pack : List ℕ) (k : ℕ) (out : List ℕ) where
   a_point there = rw there
 
   -- a label that is answered with its bytes is a point's, and fits
-  module _ (b : ℕ) (e : (point_label pack k out).answer ≡ Value b) where
+  module _ (b : ℕ) (e : (point_label pack k out).answer ≡ Ok b) where
     is-point : is_point pack k ≡ true
     is-point = by-test (is_point pack k) refl
       where

@@ -31,10 +31,7 @@ pub fn label_at<'a>(pack: &'a [u8], count: usize, k: usize, out: &mut [u8]) -> A
 {
     let there = (1 <= k) & (k <= count);
     if !there {
-        return Answer::Refused {
-            file: 0,
-            reason: Reason::NoSuchNumber,
-        };
+        return Err(Reason::NoSuchNumber.into());
     }
     point_label(pack, k, out)
 }

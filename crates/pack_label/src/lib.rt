@@ -14,8 +14,6 @@ use refusal::Answer;
 pub fn label_of_point<'a>(pack: &'a [u8], k: usize, out: &mut [u8]) -> Answer
     ensures { said result out.new ≡ pack_label pack.now k out.old }
 {
-    match pack_open::open_pack(pack) {
-        Answer::Value(count) => inner::label_at(pack, count, k, out),
-        Answer::Refused { file, reason } => Answer::Refused { file, reason },
-    }
+    let count = pack_open::open_pack(pack)?;
+    inner::label_at(pack, count, k, out)
 }

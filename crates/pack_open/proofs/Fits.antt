@@ -14,13 +14,13 @@ use Rattle.field.specs.Text.{text_byte}
 use Rattle.field.proofs.Tests.{and_left, and_right}
 use Rattle.field.proofs.Texts.{part-bound}
 use Rattle.field.proofs.Fronts.{text_in-bound}
-use Rattle.refusal.specs.declared.Answer.TheVariants.{Value}
 use Rattle.label.specs.Widths.{Fits}
 use Rattle.pack.specs.Names.{inward_at, postcode_width, box_at, offsets_at, point_width, absent, point_count_at}
 use Rattle.pack.specs.Opening.{edition, trailer_start, row_count, points_start, point_count, row_area, Slot, slot, slots_of, text_good, text_end, text_at, texts_good, text_place, row_kind, row_end, row_text, row_good, rows_good, is_start, offset_good, all_rows_good, offset_kinds, rest_of, offset_of_point, offsets_good, parts_good, point_good, points_good, all_points_good, opened}
 use Rattle.pack.specs.Points.{offset_text, elements_from, elements_at, point_place}
 use Rattle.pack_read.proofs.Numbers.{number-at-below}
 use Rattle.pack_open.proofs.Opened.{opened-all}
+use Rattle.std.specs.Prelude.{Ok}
 
 -- ---- rows
 
@@ -160,7 +160,7 @@ each-point pack (suc n) at (suc i) good h =
     (each-point pack n (at + w) i (and_right (point_good pack at) _ good) (omega arith))
 
 -- the k-th point of a pack that opens, counted from 1
-module _ (pack : List ℕ) (n k : ℕ) (opens : opened pack ≡ Value n) (low : 1 ≤ k) (high : k ≤ n) where
+module _ (pack : List ℕ) (n k : ℕ) (opens : opened pack ≡ Ok n) (low : 1 ≤ k) (high : k ≤ n) where
   pub point-good : point_good pack (point_place pack k) ≡ true
   unfolding all_points_good
   point-good =

@@ -3,10 +3,11 @@
 
 ghost use Rattle.std.specs.Prelude.{◌≡◌, true};
 ghost use Rattle.refusal.specs.declared.Reason.TheVariants.{BadPack};
-ghost use Rattle.refusal.specs.declared.Answer.TheVariants.{Refused};
 ghost use Rattle.pack.specs.Opening.{trailer_good, rows_good, all_points_good, opened};
 ghost use Rattle.pack_read.specs.Laid.{LaidIn};
 ghost use Rattle.pack_points.specs.Ready.{Sized, Kept};
+ghost use Rattle.refusal.specs.Answer.{refusal};
+ghost use Rattle.refusal.specs.Verdict.{fine};
 
 use pack_counts::inner::counts_good;
 use pack_points::inner::{fields_good, offsets_marked, offsets_told};
@@ -67,12 +68,9 @@ fn all_points_good(pack: &[u8], rows: &[u8], fine: bool, layout: Layout, kept: &
 }
 
 fn bad_pack(step: usize) -> Answer
-    ensures { result ≡ Refused 0 (BadPack step) }
+    ensures { result ≡ refusal 0 (BadPack step) }
 {
-    Answer::Refused {
-        file: 0,
-        reason: Reason::BadPack { step },
-    }
+    Err(Reason::BadPack { step }.into())
 }
 
 // How many points the pack has, or the first step that fails.
@@ -97,5 +95,5 @@ pub fn open_pack(pack: &[u8]) -> Answer
     if !counts_good(pack, layout) {
         return bad_pack(4);
     }
-    Answer::Value(trailer_number(pack, layout, PackTrailer::POINTS))
+    Ok(trailer_number(pack, layout, PackTrailer::POINTS))
 }

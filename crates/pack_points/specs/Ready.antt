@@ -1,9 +1,9 @@
 -- What is known of a pack when its points are judged.
 -- Assumes nothing.
-use Rattle.std.specs.Prelude.{ℕ, zero, suc, ◌+◌, ◌*◌, ◌-◌, ◌≤◌, ◌<◌, Bool, true, ◌&&◌, ◌≡◌, List, leb, length}
+use Rattle.std.specs.Prelude.{ℕ, zero, suc, ◌+◌, ◌*◌, ◌^◌, ◌≤◌, ◌<◌, Bool, true, ◌&&◌, ◌≡◌, List, leb, length}
 use Rattle.pack.specs.Names.{address_key_at, point_width, trailer_width}
 use Rattle.pack.specs.Numbers.{number_at}
-use Rattle.pack.specs.Opening.{edition, row_count, points_start, point_count, row_area, rows_good, offset_kinds, rest_of, given, organisation_key, building_number, offsets_good, postcode_good, suffix_good, plain_good, allowed_mix, organisation_good}
+use Rattle.pack.specs.Opening.{edition, offset_good, row_count, points_start, point_count, row_area, rows_good, offset_kinds, rest_of, given, organisation_key, building_number, offsets_good, postcode_good, suffix_good, plain_good, allowed_mix, organisation_good}
 use Rattle.pack_rows.specs.Walks.{Cut, Starts}
 use Rattle.pack_rows.specs.Marks.{Fine}
 
@@ -33,9 +33,11 @@ pub record Told (pack rows : List ℕ) (width : ℕ) (starts : List ℕ) : Type 
   pub cut : Cut rows width starts
   pub kept : Starts rows (row_count pack) width starts
 
--- the offsets of the rest so many bytes before are good, where there is one
-abbrev pub Behind : List ℕ → ℕ → ℕ → Type 0
-Behind pack rest back = 0 < back → (back ≤ rest) × (offsets_good pack (rest - back) 0 offset_kinds ≡ true)
+-- a type and an offset may be asked, and the answer is whether that offset is good
+pub record Judges (pack : List ℕ) (pre : ℕ → ℕ → Type 0) (post : ℕ → ℕ → Bool → Type 0) : Type 0 where
+  pub may : (kind o : ℕ) → kind < 256 → o < 2 ^ 64 → pre kind o
+  pub right : (kind o : ℕ) → kind < 256 → o < 2 ^ 64 → (r : Bool) → post kind o r
+      → r ≡ offset_good (row_area pack) (row_count pack) kind o
 
 -- "keys up to 99,999,999; number up to 9,999"
 abbrev pub numbers_good : List ℕ → ℕ → Bool

@@ -1,5 +1,5 @@
 // All of the points but their offsets, of a pack whose trailer and rows are good.
-ghost use Rattle.std.specs.Prelude.{◌≡◌, ◌≤◌, ◌<◌, max, eqb};
+ghost use Rattle.std.specs.Prelude.{◌≡◌, ◌≤◌, eqb};
 ghost use Rattle.field.specs.Text.{text_fault};
 ghost use Rattle.pack.specs.Opening.{row_area, given, postcode_good, suffix_good, plain_good, allowed_mix, organisation_good};
 ghost use Rattle.pack_read.specs.Laid.{LaidIn, Trailed, PostcodeIn, RestIn};
@@ -10,13 +10,6 @@ use pack_read::inner::{number_within, offset_of, outward_of, trailer_number};
 use pack_read::{Layout, PackPoint, PackTrailer, has_suffix};
 use pack_rows::inner::text_empty;
 
-// A byte as a number.
-fn wide(b: u8) -> usize
-    ensures { (result ≡ b) × (result < 256) }
-{
-    b as usize
-}
-
 // Whether the n-th offset of a rest refers to a row. Its bytes are taken from the back: an absent one reads the same, and
 // so they are compared at once.
 fn is_given(pack: &[u8], rest: usize, n: usize) -> bool
@@ -24,8 +17,8 @@ fn is_given(pack: &[u8], rest: usize, n: usize) -> bool
     ensures { result ≡ given pack.now rest n }
 {
     let at = rest + PackPoint::OFFSETS + 4 * n;
-    let low = wide(pack[at]) + wide(pack[at + 1]) * 256;
-    let high = wide(pack[at + 2]) + wide(pack[at + 3]) * 256;
+    let low = pack[at] as usize + pack[at + 1] as usize * 256;
+    let high = pack[at + 2] as usize + pack[at + 3] as usize * 256;
     low + high * 65536 != PackPoint::ABSENT
 }
 
@@ -53,13 +46,6 @@ fn suffix_good(pack: &[u8], layout: Layout, at: usize) -> bool
     field_inward::is_suffix(&pack[from..from + PackPoint::SUFFIX_WIDTH])
 }
 
-// The greater of two numbers.
-fn greater(a: usize, b: usize) -> usize
-    ensures { result ≡ max a b }
-{
-    if a < b { b } else { a }
-}
-
 // Whether keys and number are not too high.
 fn numbers_good(pack: &[u8], rest: usize) -> bool
     requires { RestIn pack.now rest }
@@ -68,7 +54,7 @@ fn numbers_good(pack: &[u8], rest: usize) -> bool
     let address = number_within(pack, rest + PackPoint::ADDRESS_KEY, 4);
     let organisation = number_within(pack, rest + PackPoint::ORGANISATION_KEY, 4);
     let number = number_within(pack, rest + PackPoint::NUMBER, 2);
-    (greater(address, organisation) <= 99999999) & (number <= 9999)
+    (address.max(organisation) <= 99999999) & (number <= 9999)
 }
 
 // Whether a PO box is well formed: this looks for no place.
@@ -155,14 +141,11 @@ pub fn fields_good(pack: &[u8], rows: &[u8], layout: Layout) -> bool
     ensures { result ≡ all_points pack.now (fields_fine pack.now) }
 {
     let count = trailer_number(pack, layout, PackTrailer::POINTS);
-    let mut at = trailer_number(pack, layout, PackTrailer::START);
-    let mut i = 0;
-    while i < count {
-        if !point_good(pack, rows, layout, at) {
+    let start = trailer_number(pack, layout, PackTrailer::START);
+    for i in 0..count {
+        if !point_good(pack, rows, layout, start + layout.point * i) {
             return false;
         }
-        at += layout.point;
-        i += 1;
     }
     true
 }

@@ -13,11 +13,9 @@ fn number_in(s: &[u8]) -> usize
     requires { length s.now ≤ 4 }
     ensures { (result ≡ number_from 0 s.now) × (result < 256 ^ length s.now) }
 {
-    let mut v: usize = 0;
-    let mut i = 0;
-    while i < s.len() {
-        v = v * 256 + s[i] as usize;
-        i += 1;
+    let mut v = 0;
+    for &b in s {
+        v = v * 256 + b as usize;
     }
     v
 }
@@ -52,10 +50,8 @@ pub fn text_place(rows: &[u8], from: usize, n: usize) -> usize
     ensures { (result ≡ text_place rows.now n from) × (result ≤ from + 256 * n) }
 {
     let mut at = from;
-    let mut i = 0;
-    while i < n {
+    for _ in 0..n {
         at = text_end(rows, at);
-        i += 1;
     }
     at
 }

@@ -18,14 +18,14 @@ pub struct Layout {
 pub fn is_known(edition: u8) -> bool
     ensures { result ≡ known edition }
 {
-    (edition == 1) | ((edition == 2) | (edition == 3))
+    matches!(edition, 1..=3)
 }
 
 // Whether the points of an edition have a suffix.
 pub fn has_suffix(edition: u8) -> bool
     ensures { result ≡ has_suffix edition }
 {
-    (edition == 2) | (edition == 3)
+    matches!(edition, 2..=3)
 }
 
 // Whether the trailer of an edition has counts.
@@ -40,9 +40,10 @@ fn behind_postcode(edition: u8) -> usize
     ensures { (result ≡ behind_postcode edition) × (result ≤ suffix_width) }
 {
     if has_suffix(edition) {
-        return PackPoint::SUFFIX_WIDTH;
+        PackPoint::SUFFIX_WIDTH
+    } else {
+        0
     }
-    0
 }
 
 // How many bytes an edition puts behind the trailer's fields.
@@ -50,9 +51,10 @@ fn behind_fields(edition: u8) -> usize
     ensures { (result ≡ behind_fields edition) × (result ≤ counts_width) }
 {
     if has_counts(edition) {
-        return PackTrailer::COUNTS_WIDTH;
+        PackTrailer::COUNTS_WIDTH
+    } else {
+        0
     }
-    0
 }
 
 // The widths of an edition; those of edition 1 where there is none such.
@@ -72,9 +74,5 @@ pub fn layout_of(edition: u8) -> Layout
 pub fn layout_in(pack: &[u8]) -> Layout
     ensures { LaidIn pack.now result }
 {
-    let n = pack.len();
-    if n < PackTrailer::EDITION {
-        return layout_of(0);
-    }
-    layout_of(pack[n - PackTrailer::EDITION])
+    layout_of(pack.last().copied().unwrap_or(0))
 }

@@ -4,5 +4,4 @@ pub mod WalkLaws
 pub mod OddLaws
 pub mod EndLaws
 pub mod StepLaws
-pub mod MarkLaws
 pub mod FineLaws

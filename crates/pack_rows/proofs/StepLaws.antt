@@ -1,28 +1,21 @@
 -- Laws of steps over rows that are fine as far as their lengths and the ends of their texts go.
 -- Assumes nothing.
 use Prim.Native.Nat.{ℕ, ◌+◌, ◌≤◌, ◌<◌}
-use mathlib.Core.Path.{◌≡◌, refl, sym, ap, ◌∙◌}
-use mathlib.Core.Bool.{Bool, true, false, not, ◌&&◌, ◌||◌}
+use mathlib.Core.Path.{◌≡◌, sym, ap, ◌∙◌}
+use mathlib.Core.Bool.{true, false, not, ◌&&◌}
 use mathlib.Core.List.{List, [], ◌∷◌}
 use native.Mathlib.Omega.{arith}
-use borrow.Author.Tests.{le-leb, eq-eqb, ne_eqb}
-use lib.Dec.{eqb, leb}
+use borrow.Author.Tests.{ne_eqb}
+use lib.Dec.{eqb}
 use lib.ListN.{length, get_or}
+use Rattle.std.proofs.lemmas.Grind.{common_steps}
 use Rattle.pack.specs.Opening.{Slot, slot, slots_of, text_good, text_end, text_at, texts_good, row_kind, row_end, double_good, row_good}
 use Rattle.pack_rows.specs.Odds.{odd, odds, odds_before}
 use Rattle.pack_rows.specs.Steps.{Stepped}
 use Rattle.pack_rows.specs.declared.fine.Step.{Step}
-use Rattle.pack_rows.proofs.Texts.{one-slot, two-slots, three-slots, kind-end}
+use Rattle.pack_rows.proofs.Texts.{kind-end}
 use Rattle.pack_rows.proofs.OddLaws.{odd_low, odds-next, odds-text}
-use Rattle.pack_rows.proofs.EndLaws.{five-true, text-empty}
-
-both_true : (a b : Bool) → a ≡ true → b ≡ true → a && b ≡ true
-both_true a b p q = simp (p, q)
-
-not-alone : (a b : Bool) → not (a && not b) ≡ true → not a || b ≡ true
-not-alone true true e = refl
-not-alone true false e = e
-not-alone false b e = refl
+use Rattle.pack_rows.proofs.EndLaws.{text-empty}
 
 -- the count over a text and its length byte
 text-counted : (rows : List ℕ) (at : ℕ) → text_end rows at ≤ length rows
@@ -40,11 +33,7 @@ module _ (rows : List ℕ) (at : ℕ) (h : at < length rows) (small : row_kind r
   row-is-good : texts_good rows (slots_of (row_kind rows at)) (at + 1) ≡ true → double_good rows at ≡ true
       → row_end rows at ≤ length rows → (low : ℕ) → low ≤ row_kind rows at → row_good rows low at ≡ true
   unfolding row_good
-  row-is-good texts double room low l =
-      five-true (leb low (row_kind rows at)) (leb (row_kind rows at) 6) (leb (row_end rows at) (length rows))
-      (texts_good rows (slots_of (row_kind rows at)) (at + 1)) (double_good rows at)
-      (le-leb low (row_kind rows at) l) (le-leb (row_kind rows at) 6 small)
-      (le-leb (row_end rows at) (length rows) room) texts double
+  row-is-good texts double room low l = grind (arith, common_steps)
 
   -- a row of one text
   module _ (w : ℕ) (slots : slots_of (row_kind rows at) ≡ slot w false ∷ []) (other : 2 ≤ row_kind rows at) where
@@ -60,8 +49,7 @@ module _ (rows : List ℕ) (at : ℕ) (h : at < length rows) (small : row_kind r
           counted = rw (end, count) (omega (arith, here, kind-counted));
           good = λ e.
               row-is-good
-              (sym (one-slot rows (row_kind rows at) (at + 1) (slot w false) slots)
-              ∙ good (omega (arith, here, kind-counted, rw (end, count) at e)))
+              (let all = good (omega (arith, here, kind-counted, rw (end, count) at e)) in rw slots (simp all))
               (simp (ne_eqb (row_kind rows at) 1 (λ e. absurd (omega arith))))
               (rw (sym ends) room);
         }
@@ -85,9 +73,9 @@ module _ (rows : List ℕ) (at : ℕ) (h : at < length rows) (small : row_kind r
           good = λ e.
               let e = rw (end, count) at e in
               row-is-good
-              (sym (two-slots rows (row_kind rows at) (at + 1) (slot 60 true) (slot 60 true) (ap slots_of kind))
-              ∙ both_true _ _ (good (omega (arith, here, then, kind-counted, e)))
-              (good₂ (omega (arith, here, then, kind-counted, e))))
+              (let all = good (omega (arith, here, then, kind-counted, e)) in
+              let all₂ = good₂ (omega (arith, here, then, kind-counted, e)) in
+              rw (ap slots_of kind) (simp (all, all₂)))
               (simp (ne_eqb (row_kind rows at) 1 (λ e. absurd (omega arith))))
               (rw (sym ends) room);
         }
@@ -103,8 +91,9 @@ module _ (rows : List ℕ) (at : ℕ) (h : at < length rows) (small : row_kind r
     double-is-good : text_end rows double ≤ length rows
         → not (eqb (get_or rows dependent 0) 0 && not (eqb (get_or rows double 0) 0)) ≡ true → double_good rows at ≡ true
     double-is-good room alone =
-        rw (text-empty rows dependent (omega arith), text-empty rows double room)
-        (simp (eq-eqb (row_kind rows at) 1 kind) (not-alone (eqb (get_or rows dependent 0) 0) (eqb (get_or rows double 0) 0) alone))
+        let first = text-empty rows dependent (omega arith) in
+        let second = text-empty rows double room in
+        grind (arith, common_steps)
 
     pub locality-stepped : (s : Step) (n m k : ℕ) → s.end ≡ text_end rows double → s.odds ≡ 1 + n + m + k
         → text_end rows double ≤ length rows
@@ -123,19 +112,10 @@ module _ (rows : List ℕ) (at : ℕ) (h : at < length rows) (small : row_kind r
           good = λ e.
               let e = rw (end, count) at e in
               row-is-good
-              (sym
-              (three-slots rows (row_kind rows at) (at + 1) (slot 30 false) (slot 35 true) (slot 35 true) (ap slots_of kind))
-              ∙ both_true _ _ (good (omega (arith, here, then, last, kind-counted, e)))
-              (both_true _ _ (good₂ (omega (arith, here, then, last, kind-counted, e)))
-              (good₃ (omega (arith, here, then, last, kind-counted, e)))))
+              (let all = good (omega (arith, here, then, last, kind-counted, e)) in
+              let all₂ = good₂ (omega (arith, here, then, last, kind-counted, e)) in
+              let all₃ = good₃ (omega (arith, here, then, last, kind-counted, e)) in
+              rw (ap slots_of kind) (simp (all, all₂, all₃)))
               (double-is-good room alone)
               (rw (sym ends) room);
         }
-
--- what a row of one text has to be, by its type
-pub text-row : (rows : List ℕ) (at k w : ℕ) → row_kind rows at ≡ k → at + 1 < length rows → slots_of k ≡ slot w false ∷ []
-    → 2 ≤ k → k ≤ 6
-    → (at + 1 < length rows)
-    × (slots_of (row_kind rows at) ≡ slot w false ∷ [])
-    × ((2 ≤ row_kind rows at) × (row_kind rows at ≤ 6))
-text-row rows at k w e h slots other small = rw e (h, slots, (other, small))

@@ -5,7 +5,9 @@ use mathlib.Core.Path.{◌≡◌, refl, sym, ap, ◌∙◌}
 use mathlib.Core.Bool.{Bool, true, false}
 use mathlib.Core.List.{List, [], ◌∷◌}
 use native.Mathlib.Omega.{arith}
-use native.Mathlib.Nat.{add-mul, one-mul, lt_of_mul-lt-mul_right, div-lt_iff_lt-mul, div-eq_of_lt-le}
+use Rattle.std.specs.Int.{div_ceil}
+use Rattle.std.proofs.lemmas.Grind.{common_steps, div_ceil_times}
+use native.Mathlib.Nat.{mul-le-mul_right, add-mul, one-mul, lt_of_mul-lt-mul_right, div-lt_iff_lt-mul, div-eq_of_lt-le}
 use borrow.Author.Tests.{eqb-true, ne_eqb, ltb-true, ltb-false}
 use lib.Dec.{eqb, ltb}
 use lib.ListN.{length, get_or, set}
@@ -28,7 +30,9 @@ module _ (rows : List ℕ) where
   none_before : (k at o : ℕ) → o < at → is_start rows k at o ≡ false
   none_before zero at o h = refl
   none_before (suc k) at o h =
-      simp (ne_eqb at o (λ e. absurd (omega arith))) (none_before k (row_end rows at) o (omega (arith, row-rise at)))
+      let rise = row-rise at in
+      let rest = none_before k (row_end rows at) o (omega arith) in
+      grind (arith, common_steps)
 
   module _ (k low at : ℕ) (good : rows_good rows (suc k) low at ≡ true) where
     first_good : row_good rows low at ≡ true
@@ -43,13 +47,16 @@ module _ (rows : List ℕ) where
   pub none-behind : (k low at o : ℕ) → rows_good rows k low at ≡ true → length rows ≤ o → is_start rows k at o ≡ false
   none-behind zero low at o good h = refl
   none-behind (suc k) low at o good h =
-      simp (ne_eqb at o (λ e. absurd (omega (arith, starts-within k low at good))))
-      (none-behind k (row_kind rows at) (row_end rows at) o (rest-good k low at good) h)
+      let within = starts-within k low at good in
+      let rest = none-behind k (row_kind rows at) (row_end rows at) o (rest-good k low at good) h in
+      grind (arith, common_steps)
+
+  -- the first row starts where the rows do
+  pub first-start : (n : ℕ) → 0 < length rows → rows_good rows n 1 0 ≡ true → is_start rows n 0 0 ≡ true
+  first-start zero h good = absurd (omega (arith, eqb-true 0 (length rows) good))
+  first-start (suc n) h good = refl
 
   module _ (n o : ℕ) where
-    pub tells_first : rows_good rows n 1 0 ≡ true → Tells rows n o 0
-    tells_first good = record { left = n; low = 1; good = good; same = refl }
-
     pub tells-within : (at : ℕ) → Tells rows n o at → at ≤ length rows
     tells-within at t = by_left t.left t.good
       where
@@ -87,6 +94,16 @@ module _ (rows : List ℕ) where
 pub next_place : (j width : ℕ) → (j + 1) * width ≡ j * width + width
 next_place j width = add-mul j 1 width ∙ ap (j * width +◌) (one-mul width)
 
+-- of so many stretches as cover n bytes, each begins before n
+pub stretch-begins : (n width j : ℕ) → 0 < width → j < div_ceil n width → j * width < n
+stretch-begins n width j some h =
+    omega (
+      arith,
+      (div_ceil_times n width some).1,
+      next_place j width,
+      mul-le-mul_right {m = j + 1} {n = div_ceil n width} width (omega arith),
+    )
+
 -- an offset of the rows has a stretch
 module _ (rows : List ℕ) (width : ℕ) (starts : List ℕ) (cut : Cut rows width starts) where
   pub stretch-within : (o : ℕ) → o < length rows → o / width < length starts
@@ -101,9 +118,6 @@ pub record Keeps (rows : List ℕ) (n width : ℕ) (starts : List ℕ) (at place
   pub ahead : (o : ℕ) → place ≤ o → o < length rows → Tells rows n o at
 
 module _ (rows : List ℕ) (n width : ℕ) (starts : List ℕ) where
-  pub keeps-first : rows_good rows n 1 0 ≡ true → Keeps rows n width starts 0 0
-  keeps-first good = record { kept = λ o l h. absurd (omega arith); ahead = λ o l h. tells_first rows n o good }
-
   pub keeps-last : (at place : ℕ) → length rows ≤ place → rows_good rows n 1 0 ≡ true → Keeps rows n width starts at place
       → Starts rows n width starts
   keeps-last at place l good k = record { good = good; tells = λ o h. k.kept o (omega arith) h }

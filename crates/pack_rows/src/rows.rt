@@ -10,12 +10,11 @@ use pack_read::inner::{text_end, text_place};
 fn text_good(t: &[u8], width: u8, blank: bool) -> bool
     ensures { result ≡ text_good (slot width blank) t.now }
 {
-    let n = t.len();
-    if n == 0 {
+    let Some(&last) = t.last() else {
         return blank;
-    }
+    };
     let fault = field_test::filled_fault(t);
-    (n <= width as usize) & ((fault == 0) & (t[n - 1] != 32))
+    (t.len() <= width as usize) & ((fault == 0) & (last != 32))
 }
 
 // The same of the text that starts at a place.
@@ -59,10 +58,7 @@ pub fn row_end(rows: &[u8], at: usize) -> usize
     let first = text_end(rows, at + 1);
     match file_record::byte_of(rows, at) {
         1 => text_end(rows, text_end(rows, first)),
-        2 => first,
-        3 => first,
-        4 => first,
-        5 => first,
+        2..=5 => first,
         6 => text_end(rows, first),
         _ => at + 1,
     }
@@ -75,8 +71,7 @@ pub fn text_empty(rows: &[u8], at: usize, n: usize) -> bool
 {
     let place = text_place(rows, at + 1, n);
     let end = text_end(rows, place);
-    let text = file_record::part_of(rows, place + 1, end);
-    text.len() == 0
+    file_record::part_of(rows, place + 1, end).is_empty()
 }
 
 // Whether a row has a double dependent locality only with a dependent one.
@@ -109,15 +104,13 @@ pub fn rows_good(rows: &[u8], count: usize) -> bool
 {
     let mut low = 1;
     let mut at = 0;
-    let mut i = 0;
-    while i < count {
+    for _ in 0..count {
         let end = row_end(rows, at);
         if !row_good(rows, low, at, end) {
             return false;
         }
         low = file_record::byte_of(rows, at);
         at = end;
-        i += 1;
     }
     at == rows.len()
 }

@@ -27,13 +27,9 @@ pub fn keep_starts(rows: &[u8], width: usize, starts: &mut [u32])
         → Starts rows.now n width starts.new }
 {
     let mut at = 0;
-    let mut place = 0;
-    let mut j = 0;
-    while place < rows.len() {
-        at = walk_to(rows, at, place);
+    for j in 0..rows.len().div_ceil(width) {
+        at = walk_to(rows, at, j * width);
         starts[j] = at as u32;
-        place += width;
-        j += 1;
     }
 }
 

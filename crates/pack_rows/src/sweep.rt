@@ -7,11 +7,7 @@ ghost use Rattle.pack_rows.specs.Odds.{odd, odds};
 fn odd_byte(b: u8) -> u8
     ensures { (result ≡ odd b) × (result ≤ 1) }
 {
-    if (b < 32) | (126 < b) | ((97 <= b) & (b <= 122)) {
-        1
-    } else {
-        0
-    }
+    u8::from((b < 32) | (126 < b) | b.is_ascii_lowercase())
 }
 
 // How many bytes of a short part may stand in no text. The count is a byte, so that many bytes are taken at once.
@@ -19,11 +15,9 @@ fn odds_in(s: &[u8]) -> u8
     requires { length s.now ≤ 240 }
     ensures { (result ≡ odds s.now) × (result ≤ length s.now) }
 {
-    let mut n: u8 = 0;
-    let mut i = 0;
-    while i < s.len() {
-        n += odd_byte(s[i]);
-        i += 1;
+    let mut n = 0;
+    for &b in s {
+        n += odd_byte(b);
     }
     n
 }
@@ -32,11 +26,10 @@ fn odds_in(s: &[u8]) -> u8
 pub fn odds_of(s: &[u8]) -> usize
     ensures { result ≡ odds s.now }
 {
-    let mut n = 0;
-    let mut i = 0;
-    while i + 240 <= s.len() {
-        n += odds_in(&s[i..i + 240]) as usize;
-        i += 240;
+    let (parts, rest) = s.as_chunks::<240>();
+    let mut n = odds_in(rest) as usize;
+    for part in parts {
+        n += odds_in(part) as usize;
     }
-    n + odds_in(&s[i..]) as usize
+    n
 }

@@ -1,20 +1,33 @@
 // A run over the points of a pack that is opened.
-ghost use Rattle.std.specs.Prelude.{◌≡◌, ◌≤◌, length};
+ghost use Rattle.std.specs.Prelude.{◌≡◌};
 ghost use Rattle.refusal.specs.Outcome.{said};
 ghost use Rattle.pack.specs.Opening.{point_count};
 ghost use Rattle.pack.specs.Points.{point_label};
 ghost use Rattle.pack_points.specs.Ready.{Sized};
-ghost use Rattle.run.specs.Series.{asked_behind, run_from};
+ghost use Rattle.run.specs.Series.{run_from};
 
 use refusal::Answer;
 use run::Series;
+use run_in_turn::inner::{InTurn, in_turn};
 
-// The label of point k, behind so many bytes.
-fn label_behind<'a>(pack: &'a [u8], points: usize, k: usize, at: usize, out: &mut [u8]) -> Answer
-    requires { (at ≤ length out.old) × (Sized pack.now × (points ≡ point_count pack.now)) }
-    ensures { said result out.new ≡ asked_behind at out.old (point_label pack.now k) }
-{
-    pack_label::inner::label_at(pack, points, k, &mut out[at..])
+// The points of a pack, asked for their labels from one on.
+#[derive(Drop)]
+struct Points<'a> {
+    pack: &'a [u8],
+    many: usize,
+    next: usize,
+}
+
+impl<'a> InTurn for Points<'a> {
+    ghost asking = { λ s. point_label s.pack.now };
+
+    ghost is_next = { λ s k. (s.next ≡ k) × (Sized s.pack.now × (s.many ≡ point_count s.pack.now)) };
+
+    fn ask_next(&mut self, out: &mut [u8]) -> Answer {
+        let bytes = pack_label::inner::label_at(self.pack, self.many, self.next, out)?;
+        self.next += 1;
+        Ok(bytes)
+    }
 }
 
 // So many labels from point `first` on.
@@ -29,27 +42,10 @@ pub fn run_points<'a>(
     ensures { said result out.new
         ≡ run_from (point_label pack.now) first count out.old }
 {
-    let mut k = first;
-    let mut at = 0;
-    let mut done = 0;
-    while done < count {
-        match label_behind(pack, points, k, at, out) {
-            Answer::Value(bytes) => {
-                at += bytes;
-            }
-            Answer::Refused { file: _, reason } => {
-                return Series::Stopped {
-                    labels: done,
-                    bytes: at,
-                    reason,
-                };
-            }
-        }
-        k += 1;
-        done += 1;
-    }
-    Series::Done {
-        labels: done,
-        bytes: at,
-    }
+    let mut turns = Points {
+        pack,
+        many: points,
+        next: first,
+    };
+    in_turn(&mut turns, count, out)
 }

@@ -31,10 +31,7 @@ pub fn sector_of(pack: &[u8], count: usize, digit: usize) -> Answer
     ensures { result ≡ sector_answer (point_digits pack.now) digit }
 {
     if 9 < digit {
-        return Answer::Refused {
-            file: 0,
-            reason: Reason::BadDigit,
-        };
+        return Err(Reason::BadDigit.into());
     }
-    Answer::Value(sector_count(pack, count, digit))
+    Ok(sector_count(pack, count, digit))
 }

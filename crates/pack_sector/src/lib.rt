@@ -12,8 +12,6 @@ use refusal::Answer;
 pub fn points_in_sector(pack: &[u8], digit: usize) -> Answer
     ensures { result ≡ pack_sector pack.now digit }
 {
-    match pack_open::open_pack(pack) {
-        Answer::Value(count) => inner::sector_of(pack, count, digit),
-        Answer::Refused { file, reason } => Answer::Refused { file, reason },
-    }
+    let count = pack_open::open_pack(pack)?;
+    inner::sector_of(pack, count, digit)
 }

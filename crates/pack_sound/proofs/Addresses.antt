@@ -8,7 +8,6 @@ use native.Mathlib.Omega.{arith}
 use borrow.Author.Tests.{eqb-true, eqb-false}
 use lib.Dec.{eqb}
 use Rattle.refusal.specs.declared.Reason.TheVariants.{Combination, MissingKey}
-use Rattle.refusal.specs.declared.Verdict.TheVariants.{Fine}
 use Rattle.refusal.proofs.Verdicts.{both-fine}
 use Rattle.file_compare.specs.Order.{order, same}
 use Rattle.file_compare.proofs.Order.{order-equal}
@@ -20,9 +19,10 @@ use Rattle.ask.proofs.Laws.{in-code-all}
 use Rattle.pack.specs.Cutting.{bad_of, first_bad}
 use Rattle.pack.specs.Sound.{AddressSound, AddressesSound}
 use Rattle.pack_sound.proofs.Fields.{FieldsSound}
+use Rattle.refusal.specs.Verdict.{fine}
 
 -- an address that is not refused breaks none of the rules of refusals 8 and 9
-unrefused : (look : Lookup) (a : Address) (view : ℕ) → bad_of view (resolve look a) ≡ Fine
+unrefused : (look : Lookup) (a : Address) (view : ℕ) → bad_of view (resolve look a) ≡ fine
     → (forbidden a ≡ 0) × (missing look a ≡ 0)
 unfolding resolve
 unrefused look a view e = by_tests (eqb (forbidden a) 0) (eqb (missing look a) 0) refl refl e
@@ -31,7 +31,7 @@ unrefused look a view e = by_tests (eqb (forbidden a) 0) (eqb (missing look a) 0
         → bad_of view
         (cond t (cond u (elements (elements_of look a)) (refused (MissingKey (missing look a) 0)))
         (refused (Combination (forbidden a) 0)))
-        ≡ Fine
+        ≡ fine
         → (forbidden a ≡ 0) × (missing look a ≡ 0)
     by_tests true true p q e = (eqb-true (forbidden a) 0 p, eqb-true (missing look a) 0 q)
     by_tests true false p q e = let z : ◌≡◌ {A = ℕ} 0 1 = cc in absurd (omega arith)
@@ -53,7 +53,7 @@ organisation-there look a e =
     by_tests false m u e = by_number m (eqb m 0) u refl e
 
 module _ (look : Lookup) (code : List ℕ) where
-  address-sound : (a : Address) → FieldsSound a → a.outward ≡ code → bad_of a.view (resolve look a) ≡ Fine
+  address-sound : (a : Address) → FieldsSound a → a.outward ≡ code → bad_of a.view (resolve look a) ≡ fine
       → AddressSound look code a
   address-sound a f own fine =
       let rules = unrefused look a a.view fine in
@@ -106,7 +106,7 @@ in-code-rising code low (a ∷ more) r =
 
 module _ (look : Lookup) (code : List ℕ) where
   all_sound : (low : ℕ) (views : List Address) → Rising low views → AllOf FieldsSound views → AllOf (Own code) views
-      → first_bad look views ≡ Fine
+      → first_bad look views ≡ fine
       → AddressesSound look code low views
   all_sound low [] r f own fine = tt
   all_sound low (a ∷ more) r f own fine =
@@ -120,7 +120,7 @@ module _ (look : Lookup) (code : List ℕ) where
 
   -- of a source's views, those in a code
   pub addresses-sound : (views : List Address) → Rising 0 views → AllOf FieldsSound views
-      → first_bad look (in_code code views) ≡ Fine
+      → first_bad look (in_code code views) ≡ fine
       → AddressesSound look code 0 (in_code code views)
   addresses-sound views r f fine =
       all_sound 0 (in_code code views) (in-code-rising code 0 views r) (in-code-all FieldsSound code views f)

@@ -1,9 +1,9 @@
 // The suffix of a point of a pack that is opened.
 ghost use Rattle.std.specs.Prelude.{◌≡◌, ◌≤◌};
-ghost use Rattle.refusal.specs.declared.Answer.TheVariants.{Refused};
 ghost use Rattle.pack.specs.Opening.{point_count, suffix_in};
 ghost use Rattle.pack.specs.Points.{point_place, suffix_number, point_suffix};
 ghost use Rattle.pack_points.specs.Ready.{Sized};
+ghost use Rattle.refusal.specs.Answer.{refusal};
 
 use pack_read::inner::{number_within, trailer_number};
 use pack_read::{PackPoint, PackTrailer, has_suffix, layout_in};
@@ -21,9 +21,9 @@ fn suffix_number(pack: &[u8], k: usize) -> usize
 }
 
 fn refused(reason: Reason) -> Answer
-    ensures { result ≡ Refused 0 reason }
+    ensures { result ≡ refusal 0 reason }
 {
-    Answer::Refused { file: 0, reason }
+    Err(reason.into())
 }
 
 // The suffix of point k, counted from 1, of a pack that has so many points.
@@ -38,5 +38,5 @@ pub fn suffix_at(pack: &[u8], count: usize, k: usize) -> Answer
     if !has_suffix(layout_in(pack).edition) {
         return refused(Reason::NoSuffix);
     }
-    Answer::Value(suffix_number(pack, k))
+    Ok(suffix_number(pack, k))
 }

@@ -12,8 +12,6 @@ use refusal::Answer;
 pub fn suffix_of_point(pack: &[u8], k: usize) -> Answer
     ensures { result ≡ pack_suffix pack.now k }
 {
-    match pack_open::open_pack(pack) {
-        Answer::Value(count) => inner::suffix_at(pack, count, k),
-        Answer::Refused { file, reason } => Answer::Refused { file, reason },
-    }
+    let count = pack_open::open_pack(pack)?;
+    inner::suffix_at(pack, count, k)
 }

@@ -2,3 +2,4 @@ pub mod Lossless
 pub mod Answers
 pub mod Outcomes
 pub mod Verdicts
+pub mod Passed

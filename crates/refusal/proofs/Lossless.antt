@@ -1,7 +1,7 @@
 -- The packed number loses nothing: two answers that fit their bits and have the same number are the same answer.
 -- Assumes nothing.
 use Prim.Native.Nat.{ℕ, ◌+◌, ◌*◌, ◌<◌, ◌≤◌}
-use mathlib.Core.Path.{◌≡◌, refl, sym, ap, ◌∙◌}
+use mathlib.Core.Path.{◌≡◌, refl, sym, ap, ap₂, ◌∙◌}
 use mathlib.Core.Bool.{true}
 use mathlib.Core.List.{[], ◌∷◌}
 use native.Mathlib.Omega.{arith}
@@ -12,10 +12,10 @@ use lib.ListN.{get_or}
 use Rattle.refusal.specs.declared.Reason.{Reason}
 use Rattle.refusal.specs.declared.Reason.TheVariants.{Length, Header, Trailer, Malformed, NotAbove, Follower, NoSuchNumber, Combination, MissingKey, Room, BadPack, BadCode, NoSuffix, BadRow, Uncarried, BadDigit, Later}
 use Rattle.refusal.specs.declared.LaterReason.TheVariants.{InsertedTwice, NotPresent, Unpaired, NoFreeSlot, NotABook}
-use Rattle.refusal.specs.declared.Answer.{Answer}
-use Rattle.refusal.specs.declared.Answer.TheVariants.{Value, Refused}
 use Rattle.refusal.specs.Refusal.{number, detail, second}
 use Rattle.refusal.specs.Packed.{word, packed, FitsRefusal, Fits}
+use Rattle.std.specs.Prelude.{Ok, Err}
+use Rattle.refusal.specs.Answer.{Answer, refusal}
 
 -- the reason that has a number, a detail and a second detail
 abbrev reason-of : ℕ → ℕ → ℕ → Reason
@@ -139,7 +139,7 @@ refusal-word file r fits =
     }
 
 -- no value has the number of a refusal
-value-refused : (v file : ℕ) (r : Reason) → Fits (Value v) → FitsRefusal file r → packed (Value v) ≡ packed (Refused file r) → ⊥
+value-refused : (v file : ℕ) (r : Reason) → Fits (Ok v) → FitsRefusal file r → packed (Ok v) ≡ packed (refusal file r) → ⊥
 value-refused v file r p q e =
     omega (
       arith,
@@ -147,13 +147,20 @@ value-refused v file r p q e =
       sym (mod-eq_of_lt p) ∙ (e ∙ word-plain (number r) file (second r) (detail r) (refusal-word file r q)),
     )
 
+abbrev answered : ℕ → Answer
+answered n = Ok n
+
+abbrev refused-by : ℕ → Reason → Answer
+refused-by file why = refusal file why
+
 pub loses-nothing : (a b : Answer) → Fits a → Fits b → packed a ≡ packed b → a ≡ b
-loses-nothing (Value v) (Value w) p q e =
-    ap Value (sym (mod-eq_of_lt p) ∙ (e ∙ mod-eq_of_lt q))
-loses-nothing (Value v) (Refused f r) p q e = absurd (value-refused v f r p q e)
-loses-nothing (Refused f r) (Value w) p q e = absurd (value-refused w f r q p (sym e))
-loses-nothing (Refused f r) (Refused g s) p q e =
+loses-nothing (Ok v) (Ok w) p q e =
+    ap (λ (n : ℕ). answered n) (sym (mod-eq_of_lt p) ∙ (e ∙ mod-eq_of_lt q))
+loses-nothing (Ok v) (Err b) p q e = absurd (value-refused v b.file b.reason p q e)
+loses-nothing (Err a) (Ok w) p q e = absurd (value-refused w a.file a.reason q p (sym e))
+loses-nothing (Err a) (Err b) p q e =
     let same =
-    word-parts (number r) f (second r) (detail r) (number s) g (second s) (detail s) (refusal-word f r p)
-    (refusal-word g s q) e in
-    rw (same.file-same, same-reason r s same.number_same same.detail-same same.second-same)
+    word-parts (number a.reason) a.file (second a.reason) (detail a.reason) (number b.reason) b.file (second b.reason)
+    (detail b.reason) (refusal-word a.file a.reason p) (refusal-word b.file b.reason q) e in
+    ap₂ (λ (f : ℕ) (w : Reason). refused-by f w) same.file-same
+    (same-reason a.reason b.reason same.number_same same.detail-same same.second-same)

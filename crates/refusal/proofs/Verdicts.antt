@@ -5,12 +5,12 @@ use mathlib.Core.Path.{◌≡◌, refl}
 use native.Mathlib.Omega.{arith}
 use Rattle.refusal.specs.Verdict.{or_else}
 use Rattle.refusal.specs.declared.Reason.{Reason}
-use Rattle.refusal.specs.declared.Verdict.{Verdict}
-use Rattle.refusal.specs.declared.Verdict.TheVariants.{Fine, Bad}
+use Rattle.std.specs.Prelude.{Ok, Err}
+use Rattle.refusal.specs.Verdict.{Verdict, fine}
 
-pub bad-fine : (why : Reason) → Bad why ≡ Fine → ⊥
+pub bad-fine : (why : Reason) → Err why ≡ fine → ⊥
 bad-fine why e = let z : ◌≡◌ {A = ℕ} 0 1 = cc in omega arith
 
-pub both-fine : (v w : Verdict) → or_else v w ≡ Fine → (v ≡ Fine) × (w ≡ Fine)
-both-fine Fine w e = (refl, e)
-both-fine (Bad why) w e = absurd (bad-fine why e)
+pub both-fine : (v w : Verdict) → or_else v w ≡ fine → (v ≡ fine) × (w ≡ fine)
+both-fine (Ok _) w e = (refl, e)
+both-fine (Err why) w e = absurd (bad-fine why e)

@@ -1,4 +1,5 @@
 pub mod Refusal
+pub mod Answer
 pub mod Packed
 pub mod Verdict
 pub mod Outcome

@@ -1,10 +1,9 @@
 -- An answer as one number: from bit 56 the refusal's number, from 52 the file to blame, from 32 the second detail, from
 -- 0 the detail; where nothing is refused, the number is 0 and the value stands below bit 56.
 -- Assumes nothing.
-use Rattle.std.specs.Prelude.{ℕ, ◌+◌, ◌*◌, ◌%◌, ◌<◌}
+use Rattle.std.specs.Prelude.{ℕ, Ok, Err, ◌+◌, ◌*◌, ◌%◌, ◌<◌}
 use Rattle.refusal.specs.declared.Reason.{Reason}
-use Rattle.refusal.specs.declared.Answer.{Answer}
-use Rattle.refusal.specs.declared.Answer.TheVariants.{Value, Refused}
+use Rattle.refusal.specs.Answer.{Answer}
 use Rattle.refusal.specs.Refusal.{number, detail, second}
 
 -- number 8 bits, file 4, second detail 20, detail 32
@@ -14,8 +13,8 @@ word n file s d =
     + (s % 1_048_576 * 4_294_967_296 + d % 4_294_967_296)
 
 abbrev pub packed : Answer → ℕ
-packed (Value value) = value % 72_057_594_037_927_936
-packed (Refused file reason) = word (number reason) file (second reason) (detail reason)
+packed (Ok value) = value % 72_057_594_037_927_936
+packed (Err r) = word (number r.reason) r.file (second r.reason) (detail r.reason)
 
 -- what fits its bits: a value below 2 to the 56; a file below 16, details below 2 to the 20 and 2 to the 32
 pub record FitsRefusal (file : ℕ) (reason : Reason) : Type 0 where
@@ -24,5 +23,5 @@ pub record FitsRefusal (file : ℕ) (reason : Reason) : Type 0 where
   pub detail_fits : detail reason < 4_294_967_296
 
 abbrev pub Fits : Answer → Type 0
-Fits (Value value) = value < 72_057_594_037_927_936
-Fits (Refused file reason) = FitsRefusal file reason
+Fits (Ok value) = value < 72_057_594_037_927_936
+Fits (Err r) = FitsRefusal r.file r.reason

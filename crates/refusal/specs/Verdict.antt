@@ -1,9 +1,16 @@
 -- What checks say, one after another.
 -- Assumes nothing.
-use Rattle.refusal.specs.declared.Verdict.{Verdict}
-use Rattle.refusal.specs.declared.Verdict.TheVariants.{Fine, Bad}
+use Rattle.std.specs.Prelude.{⊤, Result, Ok, Err}
+use Rattle.refusal.specs.declared.Reason.{Reason}
+
+-- no reason against it, or one
+abbrev pub Verdict : Type 0
+Verdict = Result ⊤ Reason
+
+abbrev pub fine : Verdict
+fine = Ok tt
 
 -- the first that is bad decides
 abbrev pub or_else : Verdict → Verdict → Verdict
-or_else Fine rest = rest
-or_else (Bad why) rest = Bad why
+or_else (Ok _) rest = rest
+or_else (Err why) rest = Err why

@@ -4,6 +4,7 @@
 
 ghost use Rattle.std.specs.Prelude.{◌≡◌};
 ghost use Rattle.refusal.specs.Refusal.{later_number, number, detail, second, malformed_at, with_view};
+ghost use Rattle.refusal.specs.Answer.{blame};
 ghost use Rattle.refusal.specs.Packed.{word, packed};
 
 // The refusals of an address book, which have no details.
@@ -39,19 +40,27 @@ pub enum Reason {
     Later(LaterReason),
 }
 
-// What a check says: of a record, of a file, of a delivery point.
+// A refusal as a call answers it. `file` is the file to blame: 0 none; of a pair 1 the table file, 2 the point file; of a
+// Mainfile set 1 to 7, in document 02's order.
 #[derive(Clone, Copy)]
-pub enum Verdict {
-    Fine,
-    Bad(Reason),
+pub struct Refusal {
+    pub file: usize,
+    pub reason: Reason,
 }
 
-// What a call answers. `file` is the file to blame: 0 none; of a pair 1 the table file, 2 the point file; of a Mainfile set
-// 1 to 7, in document 02's order.
-#[derive(Clone, Copy)]
-pub enum Answer {
-    Value(usize),
-    Refused { file: usize, reason: Reason },
+// What a call answers: a value, or why it refuses.
+pub type Answer = Result<usize, Refusal>;
+
+// What a check says: of a record, of a file, of a delivery point.
+pub type Verdict = Result<(), Reason>;
+
+// A reason that blames no file.
+impl From<Reason> for Refusal {
+    ghost from_gives = { λ why r. r ≡ blame 0 why };
+
+    fn from(reason: Reason) -> Refusal {
+        Refusal { file: 0, reason }
+    }
 }
 
 // Document 02's number of a refusal of an address book.
@@ -157,8 +166,8 @@ pub fn packed_answer(answer: Answer) -> usize
     ensures { result ≡ packed answer }
 {
     match answer {
-        Answer::Value(value) => value % 72057594037927936,
-        Answer::Refused { file, reason } => {
+        Ok(value) => value % 72057594037927936,
+        Err(Refusal { file, reason }) => {
             word_of(
                 number_of(reason),
                 file,

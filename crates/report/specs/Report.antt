@@ -2,8 +2,6 @@
 -- Assumes nothing.
 use Rattle.std.specs.Prelude.{ℕ, zero, suc, cond, List, [], ◌∷◌, ◌++◌, eqb, ltb, length, get_or}
 use Rattle.refusal.specs.declared.Reason.TheVariants.{NoSuchNumber}
-use Rattle.refusal.specs.declared.Answer.{Answer}
-use Rattle.refusal.specs.declared.Answer.TheVariants.{Value, Refused}
 use Rattle.file_record.specs.Parts.{record_at}
 use Rattle.file_record.specs.Names.Point
 use Rattle.file.specs.Check.{checked}
@@ -12,6 +10,8 @@ use Rattle.changes_views.specs.Views.{wanted_count, wanted_at}
 use Rattle.item.specs.Lines.{spaced_number, view_line, refused_line}
 use Rattle.item.specs.Item.{resolved_text}
 use Rattle.changes_label.specs.Places.{resolved_at}
+use Rattle.std.specs.Prelude.{Ok, Err}
+use Rattle.refusal.specs.Answer.{Answer}
 
 -- the words `pair`, `table`, `points`, `long`
 abbrev pub pair_word : List ℕ
@@ -52,8 +52,8 @@ pair_text table points t p =
 
 -- "A refused file gives the one line `table` or `points`, `refused`, number, detail"
 abbrev pub file_text : List ℕ → Answer → (ℕ → List ℕ) → List ℕ
-file_text word (Value n) next = next n
-file_text word (Refused file why) next = word ++ ((32 ∷ []) ++ refused_line why)
+file_text word (Ok n) next = next n
+file_text word (Err r) next = word ++ ((32 ∷ []) ++ refused_line r.reason)
 
 -- "One longer than 300 records gives `table long` or `points long`"
 abbrev pub long_text : List ℕ → List ℕ

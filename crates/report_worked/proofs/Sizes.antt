@@ -1,7 +1,7 @@
 -- No report is longer than the buffer that the program lends, 160,000 bytes, so that all of it is written.
 -- Assumes nothing.
-use Prim.Native.Nat.{ℕ, zero, suc, ◌+◌, ◌-◌, ◌*◌, ◌≤◌, ◌<◌}
-use mathlib.Core.Path.{◌≡◌, refl, ap}
+use Prim.Native.Nat.{ℕ, zero, suc, ◌+◌, ◌-◌, ◌*◌, ◌≤◌}
+use mathlib.Core.Path.{◌≡◌, refl}
 use mathlib.Core.Bool.{Bool, true, false, cond, not, ◌&&◌, ◌||◌}
 use mathlib.Core.List.{List, [], ◌∷◌}
 use native.Mathlib.Omega.{arith}
@@ -11,13 +11,9 @@ use lib.Dec.{eqb, ltb}
 use lib.ListN.{length, length-append}
 use lib.Seq.{take_all}
 use Rattle.refusal.specs.declared.Reason.{Reason}
-use Rattle.refusal.specs.declared.Reason.TheVariants.{Length, Header, Trailer, Malformed, NotAbove, Follower, NoSuchNumber, Combination, MissingKey, Room, BadPack, BadCode}
-use Rattle.refusal.specs.declared.Answer.{Answer}
-use Rattle.refusal.specs.declared.Answer.TheVariants.{Value, Refused}
+use Rattle.refusal.specs.declared.Reason.TheVariants.{Length, Header, Trailer, Malformed, NotAbove, Follower, NoSuchNumber, Combination, MissingKey}
 use Rattle.refusal.proofs.Lossless.{number-to-28}
 use Rattle.refusal.specs.Refusal.{number, detail, second}
-use Rattle.refusal.specs.declared.Verdict.{Verdict}
-use Rattle.refusal.specs.declared.Verdict.TheVariants.{Fine, Bad}
 use Rattle.file_fault.proofs.Bounds.{table-bound, point-bound}
 use Rattle.file.specs.Check.{Format, records, whole as whole-records, at, rises, in_place, judged, scan, verdict, answered, checked}
 use Rattle.refusal.specs.Verdict.{or_else}
@@ -39,32 +35,35 @@ use Rattle.item.specs.Item.{resolved_text}
 use Rattle.item.proofs.Decimals.{decimal-size}
 use Rattle.report.specs.Report.{table_word, points_word, view_text, block, blocks, pair_text, file_text, points_text, report_of}
 use Rattle.changes_label.proofs.Laws.{label-fits}
+use Rattle.std.specs.Prelude.{Ok, Err}
+use Rattle.refusal.specs.Answer.{Answer}
+use Rattle.refusal.specs.Verdict.{Verdict, fine}
 
 -- a refusal that names no more than a number, and a byte of a record at most
 abbrev Told : ℕ → Reason → Type 0
 Told n why = (detail why ≤ n) × (second why ≤ 999)
 
 abbrev Below : ℕ → Verdict → Type 0
-Below n Fine = Unit {0}
-Below n (Bad why) = Told n why
+Below n (Ok _) = Unit {0}
+Below n (Err why) = Told n why
 
 below-three : (n : ℕ) (t u v : Bool) (x y z : Reason) → Told n x → Told n y → Told n z
-    → Below n (cond t (cond u (cond v Fine (Bad x)) (Bad y)) (Bad z))
+    → Below n (cond t (cond u (cond v fine (Err x)) (Err y)) (Err z))
 below-three n true true true x y z h k l = tt
 below-three n true true false x y z h k l = h
 below-three n true false v x y z h k l = k
 below-three n false u v x y z h k l = l
 
 below-ends : (n : ℕ) (t u v : Bool) (w : Verdict) (last : ℕ) → Below n w → last ≤ n → 1 ≤ n
-    → Below n (cond t (cond u (cond v w (Bad (Trailer last))) (Bad Header)) (Bad Length))
+    → Below n (cond t (cond u (cond v w (Err (Trailer last))) (Err Header)) (Err Length))
 below-ends n true true true w last h k l = h
 below-ends n true true false w last h k l = (k, omega arith)
 below-ends n true false v w last h k l = (l, omega arith)
 below-ends n false u v w last h k l = (omega arith, omega arith)
 
 below-else : (n : ℕ) (a b : Verdict) → Below n a → Below n b → Below n (or_else a b)
-below-else n Fine b h k = k
-below-else n (Bad why) b h k = h
+below-else n (Ok _) b h k = k
+below-else n (Err why) b h k = h
 
 module _ (f : Format) (near : (rec : List ℕ) → f.fault rec ≤ 170) (file : List ℕ) (n : ℕ) where
   judged-below : (i : ℕ) → i + 1 ≤ n → Below n (judged f file i)
@@ -98,8 +97,8 @@ module _ (f : Format) (near : (rec : List ℕ) → f.fault rec ≤ 170) (file : 
 
 -- an answer that tells no more than a number
 abbrev Said : ℕ → Answer → Type 0
-Said n (Value k) = k ≤ n
-Said n (Refused file why) = Told n why
+Said n (Ok k) = k ≤ n
+Said n (Err r) = Told n r.reason
 
 checked-said : (f : Format) → ((rec : List ℕ) → f.fault rec ≤ 170) → (file : List ℕ) (n : ℕ) → records f file ≤ n → 1 ≤ n
     → Said n (checked f file)
@@ -107,8 +106,8 @@ unfolding checked
 checked-said f near file n h k = by-verdict (verdict f file) (verdict-below f near file n h k)
   where
     by-verdict : (v : Verdict) → Below n v → Said n (answered f file v)
-    by-verdict Fine b = h
-    by-verdict (Bad why) b = b
+    by-verdict (Ok _) b = h
+    by-verdict (Err why) b = b
 
 -- what is refused of an address
 missing-from : (look : Lookup) (n : ℕ) (l : List Asked) → missing_from look n l ≤ n + length l
@@ -241,13 +240,13 @@ module _ (table points : List ℕ) (t : Accepted table_format table) (p : Accept
 
 -- a file that is refused, or taken
 file-size : (word : List ℕ) (a : Answer) (next : ℕ → List ℕ) → length word ≤ 6 → Said 50_700 a
-    → ((n : ℕ) → a ≡ Value n → n ≤ 50_700 → length (next n) ≤ 160_000)
+    → ((n : ℕ) → a ≡ Ok n → n ≤ 50_700 → length (next n) ≤ 160_000)
     → length (file_text word a next) ≤ 160_000
-file-size word (Value n) next w s h = h n refl s
-file-size word (Refused file why) next w s h =
-    omega (arith, length-append word (32 ∷ refused_line why), refused-size why s)
+file-size word (Ok n) next w s h = h n refl s
+file-size word (Err r) next w s h =
+    omega (arith, length-append word (32 ∷ refused_line r.reason), refused-size r.reason s)
 
-points-size : (table points : List ℕ) (t : ℕ) → checked table_format table ≡ Value t → t ≤ 50_700
+points-size : (table points : List ℕ) (t : ℕ) → checked table_format table ≡ Ok t → t ≤ 50_700
     → length (points_text table points t) ≤ 160_000
 unfolding points_text
 points-size table points t e m = by-test (ltb 50_400 (length points)) refl

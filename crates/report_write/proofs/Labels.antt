@@ -10,8 +10,6 @@ use lib.Dec.{eqb}
 use lib.ListN.{length, take, drop, length-append, length-replicate}
 use lib.Seq.{take-append_seam}
 use Rattle.refusal.specs.declared.Reason.{Reason}
-use Rattle.refusal.specs.declared.Answer.{Answer}
-use Rattle.refusal.specs.declared.Answer.TheVariants.{Value, Refused}
 use Rattle.refusal.specs.Outcome.{Outcome}
 use Rattle.source.specs.Address.{Lookup, Address, Elements}
 use Rattle.source.specs.Resolve.{Resolved, elements, refused, forbidden, missing, elements_of, resolve}
@@ -26,18 +24,20 @@ use Rattle.report_write.specs.Fresh.{TailZero}
 use Rattle.item.specs.Lines.{refused_line}
 use Rattle.item.specs.Item.{resolved_text}
 use Rattle.report.specs.Report.{view_text}
+use Rattle.std.specs.Prelude.{Ok, Err}
+use Rattle.refusal.specs.Answer.{Answer, refusal}
 
 -- what an answer and a buffer say of a text: it stands in front of the buffer, or it is the refusal's line
 abbrev pub Told : List ℕ → Answer → List ℕ → Type 0
-Told text (Value n) m = (n ≤ length m) × (take n m ≡ text)
-Told text (Refused file why) m = refused_line why ≡ text
+Told text (Ok n) m = (n ≤ length m) × (take n m ≡ text)
+Told text (Err r) m = refused_line r.reason ≡ text
 
-pub told-value : (text : List ℕ) {m x : List ℕ} {a : Answer} (n : ℕ) → Told text a m → a ≡ Value n → x ≡ m
+pub told-value : (text : List ℕ) {m x : List ℕ} {a : Answer} (n : ℕ) → Told text a m → a ≡ Ok n → x ≡ m
     → (n ≤ length x) × (take n x ≡ text)
 told-value text {m} {x} n t e y =
     subst (λ (l : List ℕ). (n ≤ length l) × (take n l ≡ text)) (sym y) (subst (λ (z : Answer). Told text z m) e t)
 
-pub told-refused : (text m : List ℕ) {a : Answer} (file : ℕ) (why : Reason) → Told text a m → a ≡ Refused file why
+pub told-refused : (text m : List ℕ) {a : Answer} (file : ℕ) (why : Reason) → Told text a m → a ≡ refusal file why
     → refused_line why ≡ text
 told-refused text m file why t e = subst (λ (z : Answer). Told text z m) e t
 

@@ -41,8 +41,8 @@ fn view_at<'a>(table: &'a [u8], points: &'a [u8], place: usize, at: usize, out: 
     let label = fresh.bytes;
     let answer = fresh.answer;
     match answer {
-        Answer::Value(n) => text_at(&label[..n], at, out),
-        Answer::Refused { file: _, reason } => refused_at(reason, at, out),
+        Ok(n) => text_at(&label[..n], at, out),
+        Err(refused) => refused_at(refused.reason, at, out),
     }
 }
 
@@ -73,11 +73,9 @@ pub fn blocks_at<'a>(
     ensures { Fed (blocks table.now points.now views) out.old at result
         out.new }
 {
-    let mut view = 0;
     let mut i = at;
-    while view < views {
-        view += 1;
-        i = block_at(table, points, view, i, out);
+    for view in 0..views {
+        i = block_at(table, points, view + 1, i, out);
     }
     i
 }

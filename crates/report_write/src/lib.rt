@@ -4,7 +4,6 @@
 mod blocks;
 
 ghost use Rattle.std.specs.Prelude.{◌≡◌, [], ◌∷◌, ◌++◌};
-ghost use Rattle.refusal.specs.declared.Answer.TheVariants.{Value};
 ghost use Rattle.file.specs.Accepted.{Accepted};
 ghost use Rattle.file.specs.Check.{checked};
 ghost use Rattle.file.specs.Formats.{table_format, point_format};
@@ -12,9 +11,10 @@ ghost use Rattle.label.specs.Put.{Wrote};
 ghost use Rattle.report.specs.Fed.{Fed, fitting};
 ghost use Rattle.item.specs.Lines.{refused_line};
 ghost use Rattle.report.specs.Report.{pair_text, points_text, report_of};
+ghost use Rattle.std.specs.Prelude.{Ok};
 
 use blocks::blocks_at;
-use refusal::{Answer, Reason};
+use refusal::Reason;
 use report::inner::{number_at, refused_at, text_at};
 
 // 300 records.
@@ -49,7 +49,7 @@ fn write_refused(word: &[u8], reason: Reason, out: &mut [u8]) -> usize
 
 // What is written once the table file is taken.
 fn write_points<'a>(table: &'a [u8], points: &'a [u8], t: usize, out: &mut [u8]) -> usize
-    requires { checked table_format table.now ≡ Value t }
+    requires { checked table_format table.now ≡ Ok t }
     ensures { Fed (points_text table.now points.now t) out.old 0 result
         out.new }
 {
@@ -57,8 +57,8 @@ fn write_points<'a>(table: &'a [u8], points: &'a [u8], t: usize, out: &mut [u8])
         return text_at(b"points long\n", 0, out);
     }
     match file_check::check_points(points) {
-        Answer::Value(p) => write_pair(table, points, t, p, out),
-        Answer::Refused { file: _, reason } => write_refused(b"points", reason, out),
+        Ok(p) => write_pair(table, points, t, p, out),
+        Err(refused) => write_refused(b"points", refused.reason, out),
     }
 }
 
@@ -71,7 +71,7 @@ pub fn write_report<'a>(table: &'a [u8], points: &'a [u8], out: &mut [u8]) -> us
         return text_at(b"table long\n", 0, out);
     }
     match file_check::check_table(table) {
-        Answer::Value(t) => write_points(table, points, t, out),
-        Answer::Refused { file: _, reason } => write_refused(b"table", reason, out),
+        Ok(t) => write_points(table, points, t, out),
+        Err(refused) => write_refused(b"table", refused.reason, out),
     }
 }

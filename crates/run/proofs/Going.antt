@@ -8,32 +8,32 @@ use native.Mathlib.Nat.{zero-add}
 use lib.ListN.{length, take, drop, length-append, take-append-drop}
 use lib.Seq.{length-take-le, take-append-add, drop-append-add}
 use Rattle.refusal.specs.declared.Reason.{Reason}
-use Rattle.refusal.specs.declared.Answer.{Answer}
-use Rattle.refusal.specs.declared.Answer.TheVariants.{Value, Refused}
-use Rattle.run.specs.declared.Series.{Series}
-use Rattle.run.specs.declared.Series.TheVariants.{Unasked, Stopped, Done}
 use Rattle.refusal.specs.Outcome.{Outcome, said}
 use Rattle.refusal.proofs.Outcomes.{said-as, answer-of, memory-of}
 use Rattle.run.specs.Series.{Asking, asked_behind, behind, go_on, run_from}
+use Rattle.std.specs.Prelude.{Ok, Err}
+use Rattle.refusal.specs.Answer.{Answer, refusal}
+use Rattle.run.specs.Series.{Series}
+use Rattle.run.specs.declared.Run.TheVariants.{Stopped, Done}
 
-done-asked : (l b file : ℕ) (why : Reason) → Done l b ≡ Unasked file why → ⊥
+done-asked : (l b file : ℕ) (why : Reason) → Ok (Done l b) ≡ refusal file why → ⊥
 done-asked l b file why e = let z : ◌≡◌ {A = ℕ} 0 1 = cc in omega arith
 
-stopped-asked : (l b file : ℕ) (w why : Reason) → Stopped l b w ≡ Unasked file why → ⊥
+stopped-asked : (l b file : ℕ) (w why : Reason) → Ok (Stopped l b w) ≡ refusal file why → ⊥
 stopped-asked l b file w why e = let z : ◌≡◌ {A = ℕ} 0 1 = cc in omega arith
 
 behind-none : (s : Series) → behind 0 0 s ≡ s
-behind-none (Unasked file why) = refl
-behind-none (Stopped l b why) = rw (zero-add l, zero-add b)
-behind-none (Done l b) = rw (zero-add l, zero-add b)
+behind-none (Err r) = refl
+behind-none (Ok (Stopped l b why)) = rw (zero-add l, zero-add b)
+behind-none (Ok (Done l b)) = rw (zero-add l, zero-add b)
 
 behind_more : (labels bytes b : ℕ) (s : Series) → behind labels bytes (behind 1 b s) ≡ behind (labels + 1) (bytes + b) s
-behind_more labels bytes b (Unasked file why) = refl
-behind_more labels bytes b (Stopped l c why) =
+behind_more labels bytes b (Err r) = refl
+behind_more labels bytes b (Ok (Stopped l c why)) =
     let n : labels + (1 + l) ≡ labels + 1 + l = omega arith in
     let m : bytes + (b + c) ≡ bytes + b + c = omega arith in
     rw (n, m)
-behind_more labels bytes b (Done l c) =
+behind_more labels bytes b (Ok (Done l c)) =
     let n : labels + (1 + l) ≡ labels + 1 + l = omega arith in
     let m : bytes + (b + c) ≡ bytes + b + c = omega arith in
     rw (n, m)
@@ -50,7 +50,7 @@ lent-behind ask at out back e =
 
 -- a label that is answered with its bytes fits
 abbrev pub Fitting : Asking → Type 0
-Fitting a = (k : ℕ) (out : List ℕ) (b : ℕ) → (a k out).answer ≡ Value b → b ≤ length (a k out).memory
+Fitting a = (k : ℕ) (out : List ℕ) (b : ℕ) → (a k out).answer ≡ Ok b → b ≤ length (a k out).memory
 
 -- `done` labels are written in the first `at` bytes of the buffer, which was `out` and is `here`
 pub record Going (a : Asking) (first count : ℕ) (out : List ℕ) (done at : ℕ) (here : List ℕ) : Type 0 where
@@ -68,7 +68,7 @@ going_start a first count out =
     }
 
 module _ {a : Asking} {first count : ℕ} {out : List ℕ} {done at : ℕ} {here : List ℕ} (g : Going a first count out done at here) where
-  pub going_end : count ≤ done → said (Done done at) here ≡ run_from a first count out
+  pub going_end : count ≤ done → said (Ok (Done done at)) here ≡ run_from a first count out
   going_end h =
       let none : count - done ≡ 0 = omega arith in
       let n : done + 0 ≡ done = omega arith in
@@ -86,16 +86,16 @@ module _ {a : Asking} {first count : ℕ} {out : List ℕ} {done at : ℕ} {here
     front : length (take at here) ≡ at
     front = length-take-le at here g.within
 
-    pub going-stop : {file : ℕ} {why : Reason} → r ≡ Refused file why
-        → said (Stopped done at why) y ≡ run_from a first count out
+    pub going-stop : {file : ℕ} {why : Reason} → r ≡ refusal file why
+        → said (Ok (Stopped done at why)) y ≡ run_from a first count out
     going-stop e =
         let n : done + 0 ≡ done = omega arith in
         let m : at + 0 ≡ at = omega arith in
         let refused = sym (answer-of asked) ∙ e in
         said-as refl (memory-of asked) ∙ sym (g.on ∙ rw (left, refused, n, m))
 
-    module _ {b : ℕ} (e : r ≡ Value b) where
-      value : (a (first + done) (drop at here)).answer ≡ Value b
+    module _ {b : ℕ} (e : r ≡ Ok b) where
+      value : (a (first + done) (drop at here)).answer ≡ Ok b
       value = sym (answer-of asked) ∙ e
 
       -- what was written stays within the buffer
@@ -127,21 +127,21 @@ module _ {a : Asking} {first count : ℕ} {out : List ℕ} {done at : ℕ} {here
           }
 
 -- a run that is asked at all is never refused as a whole
-behind-asked : (labels bytes : ℕ) (s : Series) (file : ℕ) (why : Reason) → behind labels bytes s ≡ Unasked file why
-    → s ≡ Unasked file why
-behind-asked labels bytes (Unasked f w) file why e = e
-behind-asked labels bytes (Stopped l b w) file why e = absurd (stopped-asked (labels + l) (bytes + b) file w why e)
-behind-asked labels bytes (Done l b) file why e = absurd (done-asked (labels + l) (bytes + b) file why e)
+behind-asked : (labels bytes : ℕ) (s : Series) (file : ℕ) (why : Reason) → behind labels bytes s ≡ refusal file why
+    → s ≡ refusal file why
+behind-asked labels bytes (Err r) file why e = e
+behind-asked labels bytes (Ok (Stopped l b w)) file why e = absurd (stopped-asked (labels + l) (bytes + b) file w why e)
+behind-asked labels bytes (Ok (Done l b)) file why e = absurd (done-asked (labels + l) (bytes + b) file why e)
 
 pub never-unasked : (a : Asking) (n k : ℕ) (out : List ℕ) (file : ℕ) (why : Reason)
-    → (run_from a k n out).answer ≡ Unasked file why
+    → (run_from a k n out).answer ≡ refusal file why
     → ⊥
 never-unasked a zero k out file why e = done-asked 0 0 file why e
 never-unasked a (suc n) k out file why e =
     by_answer (a k out).answer e (λ b. never-unasked a n (suc k) (drop b (a k out).memory) file why)
   where
-    by_answer : (r : Answer) → (go_on r (a k out).memory (λ rest. run_from a (suc k) n rest)).answer ≡ Unasked file why
-        → ((b : ℕ) → (run_from a (suc k) n (drop b (a k out).memory)).answer ≡ Unasked file why → ⊥)
+    by_answer : (r : Answer) → (go_on r (a k out).memory (λ rest. run_from a (suc k) n rest)).answer ≡ refusal file why
+        → ((b : ℕ) → (run_from a (suc k) n (drop b (a k out).memory)).answer ≡ refusal file why → ⊥)
         → ⊥
-    by_answer (Value b) e more = more b (behind-asked 1 b _ file why e)
-    by_answer (Refused f w) e more = stopped-asked 0 0 file w why e
+    by_answer (Ok b) e more = more b (behind-asked 1 b _ file why e)
+    by_answer (Err r) e more = stopped-asked 0 0 file r.reason why e

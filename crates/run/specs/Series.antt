@@ -1,11 +1,15 @@
 -- Labels asked in turn: "writes the labels one behind the other, equal to asking for each in turn".
 -- Assumes nothing.
-use Rattle.std.specs.Prelude.{ℕ, zero, suc, ◌+◌, List, ◌++◌, take, drop}
-use Rattle.refusal.specs.declared.Answer.{Answer}
-use Rattle.refusal.specs.declared.Answer.TheVariants.{Value, Refused}
+use Rattle.std.specs.Prelude.{ℕ, zero, suc, ◌+◌, List, ◌++◌, take, drop, Result, Ok, Err}
+use Rattle.refusal.specs.declared.Refusal.{Refusal}
+use Rattle.refusal.specs.Answer.{Answer}
 use Rattle.refusal.specs.Outcome.{Outcome, said}
-use Rattle.run.specs.declared.Series.{Series}
-use Rattle.run.specs.declared.Series.TheVariants.{Unasked, Stopped, Done}
+use Rattle.run.specs.declared.Run.{Run}
+use Rattle.run.specs.declared.Run.TheVariants.{Stopped, Done}
+
+-- how far a run came, or why no label was asked
+abbrev pub Series : Type 0
+Series = Result Run Refusal
 
 -- asking for one label: its number and a buffer give what it comes to
 abbrev pub Asking : Type 0
@@ -17,17 +21,17 @@ asked_behind at out ask = said (ask (drop at out)).answer (take at out ++ (ask (
 
 -- a run behind so many labels and bytes
 abbrev pub behind : ℕ → ℕ → Series → Series
-behind labels bytes (Unasked file why) = Unasked file why
-behind labels bytes (Stopped l b why) = Stopped (labels + l) (bytes + b) why
-behind labels bytes (Done l b) = Done (labels + l) (bytes + b)
+behind labels bytes (Err r) = Err r
+behind labels bytes (Ok (Stopped l b why)) = Ok (Stopped (labels + l) (bytes + b) why)
+behind labels bytes (Ok (Done l b)) = Ok (Done (labels + l) (bytes + b))
 
 -- "It stops before the first label that is refused or doesn't fit in what is left"; the next is asked in what is left
 abbrev pub go_on : Answer → (written : List ℕ) → (List ℕ → Outcome Series) → Outcome Series
-go_on (Value b) written next =
+go_on (Ok b) written next =
     said (behind 1 b (next (drop b written)).answer) (take b written ++ (next (drop b written)).memory)
-go_on (Refused file why) written next = said (Stopped 0 0 why) written
+go_on (Err r) written next = said (Ok (Stopped 0 0 r.reason)) written
 
 -- "a first view number .. and a count": n labels from number k on
 abbrev pub run_from : Asking → ℕ → ℕ → List ℕ → Outcome Series
-run_from ask k zero out = said (Done 0 0) out
+run_from ask k zero out = said (Ok (Done 0 0)) out
 run_from ask k (suc n) out = go_on (ask k out).answer (ask k out).memory (λ left. run_from ask (suc k) n left)

@@ -4,16 +4,12 @@
 ghost use Rattle.std.specs.Prelude.{◌≡◌};
 ghost use Rattle.run.specs.Packed.{packed_series, series_bytes};
 
-use refusal::{Answer, Reason};
+use refusal::{Reason, Refusal};
 
-// What a run answers: no label was asked, since a file, the code or the pack is refused; or it stopped before a label that
-// was refused, so many labels being written in so many bytes; or all were written.
+// A run that was begun: it stopped before a label that was refused, so many labels being written in so many bytes, or all
+// were written.
 #[derive(Clone, Copy)]
-pub enum Series {
-    Unasked {
-        file: usize,
-        reason: Reason,
-    },
+pub enum Run {
     Stopped {
         labels: usize,
         bytes: usize,
@@ -25,21 +21,23 @@ pub enum Series {
     },
 }
 
+// What a run answers: how far it came, or why no label was asked, since a file, the code or the pack is refused.
+pub type Series = Result<Run, Refusal>;
+
 // The answer of a run as the one number that C gets: how many labels were written; of a stop, the label's own refusal, with
 // how many were written as second detail.
 pub fn packed_series(series: Series) -> usize
     ensures { result ≡ packed_series series }
 {
     match series {
-        Series::Unasked { file, reason } => refusal::packed_answer(Answer::Refused {
-            file,
-            reason,
-        }),
-        Series::Stopped {
-            labels,
-            bytes: _,
-            reason,
-        } => {
+        Ok(Run::Done { labels, bytes: _ }) => refusal::packed_answer(Ok(labels)),
+        Ok(
+            Run::Stopped {
+                labels,
+                bytes: _,
+                reason,
+            },
+        ) => {
             refusal::word_of(
                 refusal::number_of(reason),
                 0,
@@ -47,7 +45,7 @@ pub fn packed_series(series: Series) -> usize
                 refusal::detail_of(reason),
             )
         }
-        Series::Done { labels, bytes: _ } => refusal::packed_answer(Answer::Value(labels)),
+        Err(refused) => refusal::packed_answer(Err(refused)),
     }
 }
 
@@ -56,12 +54,14 @@ pub fn bytes_of(series: Series, before: usize) -> usize
     ensures { result ≡ series_bytes series before }
 {
     match series {
-        Series::Unasked { file: _, reason: _ } => before,
-        Series::Stopped {
-            labels: _,
-            bytes,
-            reason: _,
-        } => bytes,
-        Series::Done { labels: _, bytes } => bytes,
+        Ok(Run::Done { labels: _, bytes }) => bytes,
+        Ok(
+            Run::Stopped {
+                labels: _,
+                bytes,
+                reason: _,
+            },
+        ) => bytes,
+        Err(_) => before,
     }
 }

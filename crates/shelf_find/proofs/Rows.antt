@@ -1,15 +1,19 @@
 -- The rows that seven keys find, one after the other.
 -- Assumes nothing.
 use Prim.Native.Nat.{ℕ, zero, suc, ◌+◌, ◌≤◌, ◌<◌}
-use mathlib.Core.Path.{◌≡◌, refl, sym, ap, ◌∙◌}
+use mathlib.Core.Path.{◌≡◌, refl, sym, ap, subst, ◌∙◌}
+use mathlib.Core.Logic.{⊎_elim}
+use native.Mathlib.Nat.{eq-or-lt_of_le}
 use mathlib.Core.Bool.{cond}
 use mathlib.Core.List.{List, [], ◌∷◌}
 use native.Mathlib.Omega.{arith}
-use lib.ListN.{length, get_or, set, length-set}
+use lib.ListN.{length, get_or}
 use lib.Seq.{ext_get_or}
 use Rattle.source.specs.Address.{present, key_kinds, asked_by, ref}
 use Rattle.source.specs.Delivery.{rows_for}
-use Rattle.shelf.proofs.Search.{filled_on}
+use Rattle.std.specs.Array.{IsFromFnResultFrom}
+use Rattle.std.specs.Fn.{Called}
+use denote.Param.Members.{Mut}
 
 -- what key i of these kinds finds
 abbrev pub row_at : (ℕ → ℕ) → (kinds keys : List ℕ) → ℕ → ℕ
@@ -28,27 +32,22 @@ module _ (row : ℕ → ℕ) where
   rows_long (k ∷ ks) [] e = absurd (omega arith)
   rows_long (k ∷ ks) (n ∷ ns) e = ap suc (rows_long ks ns (omega arith))
 
-  -- the keys before i have their rows: what the loop over seven keys keeps true
-  pub record RowsTo (keys rows : List ℕ) (i : ℕ) : Type 0 where
-    pub long : length rows ≡ 7
-    pub to : i ≤ 7
-    pub each : (j : ℕ) → 0 ≤ j → j < i → get_or rows j 0 ≡ row_at row key_kinds keys j
+  -- seven rows that are what seven keys find, each by its place
+  pub rows-are : (keys rows : List ℕ) → length keys ≡ 7 → length rows ≡ 7
+      → ((i : ℕ) → i < 7 → get_or rows i 0 ≡ row_at row key_kinds keys i)
+      → rows ≡ rows_for row (asked_by key_kinds keys)
+  rows-are keys rows seven long each =
+      ext_get_or 0 rows (rows_for row (asked_by key_kinds keys)) (long ∙ sym (rows_long key_kinds keys (sym seven)))
+      (λ i l.
+      each i (omega (arith, long)) ∙ sym (rows_at key_kinds keys i (omega (arith, long)) (omega (arith, long))))
 
-  pub rows_none : (keys rows : List ℕ) → length rows ≡ 7 → RowsTo keys rows 0
-  rows_none keys rows long = record { long = long; to = omega arith; each = λ j p q. absurd (omega arith) }
-
-  module _ (keys rows : List ℕ) (i : ℕ) (done : RowsTo keys rows i) where
-    pub rows_next : (v : ℕ) → i < 7 → v ≡ row_at row key_kinds keys i → RowsTo keys (set rows i v) (i + 1)
-    rows_next v h is =
-        record {
-          long = length-set rows i v ∙ done.long;
-          to = omega arith;
-          each = filled_on rows (row_at row key_kinds keys) 0 i v (omega (arith, done.long)) is done.each;
-        }
-
-    pub rows_all : length keys ≡ 7 → 7 ≤ i → rows ≡ rows_for row (asked_by key_kinds keys)
-    rows_all seven h =
-        ext_get_or 0 rows (rows_for row (asked_by key_kinds keys)) (done.long ∙ sym (rows_long key_kinds keys (sym seven)))
-        (λ j l.
-        done.each j (omega arith) (omega (arith, done.long))
-        ∙ sym (rows_at key_kinds keys j (omega (arith, done.long)) (omega (arith, done.long))))
+-- an array made by calls that leave the closure as it was has what each call gives
+module _ {F : Type 0} (g : Mut F (ℕ × Unit {0}) ℕ) (f : F) (h : ℕ → ℕ)
+    (call : (i y : ℕ) (q : F) → Called g f (i, tt) y q → (q ≡ f) × (y ≡ h i)) (ys : List ℕ) where
+  pub made-each : (n i : ℕ) → IsFromFnResultFrom g f ys i n → (k : ℕ) → i ≤ k → k < i + n → get_or ys k 0 ≡ h k
+  made-each zero i made k low high = absurd (omega arith)
+  made-each (suc n) i made k low high =
+      let step = call i made.1 made.0 made.3 in
+      let rest = subst (λ (p : F). IsFromFnResultFrom g p ys (i + 1) n) step.0 made.4 in
+      ⊎_elim (λ here. ap (λ (j : ℕ). get_or ys j 0) (sym here) ∙ (made.2.1 0 ∙ (step.1 ∙ ap h here)))
+      (λ later. made-each n (i + 1) rest k (omega arith) (omega arith)) (eq-or-lt_of_le low)

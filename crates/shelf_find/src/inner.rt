@@ -66,12 +66,7 @@ pub fn rows_of(file: &[u8], s: Shelf, keys: [u32; 7]) -> Found
     requires { Fit s }
     ensures { result.rows ≡ rows_for (found s file.now) (asked_by key_kinds keys) }
 {
-    let mut rows = [0usize; 7];
-    let mut i = 0;
-    while i < 7 {
-        rows[i] = row_for(file, s, KINDS[i], keys[i]);
-        i += 1;
-    }
+    let rows = std::array::from_fn(|i| row_for(file, s, KINDS[i], keys[i]));
     Found { rows }
 }
 
@@ -80,11 +75,8 @@ pub fn fill_refs(file: &[u8], s: Shelf, refs: &mut [u32])
     requires { Fit s × (last_of s file.now ≤ length refs.old) }
     ensures { Filled s file.now refs.new }
 {
-    let last = last_of(file, s);
-    let mut i = 1;
-    while i < last {
+    for i in 1..last_of(file, s) {
         refs[i] = ref_at(file, s, i) as u32;
-        i += 1;
     }
 }
 
@@ -143,11 +135,6 @@ pub fn rows_by(file: &[u8], s: Shelf, refs: &[u32], keys: [u32; 7]) -> Found
     requires { Fit s × Filled s file.now refs.now }
     ensures { result.rows ≡ rows_for (found s file.now) (asked_by key_kinds keys) }
 {
-    let mut rows = [0usize; 7];
-    let mut i = 0;
-    while i < 7 {
-        rows[i] = ref_for(file, s, refs, KINDS[i], keys[i]);
-        i += 1;
-    }
+    let rows = std::array::from_fn(|i| ref_for(file, s, refs, KINDS[i], keys[i]));
     Found { rows }
 }

@@ -4,11 +4,11 @@
 use Rattle.std.specs.Prelude.{ℕ, suc, ◌+◌, ◌≤◌, ◌<◌, ◌≡◌, Bool, false, cond, not, ◌&&◌, List, [], ◌∷◌, eqb, length, get_or}
 use Rattle.field.specs.Text.{part, text_in}
 use Rattle.refusal.specs.declared.Reason.TheVariants.{Combination, MissingKey}
-use Rattle.refusal.specs.declared.Verdict.{Verdict}
-use Rattle.refusal.specs.declared.Verdict.TheVariants.{Fine, Bad}
 use Rattle.source.specs.declared.DeliveryPoint.{DeliveryPoint}
 use Rattle.source.specs.Address.{Organisation, none_needed, named, lacking, Address, present, Asked, key_kinds, key_numbers, asked_by, ref}
 use Rattle.source.specs.Resolve.{forbidden_of}
+use Rattle.std.specs.Prelude.{Err}
+use Rattle.refusal.specs.Verdict.{Verdict, fine}
 
 -- ---- that it says what an address says
 
@@ -86,5 +86,5 @@ missing_in p rows =
 unfoldable pub refusal_in : DeliveryPoint → (rows : List ℕ) → Verdict
 refusal_in p rows =
     cond (eqb (forbidden_in p) 0)
-    (cond (eqb (missing_in p rows) 0) Fine (Bad (MissingKey (missing_in p rows) 0)))
-    (Bad (Combination (forbidden_in p) 0))
+    (cond (eqb (missing_in p rows) 0) fine (Err (MissingKey (missing_in p rows) 0)))
+    (Err (Combination (forbidden_in p) 0))

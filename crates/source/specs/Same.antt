@@ -1,6 +1,6 @@
 -- What holds of each of some addresses, and look-ups that agree on their keys.
 -- Assumes nothing.
-use Rattle.std.specs.Prelude.{ℕ, ◌≡◌, true, List, [], ◌∷◌}
+use Rattle.std.specs.Prelude.{◌≡◌, true, List, [], ◌∷◌}
 use Rattle.source.specs.Address.{Lookup, Address, present, Asked, keys_of}
 
 -- each of these addresses has a property

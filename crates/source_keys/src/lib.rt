@@ -38,14 +38,14 @@ pub fn forbidden_in(p: DeliveryPoint) -> usize
 fn first_lacking(keys: [u32; 7], rows: [usize; 7]) -> usize
     ensures { result ≡ lacking_from 1 keys rows }
 {
-    let mut i = 0;
-    while i < 7 {
-        if (keys[i] != 0) & (rows[i] == 0) {
-            return i + 1;
-        }
-        i += 1;
+    let lacking = keys
+        .iter()
+        .zip(&rows)
+        .position(|(key, row)| (*key != 0) & (*row == 0));
+    match lacking {
+        Some(i) => i + 1,
+        None => 0,
     }
-    0
 }
 
 // The first field whose row is missing, 0 where there is none.
@@ -67,11 +67,11 @@ pub fn refusal_in(p: DeliveryPoint, found: Found) -> Verdict
 {
     let rule = forbidden_in(p);
     if rule != 0 {
-        return Verdict::Bad(Reason::Combination { rule, view: 0 });
+        return Err(Reason::Combination { rule, view: 0 });
     }
     let field = missing_in(p, found);
     if field != 0 {
-        return Verdict::Bad(Reason::MissingKey { field, view: 0 });
+        return Err(Reason::MissingKey { field, view: 0 });
     }
-    Verdict::Fine
+    Ok(())
 }

@@ -1,20 +1,17 @@
 -- Refusals 8 and 9 of a delivery point, by its keys and the rows that these find, are those of its address.
 -- Assumes nothing.
 use Prim.Native.Nat.{ℕ, suc, ◌+◌}
-use mathlib.Core.Path.{◌≡◌, refl, sym, ap, ◌∙◌}
-use mathlib.Core.Bool.{Bool, true, false, cond, not, ◌&&◌}
+use mathlib.Core.Path.{◌≡◌, refl, sym}
+use mathlib.Core.Bool.{Bool, true, false, cond, ◌&&◌}
 use mathlib.Core.List.{List, [], ◌∷◌}
 use mathlib.Core.Option.{none, some}
 use lib.Dec.{eqb}
 use Rattle.field.specs.Text.{text_in}
-use Rattle.refusal.specs.declared.Reason.{Reason}
 use Rattle.refusal.specs.declared.Reason.TheVariants.{Combination, MissingKey}
-use Rattle.refusal.specs.declared.Verdict.{Verdict}
-use Rattle.refusal.specs.declared.Verdict.TheVariants.{Fine, Bad}
 use Rattle.source.specs.declared.DeliveryPoint.{DeliveryPoint}
-use Rattle.source.specs.Address.{Organisation, none_needed, named, lacking, Address, present, Asked, key_kinds, key_numbers, asked_by, ref, Elements}
-use Rattle.source.specs.Resolve.{forbidden, lacks, missing_from, lacks_organisation, missing, elements_of, Resolved, elements, refused, resolve}
-use Rattle.source.specs.Delivery.{Says, organisation_in, rows_for, asked_of, forbidden_in, lacking_from, missing_in, refusal_in}
+use Rattle.source.specs.Address.{none_needed, named, lacking, Address, present, key_kinds, key_numbers, asked_by, ref}
+use Rattle.source.specs.Resolve.{forbidden, lacks, missing_from, lacks_organisation, missing, elements_of, resolve}
+use Rattle.source.specs.Delivery.{Says, rows_for, asked_of, forbidden_in, lacking_from, missing_in, refusal_in}
 use Rattle.shelf.specs.Stock.{Stock, look_in}
 pub use Rattle.source_meaning.proofs.Verdicts.{resolved_by}
 use Rattle.source_meaning.proofs.Verdicts.{by-verdict}

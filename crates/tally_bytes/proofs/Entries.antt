@@ -9,11 +9,12 @@ use borrow.Author.Tests.{le-leb, lt-leb}
 use lib.Dec.{leb}
 use lib.ListN.{length, drop}
 use Rattle.refusal.specs.declared.Reason.TheVariants.{Room}
-use Rattle.refusal.specs.declared.Answer.TheVariants.{Value, Refused}
 use Rattle.refusal.specs.Outcome.{said}
 use Rattle.refusal.proofs.Answers.{refused-value, same-value}
 use Rattle.tally.specs.Tally.{Entry}
 use Rattle.tally_bytes.specs.Entries.{entry_bytes, roomed, entries_outcome}
+use Rattle.std.specs.Prelude.{Ok}
+use Rattle.refusal.specs.Answer.{refusal}
 
 -- eight bytes for each code
 pub entries-long : (es : List Entry) → length (entry_bytes es) ≡ 8 * length es
@@ -22,28 +23,28 @@ entries-long (e ∷ es) = omega (arith, entries-long es)
 
 -- bytes that fit, and bytes that do not
 module _ (n : ℕ) (bytes out : List ℕ) where
-  pub fits : length bytes ≤ length out → roomed n bytes out ≡ said (Value n) (bytes ++ drop (length bytes) out)
+  pub fits : length bytes ≤ length out → roomed n bytes out ≡ said (Ok n) (bytes ++ drop (length bytes) out)
   unfolding roomed
   fits h = rw (le-leb (length bytes) (length out) h)
 
-  pub falls-short : length out < length bytes → roomed n bytes out ≡ said (Refused 0 (Room (length bytes))) out
+  pub falls-short : length out < length bytes → roomed n bytes out ≡ said (refusal 0 (Room (length bytes))) out
   unfolding roomed
   falls-short h = rw (lt-leb (length bytes) (length out) h)
 
 -- entries in a buffer, by the answer: how many there are, and that they stand there
-pub entries-written : (es : List Entry) (out : List ℕ) (n : ℕ) → (entries_outcome es out).answer ≡ Value n
+pub entries-written : (es : List Entry) (out : List ℕ) (n : ℕ) → (entries_outcome es out).answer ≡ Ok n
     → (n ≡ length es) × ((entries_outcome es out).memory ≡ entry_bytes es ++ drop (8 * n) out)
 unfolding roomed
 entries-written es out n e = by-test (leb (length (entry_bytes es)) (length out)) e
   where
     by-test : (t : Bool)
-        → (cond t (said (Value (length es)) (entry_bytes es ++ drop (length (entry_bytes es)) out))
-        (said (Refused 0 (Room (length (entry_bytes es)))) out)
+        → (cond t (said (Ok (length es)) (entry_bytes es ++ drop (length (entry_bytes es)) out))
+        (said (refusal 0 (Room (length (entry_bytes es)))) out)
         ).answer
-        ≡ Value n
+        ≡ Ok n
         → (n ≡ length es)
-        × ((cond t (said (Value (length es)) (entry_bytes es ++ drop (length (entry_bytes es)) out))
-        (said (Refused 0 (Room (length (entry_bytes es)))) out)
+        × ((cond t (said (Ok (length es)) (entry_bytes es ++ drop (length (entry_bytes es)) out))
+        (said (refusal 0 (Room (length (entry_bytes es)))) out)
         ).memory
         ≡ entry_bytes es ++ drop (8 * n) out)
     by-test true e =

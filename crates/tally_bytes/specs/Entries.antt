@@ -3,11 +3,11 @@
 -- Assumes nothing.
 use Rattle.std.specs.Prelude.{ℕ, cond, List, [], ◌∷◌, ◌++◌, leb, length, drop}
 use Rattle.refusal.specs.declared.Reason.TheVariants.{Room}
-use Rattle.refusal.specs.declared.Answer.{Answer}
-use Rattle.refusal.specs.declared.Answer.TheVariants.{Value, Refused}
 use Rattle.refusal.specs.Outcome.{Outcome, said}
 use Rattle.pack.specs.Numbers.{bytes_of}
 use Rattle.tally.specs.Tally.{Entry}
+use Rattle.std.specs.Prelude.{Ok}
+use Rattle.refusal.specs.Answer.{Answer, refusal}
 
 -- "each 4 bytes and its count in 4 bytes, most significant first"
 abbrev pub one_entry : (code count : ℕ) → List ℕ
@@ -22,8 +22,8 @@ entry_bytes (e ∷ es) = one_entry e.code e.count ++ entry_bytes es
 unfoldable pub roomed : ℕ → (bytes out : List ℕ) → Outcome Answer
 roomed n bytes out =
     cond (leb (length bytes) (length out))
-    (said (Value n) (bytes ++ drop (length bytes) out))
-    (said (Refused 0 (Room (length bytes))) out)
+    (said (Ok n) (bytes ++ drop (length bytes) out))
+    (said (refusal 0 (Room (length bytes))) out)
 
 -- "value: how many codes"
 abbrev pub entries_outcome : List Entry → List ℕ → Outcome Answer

@@ -7,7 +7,7 @@ use mathlib.Core.List.{List, [], ◌∷◌, ◌++◌, append_assoc, append-nil}
 use native.Mathlib.Omega.{arith}
 use native.Mathlib.Numerals.{add-one}
 use native.Mathlib.Nat.{add-zero}
-use borrow.Author.Tests.{eqb-true, eqb-false, eq-eqb, ne_eqb}
+use borrow.Author.Tests.{eqb-true, eqb-false}
 use lib.Dec.{eqb}
 use lib.ListN.{length, get_or, drop, set, replicate, length-append, length-drop, drop_of_length-le}
 use lib.Seq.{drop-cons, set_at, drop-drop, drop-append-add, get_or-drop}
@@ -16,18 +16,6 @@ use Rattle.tally.specs.Tally.{Entry, tally, codes, counts}
 use Rattle.tally.proofs.Order.{least-down}
 use Rattle.tally.proofs.Tallies.{tally-sorted, tally-run, codes-length, counts-length}
 use Rattle.tally_count.specs.Counted.{repeats, Counted}
-
--- one code more, as the code goes
-module _ (x : ℕ) (list : List ℕ) where
-  pub repeats-on : (i : ℕ) → i < length list → get_or list i 0 ≡ x
-      → repeats x (drop i list) ≡ suc (repeats x (drop (i + 1) list))
-  repeats-on i h e = rw (add-one i, drop-cons list i 0 h) (simp (eq-eqb (get_or list i 0) x e))
-
-  pub repeats-stop : (i : ℕ) → i < length list → (get_or list i 0 ≡ x → ⊥) → repeats x (drop i list) ≡ 0
-  repeats-stop i h e = rw (drop-cons list i 0 h) (simp (ne_eqb (get_or list i 0) x e))
-
-  pub repeats-end : (i : ℕ) → length list ≤ i → repeats x (drop i list) ≡ 0
-  repeats-end i h = rw (drop_of_length-le list {i = i} h)
 
 -- a rising list, by its first run
 record Run (x : ℕ) (xs : List ℕ) : Type 0 where

@@ -13,14 +13,12 @@ fn run_end(codes: &[u32], i: usize) -> usize
         × (result ≤ length codes.now) }
 {
     let first = codes[i];
-    let mut end = i + 1;
-    while end < codes.len() {
+    for end in i + 1..codes.len() {
         if codes[end] != first {
             return end;
         }
-        end += 1;
     }
-    end
+    codes.len()
 }
 
 // The entries of codes that are in order.

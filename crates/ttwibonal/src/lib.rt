@@ -12,7 +12,6 @@ ghost use Rattle.call.specs.Call.{of_table, of_points, of_views, of_letter, of_l
 use changes_items::list_in_code;
 use changes_label::label_in_code;
 use changes_runs::labels_in_code;
-use refusal::Answer;
 
 // How many records a table file has.
 #[unsafe(no_mangle)]
@@ -35,7 +34,7 @@ pub extern "C" fn ttw_points(points: &[u8]) -> u64
 pub extern "C" fn ttw_unspace_table(file: &mut [u8]) -> u64
     ensures { called result file.new 0 ≡ comes_to of_unspace_table file.old 0 }
 {
-    refusal::packed_answer(Answer::Value(unspace_file::unspace_table(file))) as u64
+    refusal::packed_answer(Ok(unspace_file::unspace_table(file))) as u64
 }
 
 // The same of a point file.
@@ -43,7 +42,7 @@ pub extern "C" fn ttw_unspace_table(file: &mut [u8]) -> u64
 pub extern "C" fn ttw_unspace_points(file: &mut [u8]) -> u64
     ensures { called result file.new 0 ≡ comes_to of_unspace_points file.old 0 }
 {
-    refusal::packed_answer(Answer::Value(unspace_file::unspace_points(file))) as u64
+    refusal::packed_answer(Ok(unspace_file::unspace_points(file))) as u64
 }
 
 // How many views a point file has.

@@ -9,8 +9,12 @@ use native.Mathlib.Omega.{arith}
 use native.Mathlib.Nat.{eq-or-lt_of_le, mul-le-mul_right}
 use borrow.Author.Tests.{eqb-true, leb-true}
 use lib.Dec.{eqb}
-use lib.ListN.{length, set, drop, get_or, length-set, length-take, length-drop}
-use lib.Seq.{ext_get_or, get_or-take, get_or-drop, get_or-set_other, get_or-set_same}
+use lib.ListN.{length, set, replicate, drop, get_or, length-set, length-take, length-drop}
+use borrow.Rule.Slice.PartMut.{put_mid}
+use Rattle.std.proofs.lemmas.Slice.{put_mid-paste}
+use Rattle.std.proofs.lemmas.List.Edits.{paste_none, fill_from_more}
+use Rattle.std.proofs.lemmas.List.{length-replicate}
+use lib.Seq.{paste, ext_get_or, get_or-take, get_or-drop, get_or-set_other, get_or-set_same}
 use Rattle.field.specs.Test.{only}
 use Rattle.field.specs.Text.{part}
 use Rattle.field.proofs.Tests.{and_left, and_right}
@@ -36,8 +40,19 @@ module _ (at b : ℕ) (file : List ℕ) where
   length-filled zero = refl
   length-filled (suc n) = length-set (filled n at b file) (at + n) b ∙ length-filled n
 
-  pub filled-step : (i : ℕ) → set (filled i at b file) (at + i) b ≡ filled (i + 1) at b file
-  filled-step i = ap (λ (n : ℕ). filled n at b file) (let next : suc i ≡ i + 1 = omega arith in next)
+  -- the part that is filled, put between what stands before and behind it
+  filled-paste : (n : ℕ) → at + n ≤ length file → filled n at b file ≡ paste file at (replicate n b) n
+  filled-paste zero h = paste_none file at (replicate 0 b)
+  filled-paste (suc n) h =
+      ap (λ l. set l (at + n) b) (filled-paste n (omega arith))
+      ∙ (fill_from_more file at n b (omega arith)
+      ∙ ap (λ k. paste file at (replicate k b) k) (let next : n + 1 ≡ suc n = omega arith in next))
+
+  pub filled-part : (k n : ℕ) (part : List ℕ) → at + n ≤ length file → n ≡ k → part ≡ replicate k b
+      → put_mid at k file part ≡ filled n at b file
+  filled-part k n part h e is =
+      put_mid-paste at k file part (replicate n b) n (is ∙ ap (λ m. replicate m b) (sym e)) e (sym (length-replicate n b))
+      ∙ sym (filled-paste n h)
 
   pub filled-before : (n i : ℕ) → i < at → get_or (filled n at b file) i 0 ≡ get_or file i 0
   filled-before zero i h = refl

@@ -1,18 +1,6 @@
 // An identifier at a place of lent bytes, for callers that know that it lies within them.
 ghost use Rattle.std.specs.Prelude.{◌≡◌, cond, ◌+◌, ◌≤◌, length};
-ghost use Rattle.unspace_file.specs.Unspaced.{filled, spaces_at, rewritten};
-
-// `n` bytes from `at` on, each `b`.
-fn fill(file: &mut [u8], at: usize, n: usize, b: u8)
-    requires { at + n ≤ length file.old }
-    ensures { file.new ≡ filled n at b file.old }
-{
-    let mut i = 0;
-    while i < n {
-        file[at + i] = b;
-        i += 1;
-    }
-}
+ghost use Rattle.unspace_file.specs.Unspaced.{spaces_at, rewritten};
 
 // An identifier of `width` bytes at `at` becomes `proper` throughout where it is all spaces: 1 where it is, else 0.
 pub fn rewrite(file: &mut [u8], at: usize, width: u8, proper: u8) -> usize
@@ -20,11 +8,11 @@ pub fn rewrite(file: &mut [u8], at: usize, width: u8, proper: u8) -> usize
     ensures count { result ≡ cond (spaces_at width at file.old) 1 0 }
     ensures content { file.new ≡ rewritten width at proper file.old }
 {
-    let n = width as usize;
+    let n = usize::from(width);
     if !field_test::all_are(file_record::part_of(file, at, at + n), b' ') {
         return 0;
     }
-    fill(file, at, n, proper);
+    file[at..at + n].fill(proper);
     1
 }
 

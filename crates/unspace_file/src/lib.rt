@@ -20,7 +20,7 @@ fn unspace(file: &mut [u8], width: usize, identifier: u8) -> usize
     ensures content { file.new ≡ unspaced width identifier file.old }
 {
     let n = file.len() / width;
-    if !((n * width == file.len()) & (2 <= n)) {
+    if n * width != file.len() || n < 2 {
         return 0;
     }
     let head = rewrite(file, 0, identifier, 0);

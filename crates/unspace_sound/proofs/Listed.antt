@@ -11,8 +11,6 @@ use Rattle.field_outward.specs.Outward.{outward_fault}
 use Rattle.file_record.specs.Parts.{record_at}
 use Rattle.file_record.specs.Names.Point
 use Rattle.refusal.specs.declared.Reason.TheVariants.{NoSuchNumber, BadCode}
-use Rattle.refusal.specs.declared.Answer.{Answer}
-use Rattle.refusal.specs.declared.Answer.TheVariants.{Value, Refused}
 use Rattle.refusal.specs.Outcome.{Outcome, after, afterwards}
 use Rattle.file.specs.Check.{checked}
 use Rattle.file.specs.Formats.{point_format}
@@ -27,6 +25,8 @@ use Rattle.unspace_sound.specs.Sound.{new_points, SameLists}
 use Rattle.unspace_sound.proofs.Reader.{checked-kept}
 use Rattle.unspace_sound.proofs.Formats.{points-identified}
 use Rattle.unspace_sound.proofs.Views.{wanted-kept}
+use Rattle.std.specs.Prelude.{Ok}
+use Rattle.refusal.specs.Answer.{Answer, refusal}
 
 module _ (points : List ℕ) where
   abbrev new : List ℕ
@@ -49,12 +49,12 @@ module _ (points : List ℕ) where
   letter-at-kept : (place : ℕ) → letter_at new place ≡ letter_at points place
   unfolding letter_at
   letter-at-kept place =
-      ap (λ (letter : ℕ). cond (eqb place 0) (Refused 0 NoSuchNumber) (Value letter)) (letter-kept place)
+      ap (λ (letter : ℕ). cond (eqb place 0) (refusal 0 NoSuchNumber) (Ok letter)) (letter-kept place)
 
   live-at-kept : (code : List ℕ) → live_at new code ≡ live_at points code
   unfolding live_at
   live-at-kept code =
-      ap (λ (n : ℕ). cond (eqb (outward_fault code) 0) (Value n) (Refused 0 BadCode)) (count_kept code)
+      ap (λ (n : ℕ). cond (eqb (outward_fault code) 0) (Ok n) (refusal 0 BadCode)) (count_kept code)
 
   code-kept : (i : ℕ) → code_of (record_at Point.width new i) ≡ code_of (record_at Point.width points i)
   unfolding number_at
@@ -74,7 +74,7 @@ module _ (points : List ℕ) where
 
   views_same : views_answer new ≡ views_answer points
   unfolding views_answer
-  views_same = ap₂ after judged-kept (ap Value (count_kept []))
+  views_same = ap₂ after judged-kept (ap Ok (count_kept []))
 
   letters-same : (view : ℕ) → letter_answer new view ≡ letter_answer points view
   unfolding letter_answer
@@ -88,7 +88,7 @@ module _ (points : List ℕ) where
   codes_same : (out : List ℕ) → codes_outcome new out ≡ codes_outcome points out
   unfolding codes_outcome
   codes_same out =
-      ap₂ (λ (a : Answer) (o : Outcome Answer). afterwards Refused a out o) judged-kept
+      ap₂ (λ (a : Answer) (o : Outcome Answer). afterwards refusal a out o) judged-kept
       (ap (λ es. entries_outcome es out) codes-kept)
 
 pub lists-same : (points : List ℕ) → SameLists points

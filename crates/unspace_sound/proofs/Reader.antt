@@ -12,14 +12,13 @@ use Rattle.field.proofs.Tests.{and_left, and_right}
 use Rattle.refusal.specs.declared.Reason.TheVariants.{Trailer, NotAbove, Follower}
 use Rattle.refusal.specs.Refusal.{malformed_at}
 use Rattle.refusal.specs.Verdict.{or_else}
-use Rattle.refusal.specs.declared.Verdict.{Verdict}
-use Rattle.refusal.specs.declared.Verdict.TheVariants.{Fine, Bad}
-use Rattle.refusal.specs.declared.Answer.TheVariants.{Value}
 use Rattle.file.specs.Check.{Format, records, whole, at, rises, in_place, judged, scan, verdict, answered, checked}
 use Rattle.file.proofs.Laws.{verdict-length, verdict-header, verdict-trailer, verdict-scan}
 use Rattle.unspace_file.specs.Unspaced.{whole_records, unspaced}
 use Rattle.unspace_file.proofs.Kept.{length-unspaced}
 use Rattle.unspace_sound.proofs.Ends.{Renewed, head-renewed, end-renewed}
+use Rattle.std.specs.Prelude.{Ok, Err}
+use Rattle.refusal.specs.Verdict.{Verdict, fine}
 
 -- scans of verdicts that are the same
 scan-same : (one other : ℕ → Verdict) (k i : ℕ) → ((j : ℕ) → i ≤ j → j < i + k → one j ≡ other j) → scan one k i ≡ scan other k i
@@ -32,8 +31,8 @@ module _ (f : Format) (new file : List ℕ) (i : ℕ) where
   abbrev by : List ℕ → Bool → Bool → Verdict
   by rec up placed =
       cond (eqb (f.fault rec) 0)
-      (cond up (cond placed Fine (Bad (Follower (i + 1)))) (Bad (NotAbove (i + 1))))
-      (Bad (malformed_at (i + 1) (f.fault rec)))
+      (cond up (cond placed fine (Err (Follower (i + 1)))) (Err (NotAbove (i + 1))))
+      (Err (malformed_at (i + 1) (f.fault rec)))
 
   pub judged-kept : at f new i ≡ at f file i → rises f new i ≡ rises f file i
       → (f.fault (at f file i) ≡ 0 → in_place f new i ≡ in_place f file i)
@@ -116,7 +115,7 @@ module _ (f : Format) (w : ℕ) (known : Identified f w) (file : List ℕ) where
           ∙ (scan-kept all ∙ sym (verdict-scan f file all e g))
       by-ends all true false e g =
           verdict-trailer f new (new-whole all) (head-kept all ∙ e) (end_kept all ∙ g)
-          ∙ (ap (λ (n : ℕ). Bad (Trailer n)) records-kept ∙ sym (verdict-trailer f file all e g))
+          ∙ (ap (λ (n : ℕ). Err (Trailer n)) records-kept ∙ sym (verdict-trailer f file all e g))
       by-ends all false u e g =
           verdict-header f new (new-whole all) (head-kept all ∙ e)
           ∙ sym (verdict-header f file all e)
@@ -130,5 +129,5 @@ module _ (f : Format) (w : ℕ) (known : Identified f w) (file : List ℕ) where
   checked-kept = ap (answered f new) verdict-kept ∙ by-verdict (verdict f file)
     where
       by-verdict : (v : Verdict) → answered f new v ≡ answered f file v
-      by-verdict Fine = ap Value records-kept
-      by-verdict (Bad why) = refl
+      by-verdict (Ok _) = ap Ok records-kept
+      by-verdict (Err why) = refl

@@ -10,7 +10,6 @@ use Rattle.refusal.specs.Outcome.{after}
 use Rattle.file.specs.Check.{checked}
 use Rattle.file.specs.Formats.{table_format, point_format}
 use Rattle.source.specs.Address.{Lookup, Address}
-use Rattle.refusal.specs.declared.Answer.{Answer}
 use Rattle.item.specs.Lines.{view_line}
 use Rattle.changes_source.specs.Addresses.{addresses_in, kept}
 use Rattle.changes_source.specs.Rows.{table_lookup}
@@ -28,6 +27,7 @@ use Rattle.unspace_sound.proofs.Formats.{table-identified, points-identified}
 use Rattle.unspace_sound.proofs.Rows.{look-kept}
 use Rattle.unspace_sound.proofs.Views.{views-kept}
 use Rattle.unspace_sound.proofs.Listed.{lists-same}
+use Rattle.refusal.specs.Answer.{Answer}
 
 -- sources that are the same answer the same
 same-answers : (new old : Source) → new ≡ old → SameAnswers new old

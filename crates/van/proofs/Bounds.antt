@@ -9,7 +9,7 @@ use lib.Dec.{eqb}
 use lib.ListN.{length, length-append, length-drop}
 use Rattle.label.specs.Label.{ended}
 use Rattle.label.proofs.Places.{ended-append}
-use Rattle.van.specs.Fold.{columns, Line, line, onto, lines_in, space_within, done_at, first_of, left_of, fold_line, fold_all, folded, texts}
+use Rattle.van.specs.Fold.{columns, Line, onto, lines_in, space_within, done_at, first_of, left_of, fold_line, fold_all, folded, texts}
 use Rattle.van.specs.Walk.{line_rows, text_rows}
 use Rattle.van.proofs.Breaks.{broken-in}
 use Rattle.van.proofs.Folds.{by_lines}

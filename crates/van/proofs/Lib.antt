@@ -4,8 +4,6 @@ pub mod Rows
 pub mod Back
 pub mod Sizes
 pub mod Bounds
-pub mod Steps
-pub mod Walk
 pub mod Whole
 pub mod Labels
 pub mod Saids

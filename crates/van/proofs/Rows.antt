@@ -1,10 +1,11 @@
 -- The rows of a line and of any bytes, as code goes from one to the next.
 -- Assumes nothing.
-use Prim.Native.Nat.{ℕ, suc, ◌≤◌, ◌<◌}
+use Prim.Native.Nat.{ℕ, suc, ◌+◌, ◌≤◌, ◌<◌}
 use mathlib.Core.Path.{◌≡◌, refl, sym, ap, ◌∙◌}
 use mathlib.Core.Bool.{Bool, true, false}
 use mathlib.Core.List.{List, [], ◌∷◌, ◌++◌}
 use native.Mathlib.Omega.{arith}
+use native.Mathlib.Numerals.{add-one}
 use lib.Dec.{eqb}
 use lib.ListN.{length, take, drop}
 use Rattle.van.specs.Fold.{columns, Break, line_end, none, Line, line, onto, lines_in, first_of, left_of, fold_line, fold_all, folded, texts}
@@ -57,16 +58,27 @@ first-line (b ∷ s) h = by-test (eqb b 10) refl (first-line s)
     by-test true e more = record { behind = line_end; is = rw e }
     by-test false e more = first-onto b s e more
 
-pub rows_none : text_rows [] ≡ []
+-- no rows, or those of the first line and of what is left
+pub rows_none : (text : List ℕ) → length text ≤ 0 → text_rows text ≡ []
 unfolding text_rows folded lines_in
-rows_none = refl
+rows_none [] h = refl
+rows_none (b ∷ text) h = absurd (omega arith)
 
-pub rows_next : (text : List ℕ) → 1 ≤ length text
-    → text_rows text ≡ line_rows (take (line_length text) text) ++ text_rows (drop (suc (line_length text)) text)
+pub rows_next : (text : List ℕ) → 0 < length text
+    → text_rows text ≡ line_rows (take (line_length text) text) ++ text_rows (drop (line_length text + 1) text)
 unfolding text_rows folded
 rows_next text h =
     let f = first-line text h in
     let n = line_length text in
-    ap (λ (ls : List Line). texts (fold_all ls)) f.is
+    rw add-one
+    (ap (λ (ls : List Line). texts (fold_all ls)) f.is
     ∙ (texts-append (fold_line (line (take n text) f.behind)) (fold_all (lines_in (drop (suc n) text)))
-    ∙ ap (λ (z : List (List ℕ)). z ++ texts (fold_all (lines_in (drop (suc n) text)))) (rows-any f.behind (take n text)))
+    ∙ ap (λ (z : List (List ℕ)). z ++ texts (fold_all (lines_in (drop (suc n) text)))) (rows-any f.behind (take n text))))
+
+pub line_low : (text : List ℕ) → line_length text ≤ length text
+line_low [] = omega arith
+line_low (b ∷ text) = by-test (eqb b 10) refl (line_low text)
+  where
+    by-test : (t : Bool) → eqb b 10 ≡ t → line_length text ≤ length text → line_length (b ∷ text) ≤ suc (length text)
+    by-test true e h = rw e (omega arith)
+    by-test false e h = rw e (omega arith)

@@ -6,24 +6,23 @@ use mathlib.Core.List.{List}
 use native.Mathlib.Omega.{arith}
 use borrow.Author.Tests.{le-leb, lt-leb}
 use lib.ListN.{length}
+use Rattle.std.specs.Prelude.{Ok, Err}
 use Rattle.refusal.specs.declared.Reason.TheVariants.{Room}
-use Rattle.refusal.specs.declared.Answer.TheVariants.{Value, Refused}
-use Rattle.refusal.specs.declared.Answer as Lower
+use Rattle.refusal.specs.Answer.{blame}
 use Rattle.refusal.specs.Outcome.{Outcome, said}
 use Rattle.refusal.proofs.Outcomes.{said-as}
 use Rattle.label.specs.Label.{ended, room_outcome}
 use Rattle.label.specs.Put.{Put}
 use Rattle.label.proofs.Puts.{wrote}
 use Rattle.label.proofs.Room.{counted-short, counted-written}
-use Rattle.van.specs.declared.Answer.{Answer}
-use Rattle.van.specs.declared.Answer.TheVariants.{Lower, TooManyLines}
+use Rattle.van.specs.declared.Refusal.TheVariants.{Lower, TooManyLines}
 use Rattle.van.specs.Fold.{rows, folded, folded_bytes}
 use Rattle.van.specs.Walk.{text_rows}
-use Rattle.van.specs.Said.{as_lower, fold_outcome, label_folded, fresh, folding, packed, told}
+use Rattle.van.specs.Said.{Answer, as_lower, fold_outcome, packed, told}
 use Rattle.van.proofs.Rows.{texts-length}
 
 module _ (text out : List ℕ) where
-  pub fold-many : rows < length (folded text) → fold_outcome text out ≡ said TooManyLines out
+  pub fold-many : rows < length (folded text) → fold_outcome text out ≡ said (Err TooManyLines) out
   unfolding fold_outcome
   fold-many h = rw (lt-leb (length (folded text)) rows h)
 
@@ -40,7 +39,7 @@ module _ (text out : List ℕ) where
   bytes-are = refl
 
   module _ {n : ℕ} (counted : n ≡ length (text_rows text)) where
-    pub counted-many : rows < n → said TooManyLines out ≡ fold_outcome text out
+    pub counted-many : rows < n → said (Err TooManyLines) out ≡ fold_outcome text out
     counted-many h = sym (fold-many (omega (arith, rows_are)))
 
     module _ (few : n ≤ rows) where
@@ -48,20 +47,15 @@ module _ (text out : List ℕ) where
       few-is = rw bytes-are (fold-few (omega (arith, rows_are)))
 
       pub counted-room : {b : ℕ} → b ≡ length (ended (text_rows text)) → length out < b
-          → said (Lower (Refused 0 (Room b))) out ≡ fold_outcome text out
+          → said (Err (Lower (blame 0 (Room b)))) out ≡ fold_outcome text out
       counted-room is h = ap as_lower (counted-short (ended (text_rows text)) out is h) ∙ sym few-is
 
       pub counted-folded : {r : ℕ} {exit : List ℕ} → length (ended (text_rows text)) ≤ length out
           → Put (ended (text_rows text)) out 0 r exit
-          → said (Lower (Value r)) exit ≡ fold_outcome text out
+          → said (Ok r) exit ≡ fold_outcome text out
       counted-folded h put =
           let w = wrote put in
           ap as_lower (counted-written (ended (text_rows text)) out h w.size w.is) ∙ sym few-is
-
--- a label that was printed into its own buffer and then folded
-pub folding-as : (f : List ℕ → Outcome Lower.Answer) (out : List ℕ) {a : Lower.Answer} {r : Answer} {label exit : List ℕ}
-    → said a label ≡ f fresh → said r exit ≡ label_folded a label out → said r exit ≡ folding f out
-folding-as f out printed folded = folded ∙ ap (λ (o : Outcome Lower.Answer). label_folded o.answer o.memory out) printed
 
 -- what C is told
 pub told-as : {n : ℕ} {r : Answer} {exit : List ℕ} {o : Outcome Answer} → n ≡ packed r → said r exit ≡ o → said n exit ≡ told o

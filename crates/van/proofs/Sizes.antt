@@ -8,7 +8,7 @@ use lib.ListN.{length, length-append}
 use lib.Seq.{length-take-le}
 use Rattle.label.specs.Label.{ended}
 use Rattle.label.specs.Widths.{NoneAbove}
-use Rattle.van.specs.Fold.{columns, rows, Line, line, space_within, printed_at, first_of, fold_line, fold_all, lines_in, folded, texts, folded_bytes}
+use Rattle.van.specs.Fold.{columns, rows, Line, space_within, printed_at, first_of, fold_line, fold_all, lines_in, folded, texts, folded_bytes}
 use Rattle.van.specs.Walk.{line_rows}
 use Rattle.van.proofs.Breaks.{broken-in}
 use Rattle.van.proofs.Folds.{by_lines}

@@ -1,17 +1,19 @@
 -- Rows that are counted one by one, or line by line.
 -- Assumes nothing.
-use Prim.Native.Nat.{ℕ, ◌+◌, ◌-◌, ◌*◌, ◌≤◌, ◌<◌}
+use Prim.Native.Nat.{ℕ, ◌+◌, ◌*◌, ◌≤◌, ◌<◌}
 use mathlib.Core.Path.{◌≡◌, ap, ap₂, subst}
+use mathlib.Core.Bool.{true, false}
 use mathlib.Core.List.{List, [], ◌∷◌, ◌++◌}
 use native.Mathlib.Omega.{arith}
-use lib.ListN.{length, take, drop, length-append, length-drop}
-use lib.Seq.{length-take-le}
+use borrow.Author.Tests.{eqb-true, eqb-false}
+use lib.Dec.{eqb}
+use lib.ListN.{length, take, drop, length-append}
 use Rattle.label.specs.Label.{ended}
 use Rattle.label.proofs.Places.{ended-append}
-use Rattle.van.specs.Fold.{columns, space_within, printed_at, done_at}
+use Rattle.van.specs.Fold.{columns, first_of, left_of}
 use Rattle.van.specs.Walk.{line_length, line_rows, text_rows}
 use Rattle.van.proofs.Bounds.{rows_few, line-bytes, text-bytes}
-use Rattle.van.proofs.Walk.{last_row, next_row, next-broken, no_line, next-line}
+use Rattle.van.proofs.Rows.{rows_short, rows_long, rows_none, rows_next}
 use Rattle.van_fold.specs.declared.inner.Size.{Size}
 use Rattle.van_fold.specs.Size.{size, size_of}
 
@@ -56,36 +58,30 @@ pub line_low : (line : List ℕ) {rest : List (List ℕ)} {r b : ℕ} → Counte
     → (r ≤ 2 * length line + 1) × (b ≤ 2 * length line + 1)
 line_low line d = (omega (arith, (counted-low d).0, line-bytes line), omega (arith, (counted-low d).1, line-bytes line))
 
--- a line of which the bytes before `at` are done
-module _ (line : List ℕ) (at : ℕ) {r b : ℕ} (done : Counted (line_rows line) (line_rows (drop at line)) r b) where
-  pub line-last : length line - at ≤ columns → Counted (line_rows line) [] (r + 1) (b + (length line - at) + 1)
+-- a line of which `rest` is left
+module _ {whole : List (List ℕ)} (rest : List ℕ) {r b : ℕ} (done : Counted whole (line_rows rest) r b) where
+  pub line-last : length rest ≤ columns → Counted whole [] (r + 1) (b + length rest + 1)
   line-last h =
-      let d = counted-row (drop at line) (counted-as (last_row line at h) done) in
-      record { of_rows = d.of_rows; of_bytes = omega (arith, d.of_bytes, length-drop at line) }
+      let d = counted-row rest (counted-as (rows_short rest h) done) in
+      record { of_rows = d.of_rows; of_bytes = omega (arith, d.of_bytes) }
 
-  pub line-next : {k p e : ℕ} → k ≡ space_within columns (drop at line) → p ≡ printed_at k → e ≡ done_at k
-      → columns < length line - at
-      → Counted (line_rows line) (line_rows (drop (at + e) line)) (r + 1) (b + (p + 1))
-  line-next {k} {p} {e} is printed behind h =
-      let d = counted-row (take (printed_at k) (drop at line)) (counted-as (next_row line at is h) done) in
-      let long : length (take (printed_at k) (drop at line)) ≡ printed_at k =
-      length-take-le (printed_at k) (drop at line) (omega (arith, (next-broken line at is).few, length-drop at line)) in
-      rw (printed, behind)
-      (record { of_rows = d.of_rows; of_bytes = omega (arith, d.of_bytes, long) })
+  pub line-next : {row left : List ℕ} → row ≡ (first_of rest).bytes → left ≡ left_of rest → columns < length rest
+      → Counted whole (line_rows left) (r + 1) (b + (length row + 1))
+  line-next first behind h = rw (first, behind) (counted-row (first_of rest).bytes (counted-as (rows_long rest h) done))
 
 pub text-low : (text : List ℕ) {rest : List (List ℕ)} {r b : ℕ} → Counted (text_rows text) rest r b
     → (r ≤ 2 * length text + 1) × (b ≤ 2 * length text + 1)
 text-low text d = (omega (arith, (counted-low d).0, text-bytes text), omega (arith, (counted-low d).1, text-bytes text))
 
--- any bytes of which those before `at` are done
-module _ (text : List ℕ) (at : ℕ) {r b : ℕ} (done : Counted (text_rows text) (text_rows (drop at text)) r b) where
-  pub text-last : length text ≤ at → Counted (text_rows text) [] r b
-  text-last h = counted-as (no_line text at h) done
+-- any bytes of which `rest` is left
+module _ {whole : List (List ℕ)} (rest : List ℕ) {r b : ℕ} (done : Counted whole (text_rows rest) r b) where
+  pub text-last : eqb (length rest) 0 ≡ true → Counted whole [] r b
+  text-last none = counted-as (rows_none rest (omega (arith, eqb-true (length rest) 0 none))) done
 
-  pub text-next : {end : ℕ} {s : Size} → at < length text → end ≡ at + line_length (drop at text)
-      → s ≡ size_of (line_rows (take (end - at) (drop at text)))
-      → Counted (text_rows text) (text_rows (drop (end + 1) text)) (r + s.rows) (b + s.bytes)
-  text-next {end} h is sized =
-      rw sized
-      (counted-more (line_rows (take (end - at) (drop at text))) (text_rows (drop (end + 1) text))
-      (counted-as (next-line text at h is) done))
+  pub text-next : {line left : List ℕ} {s : Size} → line ≡ take (line_length rest) rest
+      → left ≡ drop (line_length rest + 1) rest → s ≡ size_of (line_rows line)
+      → eqb (length rest) 0 ≡ false → Counted whole (text_rows left) (r + s.rows) (b + s.bytes)
+  text-next {line} {left} first behind sized some =
+      let h : 0 < length rest = omega (arith, eqb-false (length rest) 0 some) in
+      let next : text_rows rest ≡ line_rows line ++ text_rows left = rw (first, behind) (rows_next rest h) in
+      rw sized (counted-more (line_rows line) (text_rows left) (counted-as next done))

@@ -1,46 +1,39 @@
 -- Rows that are written one by one, or line by line.
 -- Assumes nothing.
-use Prim.Native.Nat.{ℕ, ◌+◌, ◌-◌, ◌≤◌, ◌<◌}
-use mathlib.Core.Path.{◌≡◌, sym, ap, ◌∙◌}
+use Prim.Native.Nat.{ℕ, ◌+◌, ◌≤◌, ◌<◌}
+use mathlib.Core.Path.{◌≡◌, ap, ◌∙◌}
+use mathlib.Core.Bool.{true, false}
 use mathlib.Core.List.{List, [], ◌∷◌, ◌++◌}
 use native.Mathlib.Omega.{arith}
+use borrow.Author.Tests.{eqb-true, eqb-false}
+use lib.Dec.{eqb}
 use lib.ListN.{length, take, drop}
 use Rattle.label.specs.Label.{ended}
 use Rattle.label.proofs.Places.{ended-append}
-use Rattle.label.proofs.Puts.{lent}
 use Rattle.label.proofs.Going.{Going, going-as}
-use Rattle.van.specs.Fold.{columns, space_within, printed_at, done_at}
+use Rattle.van.specs.Fold.{columns, first_of, left_of}
 use Rattle.van.specs.Walk.{line_length, line_rows, text_rows}
-use Rattle.van.proofs.Walk.{last_row, next_row, no_line, next-line}
+use Rattle.van.proofs.Rows.{rows_short, rows_long, rows_none, rows_next}
 
 -- what is to write yet: a row and those behind it, or the last row; a line's rows and those behind it, or nothing
-module _ {whole o x : List ℕ} {s i : ℕ} where
-  module _ (line : List ℕ) (at : ℕ) (going : Going whole (ended (line_rows (drop at line))) o s i x) where
-    pub row-going : {k end e : ℕ} → k ≡ space_within columns (drop at line) → end ≡ at + printed_at k → e ≡ done_at k
-        → columns < length line - at
-        → Going whole (ended (take (end - at) (drop at line) ∷ []) ++ ended (line_rows (drop (at + e) line))) o s i x
-    row-going {k} {end} {e} is printed behind h =
-        let long : printed_at k ≡ end - at = omega (arith, printed) in
-        rw behind
-        (going-as
-        (ap ended
-        (next_row line at is h
-        ∙ ap (λ (n : ℕ). take n (drop at line) ∷ line_rows (drop (at + done_at k) line)) long)
-        ∙ ended-append (take (end - at) (drop at line) ∷ []) (line_rows (drop (at + done_at k) line)))
-        going)
+module _ {whole o x : List ℕ} {s i : ℕ} (rest : List ℕ) where
+  module _ (going : Going whole (ended (line_rows rest)) o s i x) where
+    pub row-going : {row left : List ℕ} → row ≡ (first_of rest).bytes → left ≡ left_of rest → columns < length rest
+        → Going whole (ended (row ∷ []) ++ ended (line_rows left)) o s i x
+    row-going {row} {left} first behind h =
+        let next : line_rows rest ≡ row ∷ line_rows left = rw (first, behind) (rows_long rest h) in
+        going-as (ap ended next ∙ ended-append (row ∷ []) (line_rows left)) going
 
-    pub row_last : length line - at ≤ columns → Going whole (ended (take (length line - at) (drop at line) ∷ [])) o s i x
-    row_last h =
-        going-as (ap ended (last_row line at h) ∙ ap (λ (l : List ℕ). ended (l ∷ [])) (sym (lent line at))) going
+    pub row_last : length rest ≤ columns → Going whole (ended (rest ∷ [])) o s i x
+    row_last h = going-as (ap ended (rows_short rest h)) going
 
-  module _ (text : List ℕ) (at : ℕ) (going : Going whole (ended (text_rows (drop at text))) o s i x) where
-    pub line-going : {end : ℕ} → at < length text → end ≡ at + line_length (drop at text)
-        → Going whole (ended (line_rows (take (end - at) (drop at text))) ++ ended (text_rows (drop (end + 1) text))) o s i x
-    line-going {end} h is =
-        going-as
-        (ap ended (next-line text at h is)
-        ∙ ended-append (line_rows (take (end - at) (drop at text))) (text_rows (drop (end + 1) text)))
-        going
+  module _ (going : Going whole (ended (text_rows rest)) o s i x) where
+    pub line-going : {line left : List ℕ} → line ≡ take (line_length rest) rest → left ≡ drop (line_length rest + 1) rest
+        → eqb (length rest) 0 ≡ false → Going whole (ended (line_rows line) ++ ended (text_rows left)) o s i x
+    line-going {line} {left} first behind some =
+        let h : 0 < length rest = omega (arith, eqb-false (length rest) 0 some) in
+        let next : text_rows rest ≡ line_rows line ++ text_rows left = rw (first, behind) (rows_next rest h) in
+        going-as (ap ended next ∙ ended-append (line_rows line) (text_rows left)) going
 
-    pub line-none : length text ≤ at → Going whole [] o s i x
-    line-none h = going-as (ap ended (no_line text at h)) going
+    pub line-none : eqb (length rest) 0 ≡ true → Going whole [] o s i x
+    line-none none = going-as (ap ended (rows_none rest (omega (arith, eqb-true (length rest) 0 none)))) going

@@ -1,8 +1,8 @@
 // Rows of lines, counted and written, for callers that know that there is room.
-ghost use Rattle.std.specs.Prelude.{◌≡◌, ◌+◌, ◌≤◌, ◌<◌, [], ◌∷◌, length, drop};
+ghost use Rattle.std.specs.Prelude.{◌≡◌, ◌+◌, ◌≤◌, ◌<◌, [], ◌∷◌, length, take, drop, MatchOption};
 ghost use Rattle.label.specs.Label.{ended};
 ghost use Rattle.label.specs.Put.{Put};
-ghost use Rattle.van.specs.Fold.{columns, space_within, printed_at, done_at};
+ghost use Rattle.van.specs.Fold.{columns, space_within, first_of, left_of};
 ghost use Rattle.van.specs.Walk.{line_length, line_rows, text_rows};
 ghost use Rattle.van_fold.specs.Size.{size_of};
 
@@ -18,34 +18,25 @@ pub struct Size {
     pub bytes: usize,
 }
 
-// The last space with 1 to 36 bytes before it: how many these are, or 0.
-fn space_in(bytes: &[u8]) -> usize
+// The last space with 1 to 36 bytes before it: how many these are.
+fn space_in(bytes: &[u8]) -> Option<usize>
     requires { columns < length bytes.now }
-    ensures { result ≡ space_within columns bytes.now }
+    ensures { MatchOption result (space_within columns bytes.now ≡ 0)
+        (λ k. (0 < k) × (k ≤ columns) × (space_within columns bytes.now ≡ k)) }
 {
-    let mut k = COLUMNS;
-    while 0 < k {
-        if bytes[k] == b' ' {
-            return k;
-        }
-        k -= 1;
+    (1..=COLUMNS).rev().find(|&k| bytes[k] == b' ')
+}
+
+// The first row of a line that is too long for one, and what is left behind its break.
+fn first_row(line: &[u8]) -> (&[u8], &[u8])
+    requires { columns < length line.now }
+    ensures row { result.0.now ≡ (first_of line.now).bytes }
+    ensures left { result.1.now ≡ left_of line.now }
+{
+    match space_in(line) {
+        Some(k) => (&line[..k], &line[k + 1..]),
+        None => line.split_at(COLUMNS),
     }
-    k
-}
-
-// How many bytes are printed before a break at this space, 0 being none.
-fn printed_at(space: usize) -> usize
-    ensures { result ≡ printed_at space }
-{
-    if space == 0 { COLUMNS } else { space }
-}
-
-// How many are done with it.
-fn done_at(space: usize) -> usize
-    requires { space ≤ columns }
-    ensures { result ≡ done_at space }
-{
-    if space == 0 { COLUMNS } else { space + 1 }
 }
 
 // The rows of a line.
@@ -54,16 +45,16 @@ fn line_size(line: &[u8]) -> Size
 {
     let mut rows = 0;
     let mut bytes = 0;
-    let mut at = 0;
-    while COLUMNS < line.len() - at {
-        let space = space_in(&line[at..]);
+    let mut rest = line;
+    while COLUMNS < rest.len() {
+        let (row, left) = first_row(rest);
         rows += 1;
-        bytes += printed_at(space) + 1;
-        at += done_at(space);
+        bytes += row.len() + 1;
+        rest = left;
     }
     Size {
         rows: rows + 1,
-        bytes: bytes + (line.len() - at) + 1,
+        bytes: bytes + rest.len() + 1,
     }
 }
 
@@ -81,30 +72,33 @@ fn line_at(line: &[u8], place: usize, out: &mut [u8]) -> usize
     requires { place + length (ended (line_rows line.now)) ≤ length out.old }
     ensures { Put (ended (line_rows line.now)) out.old place result out.new }
 {
-    let mut at = 0;
     let mut i = place;
-    while COLUMNS < line.len() - at {
-        let space = space_in(&line[at..]);
-        let end = at + printed_at(space);
-        i = row_at(&line[at..end], i, out);
-        at += done_at(space);
+    let mut rest = line;
+    while COLUMNS < rest.len() {
+        let (row, left) = first_row(rest);
+        i = row_at(row, i, out);
+        rest = left;
     }
-    row_at(&line[at..], i, out)
+    row_at(rest, i, out)
 }
 
-// Where the line that begins at a place ends.
-fn line_end(text: &[u8], at: usize) -> usize
-    requires { at ≤ length text.now }
-    ensures { result ≡ at + line_length (drop at text.now) }
+// Where the first line of any bytes ends, if it has an end.
+fn line_end(text: &[u8]) -> Option<usize>
+    ensures { MatchOption result (line_length text.now ≡ length text.now)
+        (λ i. (i < length text.now) × (line_length text.now ≡ i)) }
 {
-    let mut i = at;
-    while i < text.len() {
-        if text[i] == 10 {
-            return i;
-        }
-        i += 1;
+    text.iter().position(|&b| b == 10)
+}
+
+// The first line of any bytes, and what is left behind its end.
+fn first_line(text: &[u8]) -> (&[u8], &[u8])
+    ensures line { result.0.now ≡ take (line_length text.now) text.now }
+    ensures left { result.1.now ≡ drop (line_length text.now + 1) text.now }
+{
+    match line_end(text) {
+        Some(i) => (&text[..i], &text[i + 1..]),
+        None => (text, &[]),
     }
-    i
 }
 
 // The rows of any bytes.
@@ -113,13 +107,13 @@ pub fn text_size(text: &[u8]) -> Size
 {
     let mut rows = 0;
     let mut bytes = 0;
-    let mut at = 0;
-    while at < text.len() {
-        let end = line_end(text, at);
-        let size = line_size(&text[at..end]);
+    let mut rest = text;
+    while !rest.is_empty() {
+        let (line, left) = first_line(rest);
+        let size = line_size(line);
         rows += size.rows;
         bytes += size.bytes;
-        at = end + 1;
+        rest = left;
     }
     Size { rows, bytes }
 }
@@ -129,12 +123,12 @@ pub fn write_text(text: &[u8], out: &mut [u8]) -> usize
     requires { length (ended (text_rows text.now)) ≤ length out.old }
     ensures { Put (ended (text_rows text.now)) out.old 0 result out.new }
 {
-    let mut at = 0;
     let mut i = 0;
-    while at < text.len() {
-        let end = line_end(text, at);
-        i = line_at(&text[at..end], i, out);
-        at = end + 1;
+    let mut rest = text;
+    while !rest.is_empty() {
+        let (line, left) = first_line(rest);
+        i = line_at(line, i, out);
+        rest = left;
     }
     i
 }

@@ -9,25 +9,23 @@ ghost use Rattle.van.specs.Said.{fold_outcome};
 
 use inner::{text_size, write_text};
 use refusal::Reason;
-use van::Answer;
+use van::{Answer, Refusal};
 
 // "a printer of 6 lines"
 const ROWS: usize = 6;
 
 // Folds any bytes.
+#[tactic(auto, using(crate::proofs::Folded::refused))]
 pub fn fold(text: &[u8], out: &mut [u8]) -> Answer
     ensures { said result out.new ≡ fold_outcome text.now out.old }
 {
     let size = text_size(text);
     if ROWS < size.rows {
-        return Answer::TooManyLines;
+        return Err(Refusal::TooManyLines);
     }
     let needed = size.bytes;
     if out.len() < needed {
-        return Answer::Lower(refusal::Answer::Refused {
-            file: 0,
-            reason: Reason::Room { needed },
-        });
+        return Err(Refusal::Lower(Reason::Room { needed }.into()));
     }
-    Answer::Lower(refusal::Answer::Value(write_text(text, out)))
+    Ok(write_text(text, out))
 }

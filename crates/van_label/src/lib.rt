@@ -18,12 +18,8 @@ use van::Answer;
 fn fold_label(answer: refusal::Answer, label: &[u8], out: &mut [u8]) -> Answer
     ensures { said result out.new ≡ label_folded answer label.now out.old }
 {
-    match answer {
-        refusal::Answer::Value(n) => van_fold::fold(file_record::part_of(label, 0, n), out),
-        refusal::Answer::Refused { file, reason } => {
-            Answer::Lower(refusal::Answer::Refused { file, reason })
-        }
-    }
+    let n = answer?;
+    van_fold::fold(file_record::part_of(label, 0, n), out)
 }
 
 // The label of a view of a pair of files.

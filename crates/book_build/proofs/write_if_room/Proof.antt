@@ -101,7 +101,8 @@ add-needed-3 c = omega (arith, whole c.before.before, few c.before.before)
 returns : tie.Need-returns-then-out-needed
 returns c =
     let o = c in
-    counted-short (pack o.before.before.before) (s o.before.before.before).args.out.now (sym (whole o.before.before.before)) (omega (arith, whole o.before.before.before))
+    rw c.into.ensures
+    (counted-short (pack o.before.before.before.before) (s o.before.before.before.before).args.out.now (sym (whole o.before.before.before.before)) (omega (arith, whole o.before.before.before.before)))
 
 add-rows : tie.Need-overflow_add-rows
 add-rows c =
@@ -145,4 +146,4 @@ pub write_if_room_spec : {M : Type 1} → statement M
 write_if_room_spec =
     tie.close
     (tie.spec (search rules) place-rows-requires organisations-in-requires mul-points add-needed add-needed-2 add-needed-3
-    (search rules) returns add-rows write-pack-requires (search rules) (search rules) returns-2)
+    (search rules) (search rules) returns add-rows write-pack-requires (search rules) (search rules) returns-2)

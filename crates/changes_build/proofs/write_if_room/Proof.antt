@@ -113,8 +113,9 @@ add-needed-3 c = omega (arith, whole c.before.before, few c.before.before)
 returns : tie.Need-returns-then-out-needed
 returns c =
     let w = c in
-    let out = (s w.before.before.before).args.out.now in
-    counted-short (pack w.before.before.before) out (sym (whole w.before.before.before)) (omega (arith, whole w.before.before.before))
+    let out = (s w.before.before.before.before).args.out.now in
+    rw c.into.ensures
+    (counted-short (pack w.before.before.before.before) out (sym (whole w.before.before.before.before)) (omega (arith, whole w.before.before.before.before)))
 
 add-rows : tie.Need-overflow_add-rows
 add-rows c =
@@ -158,4 +159,4 @@ pub write_if_room_spec : {M : Type 1} → statement M
 write_if_room_spec =
     tie.close
     (tie.spec (search rules) place-rows-requires (search rules) (search rules) add-needed mul-needed add-needed-2
-    add-needed-3 (search rules) returns add-rows write-pack-requires (search rules) (search rules) returns-2)
+    add-needed-3 (search rules) (search rules) returns add-rows write-pack-requires (search rules) (search rules) returns-2)

@@ -1,5 +1,4 @@
 -- `changes_points::is_point_letter` meets its contract. Assumes nothing.
-use mathlib.Core.Path.{◌≡◌, refl, sym, ap, ◌∙◌}
 use lib.Dec.{eqb}
 use Rattle.field.proofs.Tests.{or-false}
 use Rattle.changes_points.proofs.is_point_letter.Statement.{statement}

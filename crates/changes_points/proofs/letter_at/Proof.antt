@@ -1,6 +1,5 @@
 -- `changes_points::letter_at` meets its contract. Assumes nothing.
 use borrow.Author.Rules.{rules}
-use mathlib.Core.Path.{◌≡◌, refl, sym, ap, ◌∙◌}
 use mathlib.Core.List.{[], ◌∷◌}
 use Rattle.file_fault.proofs.Laws.{one_byte}
 use Rattle.changes_points.proofs.letter_at.Statement.{statement}

@@ -1,6 +1,5 @@
 -- `changes_points::organisation_fault` meets its contract. Assumes nothing.
 use borrow.Author.Rules.{rules}
-use mathlib.Core.Path.{◌≡◌, refl, sym, ap, ◌∙◌}
 use Rattle.changes_points.proofs.organisation_fault.Statement.{statement}
 use Rattle.changes_points.proofs.organisation_fault.Tie as tie
 

@@ -1,6 +1,5 @@
 -- `changes_points::point_fault` meets its contract. Assumes nothing.
 use borrow.Author.Rules.{rules}
-use mathlib.Core.Path.{◌≡◌, refl, sym, ap, ◌∙◌}
 use Rattle.file_fault.specs.Point.{point_fault}
 use Rattle.changes_points.proofs.point_fault.Statement.{statement}
 use Rattle.changes_points.proofs.point_fault.Tie as tie

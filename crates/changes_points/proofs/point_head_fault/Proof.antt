@@ -1,6 +1,5 @@
 -- `changes_points::point_head_fault` meets its contract. Assumes nothing.
 use borrow.Author.Rules.{rules}
-use mathlib.Core.Path.{◌≡◌, refl, sym, ap, ◌∙◌}
 use lib.Dec.{lit≤}
 use Rattle.file_fault.proofs.Laws.{digits-join}
 use Rattle.changes_points.proofs.point_head_fault.Statement.{statement}

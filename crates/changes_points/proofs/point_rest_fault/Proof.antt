@@ -1,6 +1,6 @@
 -- `changes_points::point_rest_fault` meets its contract. Assumes nothing.
 use borrow.Author.Rules.{rules}
-use mathlib.Core.Path.{◌≡◌, refl, sym, ap, ◌∙◌}
+use mathlib.Core.Path.{sym, ◌∙◌}
 use borrow.Author.Tests.{ne_eqb}
 use Rattle.changes_points.proofs.point_rest_fault.Statement.{statement}
 use Rattle.changes_points.proofs.point_rest_fault.Tie as tie

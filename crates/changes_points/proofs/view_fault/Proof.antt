@@ -1,6 +1,6 @@
 -- `changes_points::view_fault` meets its contract. Assumes nothing.
 use borrow.Author.Rules.{rules}
-use mathlib.Core.Path.{◌≡◌, refl, sym, ap, ◌∙◌}
+use mathlib.Core.Path.{sym}
 use Rattle.file_fault.proofs.Laws.{view-digits}
 use Rattle.changes_points.proofs.view_fault.Statement.{statement}
 use Rattle.changes_points.proofs.view_fault.Tie as tie

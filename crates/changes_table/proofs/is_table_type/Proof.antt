@@ -1,5 +1,4 @@
 -- `changes_table::is_table_type` meets its contract. Assumes nothing.
-use mathlib.Core.Path.{◌≡◌, refl, sym, ap, ◌∙◌}
 use lib.Dec.{eqb}
 use Rattle.field.proofs.Tests.{or-false}
 use Rattle.changes_table.proofs.is_table_type.Statement.{statement}

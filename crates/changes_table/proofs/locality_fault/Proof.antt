@@ -1,6 +1,5 @@
 -- `changes_table::locality_fault` meets its contract. Assumes nothing.
 use borrow.Author.Rules.{rules}
-use mathlib.Core.Path.{◌≡◌, refl, sym, ap, ◌∙◌}
 use Rattle.changes_table.proofs.locality_fault.Statement.{statement}
 use Rattle.changes_table.proofs.locality_fault.Tie as tie
 

@@ -1,7 +1,7 @@
 -- `changes_table::name_fault` meets its contract. Assumes nothing.
 use borrow.Author.Rules.{rules}
 use Prim.Native.Nat.{◌+◌, ◌-◌}
-use mathlib.Core.Path.{◌≡◌, refl, sym, ap, ◌∙◌}
+use mathlib.Core.Path.{◌≡◌}
 use native.Mathlib.Omega.{arith}
 use Rattle.changes_table.proofs.name_fault.Statement.{statement}
 use Rattle.changes_table.proofs.name_fault.Tie as tie

@@ -1,6 +1,5 @@
 -- `changes_table::table_fault` meets its contract. Assumes nothing.
 use borrow.Author.Rules.{rules}
-use mathlib.Core.Path.{◌≡◌, refl, sym, ap, ◌∙◌}
 use Rattle.file_fault.specs.Table.{table_fault}
 use Rattle.changes_table.proofs.table_fault.Statement.{statement}
 use Rattle.changes_table.proofs.table_fault.Tie as tie

@@ -1,6 +1,5 @@
 -- `changes_table::table_head_fault` meets its contract. Assumes nothing.
 use borrow.Author.Rules.{rules}
-use mathlib.Core.Path.{◌≡◌, refl, sym, ap, ◌∙◌}
 use lib.Dec.{lit≤}
 use Rattle.file_fault.proofs.Laws.{digits-join}
 use Rattle.changes_table.proofs.table_head_fault.Statement.{statement}

@@ -1,6 +1,6 @@
 -- `changes_table::table_rest_fault` meets its contract. Assumes nothing.
 use borrow.Author.Rules.{rules}
-use mathlib.Core.Path.{◌≡◌, refl, sym, ap, ◌∙◌}
+use mathlib.Core.Path.{sym, ◌∙◌}
 use borrow.Author.Tests.{ne_eqb}
 use Rattle.changes_table.proofs.table_rest_fault.Statement.{statement}
 use Rattle.changes_table.proofs.table_rest_fault.Tie as tie

@@ -1,6 +1,6 @@
 -- `changes_views::is_wanted` meets its contract. Assumes nothing.
 use borrow.Author.Rules.{rules}
-use mathlib.Core.Path.{◌≡◌, refl, sym, ap, ◌∙◌}
+use mathlib.Core.Path.{sym}
 use borrow.Author.Tests.{eq-eqb, ne_eqb}
 use Rattle.changes_views.proofs.Laws.{wanted-other, wanted-any, wanted-live}
 use Rattle.changes_views.proofs.is_wanted.Statement.{statement}

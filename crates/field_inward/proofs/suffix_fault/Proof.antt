@@ -1,6 +1,6 @@
 -- `field_inward::suffix_fault` meets its contract. Assumes nothing.
 use borrow.Author.Rules.{rules}
-use mathlib.Core.Path.{◌≡◌, refl, sym, ap, ◌∙◌}
+use mathlib.Core.Path.{sym}
 use borrow.Author.Tests.{ne_eqb}
 use Rattle.field_outward.specs.Inward.{suffix_fault}
 use Rattle.field_outward.proofs.Codes.{suffix-bytes}

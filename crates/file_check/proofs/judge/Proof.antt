@@ -1,16 +1,15 @@
 -- `file_check::judge` meets its contract. Assumes nothing.
 use borrow.Author.Rules.{rules}
-use mathlib.Core.Path.{◌≡◌, refl, sym, ap, ◌∙◌}
+use mathlib.Core.Path.{sym, ap, ◌∙◌}
 use native.Mathlib.Omega.{arith}
-use borrow.Author.Tests.{not-true, not-false}
 use Prim.Native.Nat.{ℕ, ◌+◌, ◌-◌}
 use Rattle.refusal.specs.Refusal.{malformed_at}
-use Rattle.refusal.specs.declared.Verdict.TheVariants.{Bad}
 use Rattle.file_record.proofs.Records.{record-length}
 use Rattle.file.specs.Formats.{format_of}
 use Rattle.file.proofs.Laws.{judged-malformed, judged-falls, judged-stray, judged-fine}
 use Rattle.file_check.proofs.judge.Statement.{statement}
 use Rattle.file_check.proofs.judge.Tie as tie
+use Rattle.std.specs.Prelude.{Err}
 
 returns : tie.Need-returns-then-fault-ne0
 returns c =
@@ -20,7 +19,7 @@ returns c =
     let a = r.args in
     let byte = f.fault_in-fault.ensures ∙ ap (format_of a.kind).fault r.record_in-rec.ensures in
     rw c.malformed.ensures
-    (ap (λ (b : ℕ). Bad (malformed_at (a.i + 1) b)) byte
+    (ap (λ (b : ℕ). Err (malformed_at (a.i + 1) b)) byte
     ∙ sym (judged-malformed (format_of a.kind) a.file.now a.i (rw byte at t.if-fault-ne0.true)))
 
 returns-2 : tie.Need-returns-then-not-is_above

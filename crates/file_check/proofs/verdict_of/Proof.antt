@@ -1,6 +1,6 @@
 -- `file_check::verdict_of` meets its contract. Assumes nothing.
 use borrow.Author.Rules.{rules}
-use mathlib.Core.Path.{◌≡◌, refl, sym, ◌∙◌}
+use mathlib.Core.Path.{refl, sym, ◌∙◌}
 use native.Mathlib.Omega.{arith}
 use Rattle.file.specs.Formats.{format_of}
 use Rattle.file.proofs.Laws.{

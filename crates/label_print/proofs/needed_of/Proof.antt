@@ -1,8 +1,7 @@
 -- `label_print::needed_of` meets its contract: a label has at most 26 bytes beside those of its 14 spans, so 4,096 hold it.
 -- Assumes nothing.
 use borrow.Author.Rules.{rules}
-use Prim.Native.Nat.{ℕ, ◌≤◌}
-use mathlib.Core.List.{List}
+use Prim.Native.Nat.{◌≤◌}
 use native.Mathlib.Omega.{arith}
 use lib.ListN.{length}
 use Rattle.label.specs.Label.{label_of}

@@ -140,8 +140,9 @@ add-needed-3 c = omega (arith, whole c.before.before, few c.before.before)
 returns : tie.Need-returns-then-out-needed
 returns c =
     let o = c in
-    let out = (start (k o.before.before.before)).args.out.now in
-    counted-short (pack (k o.before.before.before)) out (sym (whole o.before.before.before)) (omega (arith, whole o.before.before.before))
+    let out = (start (k o.before.before.before.before)).args.out.now in
+    rw c.into.ensures
+    (counted-short (pack (k o.before.before.before.before)) out (sym (whole o.before.before.before.before)) (omega (arith, whole o.before.before.before.before)))
 
 add-rows : tie.Need-overflow_add-rows
 add-rows c =
@@ -178,5 +179,5 @@ pub write_if_room_spec : {M : Type 1} → statement M
 write_if_room_spec =
     tie.close
     (tie.spec (search rules) (search rules) (search rules) (search rules) (search rules) place-set-requires
-    organisations-in-requires add-needed mul-needed add-needed-2 add-needed-3 returns add-rows (search rules) (search rules)
+    organisations-in-requires add-needed mul-needed add-needed-2 add-needed-3 (search rules) returns add-rows (search rules) (search rules)
     (search rules) (search rules) (search rules) write-pack-requires (search rules) returns-2)

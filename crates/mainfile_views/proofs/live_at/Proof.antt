@@ -1,6 +1,6 @@
 -- `mainfile_views::live_at` meets its contract. Assumes nothing.
 use borrow.Author.Rules.{rules}
-use mathlib.Core.Path.{◌≡◌, refl, sym, ap, ◌∙◌}
+use mathlib.Core.Path.{sym, ◌∙◌}
 use borrow.Author.Tests.{eq-eqb, ne_eqb}
 use Rattle.mainfile_views.specs.Range.{live_at}
 use Rattle.mainfile_views.proofs.live_at.Statement.{statement}
@@ -14,7 +14,7 @@ returns c =
 
 returns-2 : tie.Need-returns-else-outward_fault-eq0
 unfolding live_at
-returns-2 c = simp (ne_eqb _ 0 (rw c.outward_fault.ensures at c.if-outward_fault-eq0.false))
+returns-2 c = rw c.into.ensures (simp (ne_eqb _ 0 (rw c.outward_fault.ensures at c.if-outward_fault-eq0.false)))
 
 pub live_at_spec : {M : Type 1} → statement M
-live_at_spec = tie.close (tie.spec (search rules) (search rules) returns returns-2)
+live_at_spec = tie.close (tie.spec (search rules) (search rules) (search rules) returns returns-2)

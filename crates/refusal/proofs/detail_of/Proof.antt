@@ -1,5 +1,5 @@
 -- `refusal::detail_of` meets its contract. Assumes nothing.
-use mathlib.Core.Path.{◌≡◌, sym, ap}
+use mathlib.Core.Path.{sym, ap}
 use borrow.Author.Rules.{rules}
 use Rattle.refusal.specs.Refusal.{detail}
 use Rattle.refusal.proofs.detail_of.Statement.{statement}

@@ -1,5 +1,5 @@
 -- `refusal::number_of` meets its contract. Assumes nothing.
-use mathlib.Core.Path.{◌≡◌, sym, ap, ◌∙◌}
+use mathlib.Core.Path.{sym, ap, ◌∙◌}
 use borrow.Author.Rules.{rules}
 use Rattle.refusal.specs.Refusal.{number}
 use Rattle.refusal.proofs.number_of.Statement.{statement}

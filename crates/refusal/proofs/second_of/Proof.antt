@@ -1,5 +1,5 @@
 -- `refusal::second_of` meets its contract. Assumes nothing.
-use mathlib.Core.Path.{◌≡◌, sym, ap}
+use mathlib.Core.Path.{sym, ap}
 use borrow.Author.Rules.{rules}
 use Rattle.refusal.specs.Refusal.{second}
 use Rattle.refusal.proofs.second_of.Statement.{statement}

@@ -1,11 +1,9 @@
 -- `refusal::with_view` meets its contract. Assumes nothing.
-use mathlib.Core.Path.{◌≡◌, sym, ap}
+use mathlib.Core.Path.{sym, ap}
 use Rattle.refusal.specs.Refusal.{with_view}
 use borrow.Author.Rules.{rules}
 use Rattle.refusal.proofs.with_view.Statement.{statement}
 use Rattle.refusal.proofs.with_view.Tie as tie
-use Rattle.refusal.proofs.with_view.Reads as reads
-use Rattle.refusal.proofs.with_view.Lts as lts
 
 returns-3 : tie.Need-returns-in-Trailer
 returns-3 c = ap (with_view c.args.view) (sym c.in-Trailer.is)

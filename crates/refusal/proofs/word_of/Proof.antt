@@ -2,8 +2,6 @@ use borrow.Author.Rules.{rules}
 use Rattle.refusal.specs.Packed.{word}
 use Rattle.refusal.proofs.word_of.Statement.{statement}
 use Rattle.refusal.proofs.word_of.Tie as tie
-use Rattle.refusal.proofs.word_of.Reads as reads
-use Rattle.refusal.proofs.word_of.Lts as lts
 
 -- src/lib.rt:100:16
 

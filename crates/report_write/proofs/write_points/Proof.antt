@@ -19,20 +19,20 @@ write-pair-requires : tie.Need-write_pair-requires
 write-pair-requires c κs =
     let k = c in
     let s = k.before.before.before.before.before.before.before in
-    (accepted table_format s.args.table.now s.args.t s.requires, accepted point_format s.args.points.now _ (sym k.check_points.ensures ∙ c.in-Value.is))
+    (accepted table_format s.args.table.now s.args.t s.requires, accepted point_format s.args.points.now _ (sym k.check_points.ensures ∙ c.in-Ok.is))
 
-returns-2 : tie.Need-returns-in-Value
+returns-2 : tie.Need-returns-in-Ok
 returns-2 c =
     let k = c in
     let a = k.args in
-    let same = sym k.check_points.ensures ∙ c.in-Value.is in
+    let same = sym k.check_points.ensures ∙ c.in-Ok.is in
     fed-as (points-taken a.table.now a.points.now a.t k.if-points-gt-POINTS_MOST.false _ same) c.write_pair.ensures
 
-returns-3 : tie.Need-returns-in-Refused
+returns-3 : tie.Need-returns-in-Err
 returns-3 c =
     let k = c in
     let a = k.args in
-    let same = sym k.check_points.ensures ∙ c.in-Refused.is in
+    let same = sym k.check_points.ensures ∙ c.in-Err.is in
     fed-as (points-refused a.table.now a.points.now a.t k.if-points-gt-POINTS_MOST.false _ _ same) c.write_refused.ensures
 
 pub write_points_spec : {M : Type 1} → statement M

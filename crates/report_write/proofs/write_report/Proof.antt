@@ -15,20 +15,20 @@ returns c =
 
 write-points-requires : tie.Need-write_points-requires
 write-points-requires c κs =
-    sym c.check_table.ensures ∙ c.in-Value.is
+    sym c.check_table.ensures ∙ c.in-Ok.is
 
-returns-2 : tie.Need-returns-in-Value
+returns-2 : tie.Need-returns-in-Ok
 returns-2 c =
     let k = c in
     let a = k.args in
-    let same = sym k.check_table.ensures ∙ c.in-Value.is in
+    let same = sym k.check_table.ensures ∙ c.in-Ok.is in
     fed-wrote (fed-as (table_taken a.table.now a.points.now k.if-table-gt-TABLE_MOST.false _ same) c.write_points.ensures)
 
-returns-3 : tie.Need-returns-in-Refused
+returns-3 : tie.Need-returns-in-Err
 returns-3 c =
     let k = c in
     let a = k.args in
-    let same = sym k.check_table.ensures ∙ c.in-Refused.is in
+    let same = sym k.check_table.ensures ∙ c.in-Err.is in
     fed-wrote (fed-as (table-refused a.table.now a.points.now k.if-table-gt-TABLE_MOST.false _ _ same) c.write_refused.ensures)
 
 pub write_report_spec : {M : Type 1} → statement M

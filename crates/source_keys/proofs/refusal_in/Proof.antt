@@ -1,28 +1,29 @@
 -- `source_keys::refusal_in` meets its contract. Assumes nothing.
 use borrow.Author.Rules.{rules}
 use Prim.Native.Nat.{ℕ}
-use mathlib.Core.Path.{◌≡◌, refl, sym, ap, ◌∙◌}
+use mathlib.Core.Path.{◌≡◌, refl}
 use mathlib.Core.List.{List}
 use native.Mathlib.Omega.{arith}
 use borrow.Author.Tests.{eq-eqb, ne_eqb}
 use Rattle.refusal.specs.declared.Reason.TheVariants.{Combination, MissingKey}
-use Rattle.refusal.specs.declared.Verdict.TheVariants.{Fine, Bad}
 use Rattle.source.specs.declared.DeliveryPoint.{DeliveryPoint}
 use Rattle.source.specs.Delivery.{forbidden_in, missing_in, refusal_in}
 use Rattle.source_keys.proofs.refusal_in.Statement.{statement}
 use Rattle.source_keys.proofs.refusal_in.Tie as tie
+use Rattle.std.specs.Prelude.{Err}
+use Rattle.refusal.specs.Verdict.{fine}
 
 module _ (p : DeliveryPoint) (rows : List ℕ) (rule field : ℕ) (ruled : rule ≡ forbidden_in p) (lacking : field ≡ missing_in p rows)
   where
-    forbidden-mix : (rule ≡ 0 → ⊥) → Bad (Combination rule 0) ≡ refusal_in p rows
+    forbidden-mix : (rule ≡ 0 → ⊥) → Err (Combination rule 0) ≡ refusal_in p rows
     unfolding refusal_in
     forbidden-mix some = rw ruled (simp (ne_eqb _ 0 (rw ruled at some)))
 
-    key-missing : rule ≡ 0 → (field ≡ 0 → ⊥) → Bad (MissingKey field 0) ≡ refusal_in p rows
+    key-missing : rule ≡ 0 → (field ≡ 0 → ⊥) → Err (MissingKey field 0) ≡ refusal_in p rows
     unfolding refusal_in
     key-missing none some = rw lacking (simp (eq-eqb _ 0 (rw ruled at none), ne_eqb _ 0 (rw lacking at some)))
 
-    none-refused : rule ≡ 0 → field ≡ 0 → Fine ≡ refusal_in p rows
+    none-refused : rule ≡ 0 → field ≡ 0 → fine ≡ refusal_in p rows
     unfolding refusal_in
     none-refused none nothing = simp (eq-eqb _ 0 (rw ruled at none), eq-eqb _ 0 (rw lacking at nothing))
 

@@ -1,16 +1,16 @@
 -- `ttwibonal::ttw_unspace_table` meets its contract. Assumes nothing.
 use borrow.Author.Rules.{rules}
 use mathlib.Core.Path.{ap}
-use Rattle.refusal.specs.declared.Answer.TheVariants.{Value}
 use Rattle.refusal.proofs.Outcomes.{said-as}
 use Rattle.call.proofs.Laws.{told-writing}
 use Rattle.ttwibonal.proofs.ttw_unspace_table.Statement.{statement}
 use Rattle.ttwibonal.proofs.ttw_unspace_table.Tie as tie
+use Rattle.std.specs.Prelude.{Ok}
 
 returns : tie.Need-returns
 returns c =
     let u = c in
-    told-writing c.packed_answer.ensures (said-as (ap Value u.unspace_table.ensures.0) u.unspace_table.ensures.1)
+    told-writing c.packed_answer.ensures (said-as (ap Ok u.unspace_table.ensures.0) u.unspace_table.ensures.1)
 
 pub ttw_unspace_table_spec : {M : Type 1} → statement M
 ttw_unspace_table_spec = tie.close (tie.spec (search rules) (search rules) (search rules) returns)

@@ -11,14 +11,19 @@ fn documents_in(folder: &str) -> Vec<PathBuf> {
     paths.filter(|path| path.is_file()).collect()
 }
 
-/// The documents, README first; but docs/PORT.md, which names what is no more.
+/// The documents, README first; but those that name what is no more, and a patch.
 pub fn documents() -> Vec<PathBuf> {
     let mut documents = vec![root().join("README.md")];
     for folder in ["docs", "docs/calls", "docs/landings"] {
         documents.extend(documents_in(folder));
     }
     documents.push(root().join("CHANGELOG.md"));
-    documents.retain(|path| !path.ends_with("docs/PORT.md"));
+    let left_out = [
+        "docs/PORT.md",
+        "docs/DESIGN-PASS.md",
+        "docs/design-left.patch",
+    ];
+    documents.retain(|path| !left_out.iter().any(|name| path.ends_with(name)));
     documents
 }
 

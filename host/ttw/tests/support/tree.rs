@@ -90,7 +90,7 @@ fn item_of(line: &str) -> Option<(Kind, &str)> {
         "fn" => Some((Kind::Function, name_of(rest))),
         "extern" => Some((Kind::Exported, name_of(rest.strip_prefix("\"C\" fn ")?))),
         "mod" => Some((Kind::Module, name_of(rest))),
-        "struct" | "enum" | "const" => Some((Kind::Other, name_of(rest))),
+        "struct" | "enum" | "const" | "type" => Some((Kind::Other, name_of(rest))),
         _ => None,
     }
 }

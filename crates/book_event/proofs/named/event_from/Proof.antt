@@ -10,7 +10,7 @@ use Rattle.book_event.proofs.named.event_from.Tie as tie
 returns : tie.Need-returns-then-place-eq0
 returns c =
     let a = c.args in
-    sym (from-none a.book.now a.points.now a.place c.if-place-eq0.true)
+    rw c.into.ensures (sym (from-none a.book.now a.points.now a.place c.if-place-eq0.true))
 
 event-at-requires : tie.Need-event_at-requires
 event-at-requires c κs =
@@ -27,4 +27,4 @@ returns-2 c =
     behind-event-at.event_at.ensures ∙ sym (from_some a.book.now a.points.now a.place behind-if1.if-place-eq0.false)
 
 pub event_from_spec : {M : Type 1} → statement M
-event_from_spec = tie.close (tie.spec returns event-at-requires (search rules) returns-2)
+event_from_spec = tie.close (tie.spec (search rules) returns event-at-requires (search rules) returns-2)

@@ -21,9 +21,10 @@ use Rattle.book_label.proofs.shown.item_from.Tie as tie
 returns : tie.Need-returns-then-at-eq0
 returns c =
     let a = c.args in
-    sym (shown-none true a.table.now a.book.now a.at a.out.now c.if-at-eq0.true)
+    rw c.into.ensures (sym (shown-none true a.table.now a.book.now a.at a.out.now c.if-at-eq0.true))
 
 -- once the room for the line is found
+
 module _ (c : tie.After-room_before-room) where
   abbrev written : tie.After-worded_line-line
   written = c.before.before.before
@@ -84,4 +85,4 @@ returns-2 c =
 pub item_from_spec : {M : Type 1} → statement M
 item_from_spec =
     tie.close
-    (tie.spec returns (λ c κs. c.requires.inside c.if-at-eq0.false) (λ c κs. search rules) (search rules) (λ c. sym (length-take-le _ _ c.worded_line-line.ensures.within)) (λ c κs. search rules) within (λ c. let h = within c in search rules) (search rules) (λ c κs. search rules) headed-item-requires (search rules) returns-2)
+    (tie.spec (search rules) returns (λ c κs. c.requires.inside c.if-at-eq0.false) (λ c κs. search rules) (search rules) (λ c. sym (length-take-le _ _ c.worded_line-line.ensures.within)) (λ c κs. search rules) within (λ c. let h = within c in search rules) (search rules) (λ c κs. search rules) headed-item-requires (search rules) returns-2)

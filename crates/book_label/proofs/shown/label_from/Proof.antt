@@ -10,9 +10,10 @@ use Rattle.book_label.proofs.shown.label_from.Tie as tie
 returns : tie.Need-returns-then-at-eq0
 returns c =
     let a = c.args in
-    sym (shown-none false a.table.now a.book.now a.at a.out.now c.if-at-eq0.true)
+    rw c.into.ensures (sym (shown-none false a.table.now a.book.now a.at a.out.now c.if-at-eq0.true))
 
 -- where records start
+
 module _ (e : tie.Else-at-eq0) where
   abbrev start : tie.Start
   start = e.before.before.before.before
@@ -35,7 +36,7 @@ returns-2 c =
 pub label_from_spec : {M : Type 1} → statement M
 label_from_spec =
     tie.close
-    (tie.spec returns
+    (tie.spec (search rules) returns
     (λ c. let h = inside c in let k = (start c).well_formed in search rules)
     (λ c. let h = inside c in search rules)
     (λ c. let h = inside c in search rules)

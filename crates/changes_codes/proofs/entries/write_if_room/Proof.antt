@@ -6,13 +6,13 @@ use mathlib.Core.List.{List}
 use native.Mathlib.Omega.{arith}
 use lib.ListN.{length}
 use Rattle.refusal.specs.declared.Reason.TheVariants.{Room}
-use Rattle.refusal.specs.declared.Answer.TheVariants.{Refused}
 use Rattle.refusal.proofs.Outcomes.{said-as}
 use Rattle.tally_bytes.proofs.Entries.{fits, falls-short}
 use Rattle.changes_codes.specs.Codes.{pair_bytes}
 use Rattle.changes_codes.proofs.Pairs.{pairs-long}
 use Rattle.changes_codes.proofs.entries.write_if_room.Statement.{statement}
 use Rattle.changes_codes.proofs.entries.write_if_room.Tie as tie
+use Rattle.refusal.specs.Answer.{refusal}
 
 module _ (s : tie.Start) where
   abbrev bytes : List ℕ
@@ -25,8 +25,9 @@ returns : tie.Need-returns-then-out-needed
 returns c =
     let s = c in
     let out = s.args.out.now in
-    said-as (ap (λ (n : ℕ). Refused 0 (Room n)) (sym (needed s.before.before.before.before))) refl
-    ∙ sym (falls-short (length s.args.codes.now) (bytes s.before.before.before.before) out (omega (arith, needed s.before.before.before.before, c.if-out-needed.true)))
+    rw c.into.ensures
+    (said-as (ap (λ (n : ℕ). refusal 0 (Room n)) (sym (needed s.before.before.before.before.before))) refl
+    ∙ sym (falls-short (length s.args.codes.now) (bytes s.before.before.before.before.before) out (omega (arith, needed s.before.before.before.before.before, c.if-out-needed.true))))
 
 write-entries-requires : tie.Need-write_entries-requires
 write-entries-requires c κs =
@@ -44,4 +45,4 @@ returns-2 c =
 
 pub write_if_room_spec : {M : Type 1} → statement M
 write_if_room_spec =
-    tie.close (tie.spec (search rules) returns write-entries-requires (search rules) returns-2)
+    tie.close (tie.spec (search rules) (search rules) returns write-entries-requires (search rules) returns-2)

@@ -8,7 +8,7 @@ use Rattle.changes_label.proofs.inner.label_at.Tie as tie
 returns : tie.Need-returns-then-place-eq0
 returns c =
     let a = c.args in
-    sym (no_place a.table.now a.points.now a.place a.out.now c.if-place-eq0.true)
+    rw c.into.ensures (sym (no_place a.table.now a.points.now a.place a.out.now c.if-place-eq0.true))
 
 label-there-requires : tie.Need-label_there-requires
 label-there-requires c κs =
@@ -24,4 +24,4 @@ returns-2 c =
     ∙ sym (some-place a.table.now a.points.now a.place a.out.now l.if-place-eq0.false _ refl)
 
 pub label_at_spec : {M : Type 1} → statement M
-label_at_spec = tie.close (tie.spec returns label-there-requires (search rules) returns-2)
+label_at_spec = tie.close (tie.spec (search rules) returns label-there-requires (search rules) returns-2)

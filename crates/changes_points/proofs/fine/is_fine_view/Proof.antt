@@ -3,7 +3,7 @@ use borrow.Author.Rules.{rules}
 use Rattle.changes_points.proofs.Laws.{view-fine}
 use Rattle.field.proofs.Tests.{and_left, and_right}
 use lib.Dec.{eqb}
-use borrow.Author.Tests.{not-false, eqb-true}
+use borrow.Author.Tests.{eqb-true}
 use mathlib.Core.Path.{sym, ◌∙◌}
 use mathlib.Core.Bool.{false≢true}
 use Rattle.changes_points.proofs.fine.is_fine_view.Statement.{statement}

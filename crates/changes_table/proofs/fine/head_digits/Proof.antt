@@ -1,6 +1,6 @@
 -- `changes_table::fine::head_digits` meets its contract. Assumes nothing.
 use borrow.Author.Rules.{rules}
-use mathlib.Core.Path.{◌≡◌, refl, sym, ap, ◌∙◌}
+use mathlib.Core.Path.{refl, sym, ◌∙◌}
 use Rattle.field_test.proofs.Laws.{digits-where}
 use Rattle.changes_table.proofs.fine.head_digits.Statement.{statement}
 use Rattle.changes_table.proofs.fine.head_digits.Tie as tie

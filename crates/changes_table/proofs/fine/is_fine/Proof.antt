@@ -1,7 +1,6 @@
 -- `changes_table::fine::is_fine` meets its contract. Assumes nothing.
 use borrow.Author.Rules.{rules}
 use Rattle.changes_table.proofs.Laws.{table-fine}
-use borrow.Author.Tests.{not-false}
 use mathlib.Core.Bool.{false≢true}
 use Rattle.changes_table.proofs.fine.is_fine.Statement.{statement}
 use Rattle.changes_table.proofs.fine.is_fine.Tie as tie

@@ -1,6 +1,6 @@
 -- `changes_table::fine::is_fine_rest` meets its contract. Assumes nothing.
 use borrow.Author.Rules.{rules}
-use mathlib.Core.Path.{◌≡◌, refl, sym, ap, ◌∙◌}
+use mathlib.Core.Path.{sym, ◌∙◌}
 use mathlib.Core.Bool.{false≢true}
 use Rattle.changes_table.proofs.fine.is_fine_rest.Statement.{statement}
 use Rattle.changes_table.proofs.fine.is_fine_rest.Tie as tie

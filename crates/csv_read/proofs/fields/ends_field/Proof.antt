@@ -2,7 +2,6 @@
 use borrow.Author.Rules.{rules}
 use mathlib.Core.Path.{sym, ap, ◌∙◌}
 use lib.Dec.{eqb}
-use lib.ListN.{get_or}
 use Rattle.csv_read.proofs.Cut.{at_return, at_other}
 use Rattle.csv_read.proofs.fields.ends_field.Statement.{statement}
 use Rattle.csv_read.proofs.fields.ends_field.Tie as tie

@@ -1,6 +1,5 @@
 -- `file::follow::is_follower` meets its contract. Assumes nothing.
 use borrow.Author.Rules.{rules}
-use mathlib.Core.Path.{◌≡◌, refl, sym, ap, ◌∙◌}
 use Rattle.file.specs.Formats.{follows}
 use Rattle.file.proofs.follow.is_follower.Statement.{statement}
 use Rattle.file.proofs.follow.is_follower.Tie as tie

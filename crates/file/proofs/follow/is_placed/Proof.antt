@@ -1,6 +1,6 @@
 -- `file::follow::is_placed` meets its contract. Assumes nothing.
 use borrow.Author.Rules.{rules}
-use mathlib.Core.Path.{◌≡◌, refl, sym, ap, ◌∙◌}
+use mathlib.Core.Path.{refl}
 use Rattle.file.proofs.Owners.{placed_by}
 use Rattle.file.proofs.follow.is_placed.Statement.{statement}
 use Rattle.file.proofs.follow.is_placed.Tie as tie

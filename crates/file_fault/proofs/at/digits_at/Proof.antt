@@ -1,6 +1,5 @@
 -- `file_fault::at::digits_at` meets its contract. Assumes nothing.
 use borrow.Author.Rules.{rules}
-use mathlib.Core.Path.{◌≡◌, refl, sym, ap, ◌∙◌}
 use Rattle.file_fault.proofs.Laws.{in-record, digits-bound}
 use Rattle.file_fault.proofs.at.digits_at.Statement.{statement}
 use Rattle.file_fault.proofs.at.digits_at.Tie as tie

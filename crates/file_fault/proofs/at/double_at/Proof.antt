@@ -1,6 +1,5 @@
 -- `file_fault::at::double_at` meets its contract. Assumes nothing.
 use borrow.Author.Rules.{rules}
-use mathlib.Core.Path.{◌≡◌, refl, sym, ap, ◌∙◌}
 use Rattle.file_fault.specs.Table.{double_fault}
 use Rattle.file_fault.proofs.at.double_at.Statement.{statement}
 use Rattle.file_fault.proofs.at.double_at.Tie as tie

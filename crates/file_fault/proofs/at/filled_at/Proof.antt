@@ -1,6 +1,5 @@
 -- `file_fault::at::filled_at` meets its contract. Assumes nothing.
 use borrow.Author.Rules.{rules}
-use mathlib.Core.Path.{◌≡◌, refl, sym, ap, ◌∙◌}
 use Rattle.file_fault.proofs.Laws.{in-record}
 use Rattle.field.proofs.Texts.{filled-bound}
 use Rattle.file_fault.proofs.at.filled_at.Statement.{statement}

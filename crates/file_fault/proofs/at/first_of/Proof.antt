@@ -1,6 +1,6 @@
 -- `file_fault::at::first_of` meets its contract. Assumes nothing.
 use borrow.Author.Rules.{rules}
-use mathlib.Core.Path.{◌≡◌, refl, sym, ap, ◌∙◌}
+use mathlib.Core.Path.{sym}
 use Rattle.file_fault.proofs.Laws.{first_some}
 use Rattle.file_fault.proofs.at.first_of.Statement.{statement}
 use Rattle.file_fault.proofs.at.first_of.Tie as tie

@@ -1,6 +1,5 @@
 -- `file_fault::at::inward_at` meets its contract. Assumes nothing.
 use borrow.Author.Rules.{rules}
-use mathlib.Core.Path.{◌≡◌, refl, sym, ap, ◌∙◌}
 use Rattle.file_fault.proofs.Laws.{in-record}
 use Rattle.field_outward.proofs.Codes.{inward-bound}
 use Rattle.file_fault.proofs.at.inward_at.Statement.{statement}

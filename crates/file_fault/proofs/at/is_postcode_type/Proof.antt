@@ -1,5 +1,4 @@
 -- `file_fault::at::is_postcode_type` meets its contract. Assumes nothing.
-use mathlib.Core.Path.{◌≡◌, refl, sym, ap, ◌∙◌}
 use lib.Dec.{eqb}
 use Rattle.field.proofs.Tests.{or-false}
 use Rattle.file_fault.proofs.at.is_postcode_type.Statement.{statement}

@@ -1,6 +1,5 @@
 -- `file_fault::at::key_at` meets its contract. Assumes nothing.
 use borrow.Author.Rules.{rules}
-use mathlib.Core.Path.{◌≡◌, refl, sym, ap, ◌∙◌}
 use native.Mathlib.Omega.{arith}
 use Rattle.file_fault.specs.Fields.{key_fault}
 use Rattle.file_fault.proofs.Laws.{in-record, digits-bound}

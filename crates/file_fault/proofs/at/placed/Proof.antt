@@ -1,6 +1,6 @@
 -- `file_fault::at::placed` meets its contract. Assumes nothing.
 use borrow.Author.Rules.{rules}
-use mathlib.Core.Path.{◌≡◌, refl, sym, ap, ◌∙◌}
+use mathlib.Core.Path.{sym}
 use Rattle.file_fault.proofs.Laws.{place-some}
 use Rattle.file_fault.proofs.at.placed.Statement.{statement}
 use Rattle.file_fault.proofs.at.placed.Tie as tie

@@ -1,6 +1,5 @@
 -- `file_fault::at::postcode_type_at` meets its contract. Assumes nothing.
 use borrow.Author.Rules.{rules}
-use mathlib.Core.Path.{◌≡◌, refl, sym, ap, ◌∙◌}
 use mathlib.Core.List.{[], ◌∷◌}
 use Rattle.file_fault.proofs.Laws.{one_byte}
 use Rattle.file_fault.proofs.at.postcode_type_at.Statement.{statement}

@@ -1,6 +1,5 @@
 -- `file_fault::at::text_at` meets its contract. Assumes nothing.
 use borrow.Author.Rules.{rules}
-use mathlib.Core.Path.{◌≡◌, refl, sym, ap, ◌∙◌}
 use Rattle.file_fault.proofs.Laws.{in-record}
 use Rattle.field.proofs.Texts.{text-bound}
 use Rattle.file_fault.proofs.at.text_at.Statement.{statement}

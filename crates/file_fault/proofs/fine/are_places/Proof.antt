@@ -1,6 +1,6 @@
 -- `file_fault::fine::are_places` meets its contract. Assumes nothing.
 use borrow.Author.Rules.{rules}
-use mathlib.Core.Path.{◌≡◌, refl, sym, ap, ◌∙◌}
+use mathlib.Core.Path.{sym, ◌∙◌}
 use Rattle.field.proofs.Tests.{and_left, and_right}
 use Rattle.file_fault.proofs.AtOnce.{three-texts}
 use Rattle.file_fault.proofs.fine.are_places.Statement.{statement}

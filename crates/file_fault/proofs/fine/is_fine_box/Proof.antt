@@ -3,7 +3,6 @@ use borrow.Author.Rules.{rules}
 use Rattle.file_fault.proofs.AtOnce.{begun-or-known, inside}
 use Prim.Native.Nat.{◌+◌}
 use native.Mathlib.Omega.{arith}
-use borrow.Author.Tests.{not-false}
 use Rattle.field.specs.Text.{text_byte}
 use mathlib.Core.Path.{sym, ◌∙◌}
 use mathlib.Core.Bool.{false≢true}

@@ -1,7 +1,7 @@
 -- `file_fault::fine::is_fine_department` meets its contract. Assumes nothing.
 use borrow.Author.Rules.{rules}
 use Rattle.file_fault.proofs.AtOnce.{begun-or-known}
-use mathlib.Core.Path.{sym, ◌∙◌}
+use mathlib.Core.Path.{sym}
 use Rattle.file_fault.proofs.fine.is_fine_department.Statement.{statement}
 use Rattle.file_fault.proofs.fine.is_fine_department.Tie as tie
 

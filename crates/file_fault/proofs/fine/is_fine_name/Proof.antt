@@ -3,7 +3,6 @@ use borrow.Author.Rules.{rules}
 use Rattle.field_test.proofs.Laws.{blank-text}
 use mathlib.Core.Bool.{false≢true}
 use Rattle.file_fault.proofs.AtOnce.{begun-name}
-use borrow.Author.Tests.{not-true}
 use mathlib.Core.Path.{sym, ◌∙◌}
 use Rattle.file_fault.proofs.fine.is_fine_name.Statement.{statement}
 use Rattle.file_fault.proofs.fine.is_fine_name.Tie as tie

@@ -1,6 +1,6 @@
 -- `file_fault::fine::is_fine_outward` meets its contract. Assumes nothing.
 use borrow.Author.Rules.{rules}
-use mathlib.Core.Path.{◌≡◌, refl, sym, ap, ◌∙◌}
+use mathlib.Core.Path.{sym, ap, ◌∙◌}
 use Prim.Native.Nat.{◌+◌}
 use borrow.Author.Tests.{eqb-true}
 use Rattle.field.specs.Text.{part}

@@ -4,7 +4,6 @@ use Prim.Native.Nat.{◌-◌}
 use mathlib.Core.Path.{refl}
 use mathlib.Core.Bool.{false≢true}
 use native.Mathlib.Omega.{arith}
-use borrow.Author.Tests.{not-false}
 use lib.Dec.{lit≤}
 use Rattle.file.specs.Formats.{table_format}
 use Rattle.file.proofs.Laws.{judged-fine}

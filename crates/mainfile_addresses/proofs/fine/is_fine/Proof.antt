@@ -1,7 +1,6 @@
 -- `mainfile_addresses::fine::is_fine` meets its contract. Assumes nothing.
 use borrow.Author.Rules.{rules}
 use mathlib.Core.Bool.{false≢true}
-use borrow.Author.Tests.{not-false}
 use Rattle.mainfile_addresses.proofs.Laws.{address-fine, good-outward}
 use Rattle.mainfile_addresses.proofs.fine.is_fine.Statement.{statement}
 use Rattle.mainfile_addresses.proofs.fine.is_fine.Tie as tie

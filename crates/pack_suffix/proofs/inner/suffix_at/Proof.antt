@@ -2,16 +2,16 @@
 use borrow.Author.Rules.{rules}
 use mathlib.Core.Path.{◌≡◌, sym, ap, ◌∙◌}
 use mathlib.Core.Bool.{true, ◌&&◌}
-use borrow.Author.Tests.{not-true, not-false, leb-true}
+use borrow.Author.Tests.{leb-true}
 use lib.Dec.{leb}
 use Rattle.field.proofs.Tests.{and_left, and_right}
-use Rattle.refusal.specs.declared.Answer.TheVariants.{Value}
 use Rattle.pack.specs.Names.{has_suffix}
 use Rattle.pack.specs.Opening.{edition, point_count}
 use Rattle.pack.specs.Points.{is_point}
 use Rattle.pack.proofs.Suffixes.{no-point, no_suffix, its-suffix}
 use Rattle.pack_suffix.proofs.inner.suffix_at.Statement.{statement}
 use Rattle.pack_suffix.proofs.inner.suffix_at.Tie as tie
+use Rattle.std.specs.Prelude.{Ok}
 
 -- whether the point is there, as the code asks and as is meant
 module _ (s : tie.Start) where
@@ -64,7 +64,7 @@ returns-3 c =
     let at-edition = c in
     let at-point = at-edition in
     let s = start at-point.before.before.before.before in
-    ap Value c.suffix_number.ensures
+    ap Ok c.suffix_number.ensures
     ∙ sym
     (its-suffix s.args.pack.now s.args.k (there at-point.before.before.before.before)
     (sym (asked at-edition.before.before) ∙ c.if-not-has_suffix.false))

@@ -1,12 +1,12 @@
 -- `report_write::blocks::fresh_label` meets its contract. Assumes nothing.
 use borrow.Author.Rules.{rules}
-use mathlib.Core.Path.{◌≡◌, sym, subst}
-use Rattle.refusal.specs.declared.Answer.{Answer}
+use mathlib.Core.Path.{sym, subst}
 use Rattle.refusal.specs.Outcome.{Outcome}
 use Rattle.report_write.specs.Fresh.{TailZero}
 use Rattle.report_write.proofs.Labels.{fresh-zero}
 use Rattle.report_write.proofs.blocks.fresh_label.Statement.{statement}
 use Rattle.report_write.proofs.blocks.fresh_label.Tie as tie
+use Rattle.refusal.specs.Answer.{Answer}
 
 label-at-requires : tie.Need-label_at-answer-requires
 label-at-requires c κs = c.requires

@@ -5,7 +5,6 @@ use mathlib.Core.Path.{◌≡◌, sym, ap, ◌∙◌}
 use mathlib.Core.List.{List}
 use native.Mathlib.Omega.{arith}
 use lib.ListN.{length, get_or}
-use Rattle.shelf.specs.declared.Shelf.{Shelf}
 use Rattle.shelf.specs.Shelf.{ref_at, last_of}
 use Rattle.shelf.specs.Search.{upper_of, last_found_in, last_found}
 use Rattle.shelf.proofs.Search.{upper-to, found_none, found_here, found-other, found_as}

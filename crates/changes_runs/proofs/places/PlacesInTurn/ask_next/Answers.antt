@@ -1,0 +1,36 @@
+use Rattle.std.proofs.Common.{refl, sym, ap, ◌∙◌, length, arith}
+use Rattle.refusal.proofs.Outcomes.{answer-of, memory-of}
+use Rattle.changes_label.proofs.Laws.{wanted-place, place-some, place-fits}
+use Rattle.changes_runs.proofs.Laws.{next_place, place-bound}
+use Rattle.changes_runs.proofs.places.PlacesInTurn.ask_next.Goals as goal
+
+pub label_at-requires : goal.label_at-requires
+label_at-requires c =
+    let s = c.args.self.now in
+    rw c.requires.1.1 (wanted-place s.table.now s.points.now s.code.now c.requires.0 c.requires.1.0)
+
+pub place_behind-self-requires : goal.place_behind-self-requires
+place_behind-self-requires c =
+    let s = c.args.self.now in
+    let v = wanted-place s.table.now s.points.now s.code.now c.requires.0 c.requires.1.0 in
+    rw c.requires.1.1 (place-bound s.table.now s.points.now _ v)
+
+pub returns-clause-fits : goal.returns-clause-fits
+returns-clause-fits c =
+    let e = c.label_at.ensures in
+    omega (
+      arith,
+      place-fits _ _ _ _ _ (sym (answer-of e) ∙ c.in_ok-bytes.was),
+      ap length (memory-of e),
+      c.label_at.auto.out,
+    )
+
+pub returns-clause-goes_on : goal.returns-clause-goes_on
+returns-clause-goes_on c k h =
+    let s = c.args.self.now in
+    let there = place-some _ _ _ _ _ (sym (answer-of c.label_at.ensures) ∙ c.in_ok-bytes.was) in
+    let next = next_place s.code.now s.points.now k (rw h.1 at there) in
+    record {
+      next = (h.0, rw h.1 at c.place_behind-self.ensures ∙ sym next);
+      same = refl;
+    }

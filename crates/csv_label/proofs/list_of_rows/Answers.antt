@@ -1,0 +1,20 @@
+use Rattle.std.proofs.Common.{true}
+use mathlib.Core.Path.{sym, ◌∙◌}
+use Rattle.refusal.proofs.Passed.{afterwards-passed}
+use Rattle.csv_paf.specs.Ask.{csv_list}
+use Rattle.csv_label.proofs.ShownLaws.{rows-shown}
+use Rattle.csv_label.proofs.list_of_rows.Goals as goal
+
+pub returns-in_err-rows : goal.returns-in_err-rows
+unfolding csv_list
+returns-in_err-rows c =
+    afterwards-passed _ _ c.check_csv.ensures c.in_err-rows.was c.from_residual.ensures.1
+
+pub walk-requires : goal.walk-requires
+walk-requires c = sym c.check_csv.ensures ∙ c.in_ok-rows.was
+
+pub returns : goal.returns
+returns c =
+    c.walk.ensures
+    ∙ rows-shown c.args.csv.now (sym c.check_csv.ensures ∙ c.in_ok-rows.was) true c.args.first c.args.count
+    c.args.out.now

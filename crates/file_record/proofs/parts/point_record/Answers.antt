@@ -1,0 +1,6 @@
+use Rattle.std.proofs.Common.{arith, sym}
+use Rattle.file_record.proofs.Records.{record-none}
+use Rattle.file_record.proofs.parts.point_record.Goals as goal
+
+pub returns-else-i-file : goal.returns-else-i-file
+returns-else-i-file c = sym (record-none 168 c.args.file.now c.args.i (omega arith))

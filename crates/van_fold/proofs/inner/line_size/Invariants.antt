@@ -1,0 +1,11 @@
+use Rattle.std.proofs.Common.{length}
+use Rattle.van.specs.Walk.{line_rows}
+use Rattle.van_fold.proofs.Counts.{Counted}
+use Rattle.van_fold.proofs.inner.line_size.Given as goal
+
+-- all rows before those of what is left are counted
+abbrev pub invariant-loop-rest : goal.invariant-loop-rest
+invariant-loop-rest l = Counted (line_rows l.line) (line_rows l.rest) l.rows l.bytes
+
+abbrev pub decreases-loop-rest : goal.decreases-loop-rest
+decreases-loop-rest l = length l.rest
