@@ -76,7 +76,7 @@ module _ {a : Asking} {first count : ℕ} {out : List ℕ} {done at : ℕ} {here
       sym (g.on ∙ rw (none, n, m, take-append-drop at here))
 
   -- the next label is asked in what is left: it comes to `r`, and leaves `y`
-  module _ (fit : Fitting a) (h : done < count) {r : Answer} {y : List ℕ} (asked : said r y ≡ asked_behind at here (a (first + done))) where
+  module _ (h : done < count) {r : Answer} {y : List ℕ} (asked : said r y ≡ asked_behind at here (a (first + done))) where
     abbrev written : List ℕ
     written = (a (first + done) (drop at here)).memory
 
@@ -99,8 +99,8 @@ module _ {a : Asking} {first count : ℕ} {out : List ℕ} {done at : ℕ} {here
       value = sym (answer-of asked) ∙ e
 
       -- what was written stays within the buffer
-      pub going-fits : at + b ≤ length y
-      going-fits =
+      pub going-fits : Fitting a → at + b ≤ length y
+      going-fits fit =
           omega (
             arith,
             ap length (memory-of asked),
@@ -109,8 +109,8 @@ module _ {a : Asking} {first count : ℕ} {out : List ℕ} {done at : ℕ} {here
             fit (first + done) (drop at here) b value,
           )
 
-      pub going_step : Going a first count out (done + 1) (at + b) y
-      going_step =
+      pub going_step : at + b ≤ length y → Going a first count out (done + 1) (at + b) y
+      going_step fits =
           let took : take (at + b) (take at here ++ written) ≡ take at here ++ take b written =
           ap (λ n. take (n + b) (take at here ++ written)) (sym front) ∙ take-append-add (take at here) written b in
           let dropped : drop (at + b) (take at here ++ written) ≡ drop b written =
@@ -118,7 +118,7 @@ module _ {a : Asking} {first count : ℕ} {out : List ℕ} {done at : ℕ} {here
           let n : first + (done + 1) ≡ suc (first + done) = omega arith in
           let rest = run_from a (suc (first + done)) (count - (done + 1)) (drop b written) in
           record {
-            within = going-fits;
+            within = fits;
             on =
                 g.on
                 ∙ rw (memory-of asked, left, value, took, dropped, n)
