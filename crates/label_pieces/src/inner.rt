@@ -1,19 +1,28 @@
 // Pieces of a line, written at a place of a lent buffer. All else stays as it was.
 ghost use Rattle.std.specs.Prelude.{[], ◌∷◌, ◌+◌, ◌/◌, ◌%◌, ◌≤◌, length};
 ghost use Rattle.label.specs.Lines.{number_text};
-ghost use Rattle.label.specs.Put.{Put, tail_text, tail_in, front_text, lead_in};
+ghost use Rattle.label.specs.Put.{Wrote, Put, tail_text, tail_in, front_text, lead_in};
 ghost use Rattle.label.specs.Spans.{text_in2};
 
 use label::{Front, Span, text_of};
 use label_length::inner::front_len;
 
+// A text at the front of what is lent. By the library's `copy_from_slice` C would have to bring `memmove`.
+fn put_bytes(t: &[u8], out: &mut [u8]) -> usize
+    requires { length t.now ≤ length out.old }
+    ensures { Wrote t.now out.old result out.new }
+{
+    for (i, &b) in t.iter().enumerate() {
+        out[i] = b;
+    }
+    t.len()
+}
+
 pub fn bytes_at(t: &[u8], at: usize, out: &mut [u8]) -> usize
     requires { at + length t.now ≤ length out.old }
     ensures { Put t.now out.old at result out.new }
 {
-    let end = at + t.len();
-    out[at..end].copy_from_slice(t);
-    end
+    at + put_bytes(t, &mut out[at..])
 }
 
 pub fn byte_at(b: u8, at: usize, out: &mut [u8]) -> usize

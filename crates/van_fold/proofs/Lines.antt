@@ -2,10 +2,10 @@
 -- Assumes nothing.
 use Prim.Native.Nat.{ℕ, suc, ◌+◌, ◌≤◌, ◌<◌}
 use mathlib.Core.Path.{◌≡◌, refl, ap, ◌∙◌}
-use mathlib.Core.Bool.{cond}
+use mathlib.Core.Bool.{Bool, true, false, cond}
 use mathlib.Core.List.{List}
 use native.Mathlib.Omega.{arith}
-use borrow.Author.Tests.{eq-eqb, ne_eqb}
+use borrow.Author.Tests.{eqb-true, eqb-false, eq-eqb, ne_eqb}
 use lib.Dec.{eqb}
 use lib.ListN.{length, get_or}
 use Rattle.std.specs.Prelude.{Option, Some, None, MatchOption}
@@ -40,3 +40,15 @@ module _ (text : List ℕ) where
       → MatchOption r (line_length text ≡ length text) (λ i. (i < length text) × (line_length text ≡ i))
   looked None none = ends-at (length text) (omega arith) none (λ l. absurd (omega arith))
   looked (Some i) at = (at.0, ends-at i (omega (arith, at.0)) at.2 (λ l. at.1))
+
+  -- the byte at place i is the first line end, or one byte more is none
+  pub ends_here : (i : ℕ) → NoneBefore i → i < length text → get_or text i 0 ≡ 10 → line_length text ≡ i
+  ends_here i none h e = (looked (Some i) (h, e, none)).1
+
+  pub none_next : (i : ℕ) → NoneBefore i → (get_or text i 0 ≡ 10 → ⊥) → NoneBefore (i + 1)
+  none_next i none e j h =
+      by-place (eqb j i) refl
+    where
+      by-place : (t : Bool) → eqb j i ≡ t → get_or text j 0 ≡ 10 → ⊥
+      by-place true q = λ z. e (let same : j ≡ i = eqb-true j i q in rw same at z)
+      by-place false q = none j (let other : j ≡ i → ⊥ = eqb-false j i q in omega (arith, h, other))

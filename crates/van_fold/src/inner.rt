@@ -82,12 +82,19 @@ fn line_at(line: &[u8], place: usize, out: &mut [u8]) -> usize
     row_at(rest, i, out)
 }
 
-// Where the first line of any bytes ends, if it has an end.
+// Where the first line of any bytes ends, if it has an end. The library's `position` counts beside the byte that it looks at,
+// which took up to twice the time.
+#[tactic(auto, using(crate::proofs::Lines::ends_here, crate::proofs::Lines::none_next))]
 fn line_end(text: &[u8]) -> Option<usize>
     ensures { MatchOption result (line_length text.now ≡ length text.now)
         (λ i. (i < length text.now) × (line_length text.now ≡ i)) }
 {
-    text.iter().position(|&b| b == 10)
+    for i in 0..text.len() {
+        if text[i] == 10 {
+            return Some(i);
+        }
+    }
+    None
 }
 
 // The first line of any bytes, and what is left behind its end.

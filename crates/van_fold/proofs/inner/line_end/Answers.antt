@@ -1,10 +1,7 @@
-use Rattle.std.proofs.Common.{rules}
-use Rattle.std.proofs.iter.runs.Made.{chains}
-use Rattle.van_fold.proofs.Lines.{Looked, looked}
+use Rattle.std.proofs.Common.{arith}
+use Rattle.std.specs.Prelude.{None}
+use Rattle.van_fold.proofs.Lines.{looked}
 use Rattle.van_fold.proofs.inner.line_end.Goals as goal
 
--- src/inner.rt:86:1
 pub returns : goal.returns
-returns c =
-    let r : Looked c.args.text.now c.position.result = search (rules, chains) in
-    looked c.args.text.now c.position.result r
+returns c = looked c.args.text.now None (λ j h. c.loop-i.invariant j (omega (arith, h)))
