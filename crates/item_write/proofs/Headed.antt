@@ -49,9 +49,9 @@ module _ (heading : List ℕ) (why : Reason) (out : List ℕ) where
   refusal-room e d = rw d (simp (eq-eqb (number why) 10 e))
 
   module _ (fits : number why ≡ 10 → ⊥) where
-    pub refusal-none : number why ≡ 7 → said (refusal 0 NoSuchNumber) out ≡ over_refusal heading why out
+    pub refusal_none : number why ≡ 7 → said (refusal 0 NoSuchNumber) out ≡ over_refusal heading why out
     unfolding over_refusal
-    refusal-none e = simp (ne_eqb (number why) 10 fits, eq-eqb (number why) 7 e)
+    refusal_none e = simp (ne_eqb (number why) 10 fits, eq-eqb (number why) 7 e)
 
     pub refusal-line : (number why ≡ 7 → ⊥) → room_outcome (heading ++ refused_line why) out ≡ over_refusal heading why out
     unfolding over_refusal
@@ -181,7 +181,7 @@ module _ (heading out : List ℕ) where
   none_over e =
       ap (λ (o : Outcome Answer). headed heading o.answer (take cut out ++ o.memory)) e
       ∙ (ap (over_refusal heading NoSuchNumber) (take-append-drop cut out)
-      ∙ sym (refusal-none heading NoSuchNumber out never refl))
+      ∙ sym (refusal_none heading NoSuchNumber out never refl))
     where
       never : number NoSuchNumber ≡ 10 → ⊥
       never n = omega (arith, n)

@@ -61,6 +61,7 @@ fn over_label(heading: &[u8], label: usize, out: &mut [u8]) -> Answer
 }
 
 // A label has been refused.
+#[tactic(auto, using(crate::proofs::Headed::refusal_none))]
 fn over_refusal(heading: &[u8], reason: Reason, out: &mut [u8]) -> Answer
     requires { (length heading.now ≤ 80) × (number reason ≡ 10 → detail reason ≤ 4_294_967_295) }
     ensures { said result out.new ≡ over_refusal heading.now reason out.old }

@@ -1,17 +1,12 @@
 use mathlib.Core.Path.{◌∙◌}
 use native.Mathlib.Omega.{arith}
-use Rattle.item_write.proofs.Headed.{refusal-room, refusal-none, refusal-line}
+use Rattle.item_write.proofs.Headed.{refusal-room, refusal-line}
 use Rattle.item_write.proofs.inner.over_refusal.Goals as goal
 
 pub returns-then-number-eq10 : goal.returns-then-number-eq10
 returns-then-number-eq10 c =
     rw c.into.ensures
     (refusal-room c.args.heading.now c.args.reason c.args.out.now (omega arith) c.detail_of.ensures)
-
-pub returns-then-number-eq7 : goal.returns-then-number-eq7
-returns-then-number-eq7 c =
-    rw c.into-then-number-eq7.ensures
-    (refusal-none c.args.heading.now c.args.reason c.args.out.now (λ z. omega arith) (omega arith))
 
 pub both_texts-requires : goal.both_texts-requires
 both_texts-requires c =
